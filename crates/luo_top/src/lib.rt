@@ -1,0 +1,4 @@
+//! The top call, which does all that the program does.
+#![tactic(auto)]
+
+mod first;
