@@ -1,5 +1,5 @@
 -- What it is to be an element of a list.
-use Rattle.std.proofs.Common.{◌≡◌, List, [], ◌∷◌, ◌++◌, ◌⊎◌, inl, inr, ⊎_elim, refl, sym, ap, map}
+use Rattle.std.proofs.Common.{◌≡◌, ℕ, zero, suc, ◌<◌, List, [], ◌∷◌, ◌++◌, ◌⊎◌, inl, inr, ⊎_elim, refl, sym, ap, map, length, get_or, arith}
 use Rattle.luo_finite.specs.Listing.{In}
 
 -- the elements of two lists, one behind the other, are those of either
@@ -58,3 +58,9 @@ pub In-with : {A : Type 0} (x z : A) (before after : List A) → In z (before ++
 In-with x z [] after h = inr h
 In-with x z (y ∷ before) after (inl e) = inl e
 In-with x z (y ∷ before) after (inr h) = inr (In-with x z before after h)
+
+-- what stands at a place of a list is an element of it
+pub In-at : {A : Type 0} (xs : List A) (i : ℕ) (d : A) → i < length xs → In (get_or xs i d) xs
+In-at [] i d h = absurd (omega arith)
+In-at (x ∷ xs) zero d h = inl refl
+In-at (x ∷ xs) (suc i) d h = inr (In-at xs i d (omega arith))

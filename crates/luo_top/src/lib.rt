@@ -2,3 +2,11 @@
 #![tactic(auto)]
 
 mod first;
+mod report;
+mod status;
+mod top;
+mod words;
+mod work;
+
+pub use status::{Status, code};
+pub use top::luo;
