@@ -2,3 +2,4 @@ pub mod Bytes
 pub mod Spellings
 pub mod Tokens
 pub mod Lexemes
+pub mod Fronts

@@ -1,0 +1,4 @@
+pub mod Fronts
+pub mod Shapes
+pub mod Exclusions
+pub mod Longest
