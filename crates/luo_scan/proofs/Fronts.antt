@@ -41,5 +41,5 @@ run_whole P n xs e a =
 pub starts_front : (text needle : List ℕ) → true ≡ bytes_eq needle (take (length needle) text) → (after : List ℕ) × (text ≡ needle ++ after)
 starts_front text needle e =
     let d : Decides (bytes_eq needle (take (length needle) text)) (needle ≡ take (length needle) text) = bytes_eq-Decides _ _ in
-    let f : needle ≡ take (length needle) text = subst (λ b. Decides b (needle ≡ take (length needle) text)) (sym e) d in
+    let f : needle ≡ take (length needle) text = d.0 (sym e) in
     (drop (length needle) text, sym (take-append-drop (length needle) text) ∙ ap (λ z. z ++ drop (length needle) text) (sym f))

@@ -80,14 +80,14 @@ abbrev pub IsMarkByte : ℕ → Type 0
 IsMarkByte b = ((38 ≤ b) × (b ≤ 47)) ⊎ ((58 ≤ b) × (b ≤ 64)) ⊎ (b ≡ 95) ⊎ (b ≡ 124)
 
 -- how many bytes of a mark stand behind this one
-abbrev more_of : ℕ → ℕ
+abbrev pub more_of : ℕ → ℕ
 more_of b = cond (nat_eq b 60 || (nat_eq b 62 || nat_eq b 46)) 1 0
 
-abbrev IsMarkLike : List ℕ → Type 0
+abbrev pub IsMarkLike : List ℕ → Type 0
 IsMarkLike [] = ⊥
 IsMarkLike (b ∷ bs) = IsMarkByte b × (length bs ≡ more_of b)
 
-mark_like : (m : Mark) → IsMarkLike (sign m)
+pub mark_like : (m : Mark) → IsMarkLike (sign m)
 mark_like Semicolon = (inr (inl (lit≤ tt, lit≤ tt)), refl)
 mark_like Comma = (inl (lit≤ tt, lit≤ tt), refl)
 mark_like Equals = (inr (inl (lit≤ tt, lit≤ tt)), refl)

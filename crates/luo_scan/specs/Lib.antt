@@ -3,3 +3,4 @@ pub mod Spellings
 pub mod Tokens
 pub mod Lexemes
 pub mod Fronts
+pub mod Faults
