@@ -5,3 +5,5 @@ pub mod Longest
 pub mod Pieces
 pub mod Numbers
 pub mod Walk
+pub mod OneKind
+pub mod Unique
