@@ -78,10 +78,10 @@ behind_mark m b ps bs s (numbers d a z) = absurd (digit_mark b d (mark_first m b
 behind_mark m b ps bs s (marks n e) = mark_long n m b bs ps e s
 
 -- the word that is spelled so, where there is one
-abbrev word_of : List ℕ → Word
+abbrev pub word_of : List ℕ → Word
 word_of p = cond (bytes_eq p (spelling KwLabelled)) KwLabelled (cond (bytes_eq p (spelling KwUnlabelled)) KwUnlabelled (cond (bytes_eq p (spelling KwType)) KwType (cond (bytes_eq p (spelling KwEpsilon)) KwEpsilon (cond (bytes_eq p (spelling KwAtom)) KwAtom (cond (bytes_eq p (spelling KwProduct)) KwProduct (cond (bytes_eq p (spelling KwSequence)) KwSequence (cond (bytes_eq p (spelling KwSet)) KwSet (cond (bytes_eq p (spelling KwCycle)) KwCycle (cond (bytes_eq p (spelling KwMultiset)) KwMultiset (cond (bytes_eq p (spelling KwPowerset)) KwPowerset (cond (bytes_eq p (spelling KwCard)) KwCard (cond (bytes_eq p (spelling KwIn)) KwIn (cond (bytes_eq p (spelling KwMeasure)) KwMeasure (cond (bytes_eq p (spelling KwProcedure)) KwProcedure (cond (bytes_eq p (spelling KwAnalyze)) KwAnalyze (cond (bytes_eq p (spelling KwBegin)) KwBegin (cond (bytes_eq p (spelling KwEnd)) KwEnd (cond (bytes_eq p (spelling KwCase)) KwCase (cond (bytes_eq p (spelling KwOf)) KwOf (cond (bytes_eq p (spelling KwForall)) KwForall (cond (bytes_eq p (spelling KwDo)) KwDo (cond (bytes_eq p (spelling KwSkip)) KwSkip (KwAs)))))))))))))))))))))))
 
-word_of-spelling : (w : Word) → word_of (spelling w) ≡ w
+pub word_of-spelling : (w : Word) → word_of (spelling w) ≡ w
 word_of-spelling KwLabelled = refl
 word_of-spelling KwUnlabelled = refl
 word_of-spelling KwType = refl
@@ -108,10 +108,10 @@ word_of-spelling KwSkip = refl
 word_of-spelling KwAs = refl
 
 -- the mark that is written so, where there is one
-abbrev mark_of : List ℕ → Mark
+abbrev pub mark_of : List ℕ → Mark
 mark_of p = cond (bytes_eq p (sign Semicolon)) Semicolon (cond (bytes_eq p (sign Comma)) Comma (cond (bytes_eq p (sign Equals)) Equals (cond (bytes_eq p (sign Bar)) Bar (cond (bytes_eq p (sign LeftRound)) LeftRound (cond (bytes_eq p (sign RightRound)) RightRound (cond (bytes_eq p (sign LessEqual)) LessEqual (cond (bytes_eq p (sign GreaterEqual)) GreaterEqual (cond (bytes_eq p (sign Dots)) Dots (cond (bytes_eq p (sign Colon)) Colon (Underscore))))))))))
 
-mark_of-sign : (m : Mark) → mark_of (sign m) ≡ m
+pub mark_of-sign : (m : Mark) → mark_of (sign m) ≡ m
 mark_of-sign Semicolon = refl
 mark_of-sign Comma = refl
 mark_of-sign Equals = refl

@@ -7,3 +7,5 @@ pub mod Numbers
 pub mod Walk
 pub mod OneKind
 pub mod Unique
+pub mod Decide
+pub mod Inside

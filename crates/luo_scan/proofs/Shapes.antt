@@ -125,3 +125,17 @@ shape p what (name b bytes l a n) = names l a
 shape p what (word w) = shape_word (spelling w) (word_like w)
 shape p what (number d ds g a z) = numbers g a z
 shape p what (mark m) = shape_mark m (sign m) (mark_like m) refl
+
+-- a mark has one byte or two
+pub mark_length : (m : Mark) → (length (sign m) ≡ 1) ⊎ (length (sign m) ≡ 2)
+mark_length Semicolon = inl refl
+mark_length Comma = inl refl
+mark_length Equals = inl refl
+mark_length Bar = inl refl
+mark_length LeftRound = inl refl
+mark_length RightRound = inl refl
+mark_length LessEqual = inr refl
+mark_length GreaterEqual = inr refl
+mark_length Dots = inr refl
+mark_length Colon = inl refl
+mark_length Underscore = inl refl

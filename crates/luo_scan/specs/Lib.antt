@@ -4,3 +4,4 @@ pub mod Tokens
 pub mod Lexemes
 pub mod Fronts
 pub mod Faults
+pub mod Laws

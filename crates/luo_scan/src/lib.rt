@@ -3,6 +3,7 @@
 
 mod bytes;
 mod error;
+mod laws;
 mod marks;
 mod piece;
 mod scanning;
@@ -10,6 +11,7 @@ mod token;
 mod words;
 
 pub use error::ScanError;
+pub use laws::{fault_is_unique, lexemes_are_fit, tokens_are_unique, tokens_lie_inside, tokens_or_fault};
 pub use marks::signed;
 pub use piece::{NAME_LIMIT, NUMBER_LIMIT};
 pub use scanning::{TEXT_LIMIT, scan};
