@@ -32,7 +32,7 @@ either P Q (inr p) (inr q) = inr (λ h. elim h as (λ _. ⊥) [ inl a ↦ p a | 
 within : (low b high : ℕ) → Decided ((low ≤ b) × (b ≤ high))
 within low b high =
     elim (cases_lt b low) as (λ _. Decided ((low ≤ b) × (b ≤ high))) [
-        inl l ↦ inr (λ h. omega arith)
+      | inl l ↦ inr (λ h. omega arith)
       | inr l ↦ elim (cases_lt high b) as (λ _. Decided ((low ≤ b) × (b ≤ high))) [ inl m ↦ inr (λ h. omega arith) | inr m ↦ inl (l, m) ]
     ]
 
@@ -70,9 +70,9 @@ cut_more P b bs p c = record { front = b ∷ c.front; rest = c.rest; whole = ap 
 cut : (P : ℕ → Type 0) → ((b : ℕ) → Decided (P b)) → (text : List ℕ) → Cut P text
 cut P d [] = record { front = []; rest = []; whole = refl; all = tt; stops = tt }
 cut P d (b ∷ bs) = elim (d b) as (λ _. Cut P (b ∷ bs)) [
-    inl p ↦ cut_more P b bs p (cut P d bs)
+  | inl p ↦ cut_more P b bs p (cut P d bs)
   | inr n ↦ record { front = []; rest = b ∷ bs; whole = refl; all = tt; stops = n }
-  ]
+]
 
 -- the longest piece of a text
 record Piece (text : List ℕ) : Type 0 where
@@ -89,7 +89,7 @@ name_or_word : (b : ℕ) (text : List ℕ) → IsLetter b → Piece (b ∷ text)
 name_or_word b text l =
     let c = cut IsNameByte name_byte_or text in
     elim (list_or (spelling (word_of (b ∷ c.front))) (b ∷ c.front)) as (λ _. Piece (b ∷ text)) [
-        inl e ↦ piece_behind b c.front c.rest text _ c.whole (begins_word (word_of (b ∷ c.front)) b c.front c.rest e c.stops)
+      | inl e ↦ piece_behind b c.front c.rest text _ c.whole (begins_word (word_of (b ∷ c.front)) b c.front c.rest e c.stops)
       | inr n ↦ piece_behind b c.front c.rest text _ c.whole (begins_name b c.front c.rest l c.all c.stops (λ w e. n (ap spelling (sym (ap word_of e) ∙ word_of-spelling w) ∙ e)))
     ]
 
@@ -97,7 +97,7 @@ number_at : (b : ℕ) (text : List ℕ) → IsDigit b → Piece (b ∷ text)
 number_at b text d =
     let c = cut IsDigit digit_or text in
     elim (cases_eq b 48) as (λ _. Piece (b ∷ text)) [
-        inl e ↦ subst (λ z. Piece (z ∷ text)) (sym e) (record { piece = 48 ∷ []; rest = text; what = Some (kind.Number 0); begins = begins_zero text })
+      | inl e ↦ subst (λ z. Piece (z ∷ text)) (sym e) (record { piece = 48 ∷ []; rest = text; what = Some (kind.Number 0); begins = begins_zero text })
       | inr n ↦ piece_behind b c.front c.rest text _ c.whole (begins_number b c.front c.rest d n c.all c.stops)
     ]
 
@@ -116,13 +116,13 @@ mark_again m b bs after text n e f l =
 mark_or : (b : ℕ) (text : List ℕ) → (IsSeparator b → ⊥) → b ≢ 37 → (IsLetter b → ⊥) → (IsDigit b → ⊥) → Piece (b ∷ text) ⊎ BeginsNot (b ∷ text)
 mark_or b text s c l d =
     elim (list_or (sign (mark_of (take 1 (b ∷ text)))) (take 1 (b ∷ text))) as (λ _. Piece (b ∷ text) ⊎ BeginsNot (b ∷ text)) [
-        inl e ↦ inl (marked b text 0 e)
+      | inl e ↦ inl (marked b text 0 e)
       | inr n ↦ elim (list_or (sign (mark_of (take 2 (b ∷ text)))) (take 2 (b ∷ text))) as (λ _. Piece (b ∷ text) ⊎ BeginsNot (b ∷ text)) [
-          inl e ↦ inl (marked b text 1 e)
+        | inl e ↦ inl (marked b text 1 e)
         | inr k ↦ inr (begins_not b text s c l d (λ m bs after e f. elim (mark_length m) as (λ _. ⊥) [
-              inl h ↦ n (mark_again m b bs after text 0 e f h)
-            | inr h ↦ k (mark_again m b bs after text 1 e f h)
-          ]))
+          | inl h ↦ n (mark_again m b bs after text 0 e f h)
+          | inr h ↦ k (mark_again m b bs after text 1 e f h)
+        ]))
       ]
     ]
 
@@ -130,22 +130,22 @@ mark_or b text s c l d =
 piece_or : (b : ℕ) (text : List ℕ) → Piece (b ∷ text) ⊎ BeginsNot (b ∷ text)
 piece_or b text =
     elim (separator_or b) as (λ _. Piece (b ∷ text) ⊎ BeginsNot (b ∷ text)) [
-        inl s ↦ inl (record { piece = b ∷ []; rest = text; what = None; begins = begins_separator b text s })
+      | inl s ↦ inl (record { piece = b ∷ []; rest = text; what = None; begins = begins_separator b text s })
       | inr s ↦ elim (cases_eq b 37) as (λ _. Piece (b ∷ text) ⊎ BeginsNot (b ∷ text)) [
-          inl e ↦ inl (comment_at e)
+        | inl e ↦ inl (comment_at e)
         | inr c ↦ elim (letter_or b) as (λ _. Piece (b ∷ text) ⊎ BeginsNot (b ∷ text)) [
-            inl l ↦ inl (name_or_word b text l)
+          | inl l ↦ inl (name_or_word b text l)
           | inr l ↦ elim (digit_or b) as (λ _. Piece (b ∷ text) ⊎ BeginsNot (b ∷ text)) [
-              inl d ↦ inl (number_at b text d)
+            | inl d ↦ inl (number_at b text d)
             | inr d ↦ mark_or b text s c l d
           ]
         ]
       ]
     ] where
-  comment_at : b ≡ 37 → Piece (b ∷ text)
-  comment_at e =
-      let c = cut (λ z. z ≢ 10) comment_byte_or text in
-      subst (λ z. Piece (z ∷ text)) (sym e) (piece_behind 37 c.front c.rest text None c.whole (begins_comment c.front c.rest c.all c.stops))
+      comment_at : b ≡ 37 → Piece (b ∷ text)
+      comment_at e =
+          let c = cut (λ z. z ≢ 10) comment_byte_or text in
+          subst (λ z. Piece (z ∷ text)) (sym e) (piece_behind 37 c.front c.rest text None c.whole (begins_comment c.front c.rest c.all c.stops))
 
 -- tokens or a fault from a byte on
 abbrev Answer : ℕ → List ℕ → Type 0
@@ -181,7 +181,7 @@ answer n at [] l = inl ([], at_end)
 answer zero at (b ∷ text) l = absurd (omega arith)
 answer (suc n) at (b ∷ text) l =
     elim (piece_or b text) as (λ _. Answer at (b ∷ text)) [
-        inl p ↦ kind_answer at (b ∷ text) p.piece p.rest p.what p.begins (answer n (at + length p.piece) p.rest (shorter (b ∷ text) p.piece p.rest p.what n p.begins l))
+      | inl p ↦ kind_answer at (b ∷ text) p.piece p.rest p.what p.begins (answer n (at + length p.piece) p.rest (shorter (b ∷ text) p.piece p.rest p.what n p.begins l))
       | inr none ↦ inr (bad_byte, at, no_piece none)
     ]
 

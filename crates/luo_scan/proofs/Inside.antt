@@ -38,9 +38,10 @@ bytes_of whole at text piece rest what e b =
 fit_from : (whole : List ℕ) (at number : ℕ) (text : List ℕ) (ts : List Token) → TokensFrom at text ts → drop at whole ≡ text → AllByRecursion IsFit (lexemes_from number whole ts)
 fit_from whole at number text ts at_end e = tt
 fit_from whole at number text ts (skipped p r b x) e = fit_from whole _ number r ts x (behind whole at text p r None e b)
-fit_from whole at number text ts (taken p r k b w x) e =
-    (subst (λ z. IsPiece z (Some k) × IsWithin z k) (sym (bytes_of whole at text p r (Some k) e b)) (b.is, w),
-     fit_from whole _ (number + 1) r _ x (behind whole at text p r (Some k) e b))
+fit_from whole at number text ts (taken p r k b w x) e = (
+  subst (λ z. IsPiece z (Some k) × IsWithin z k) (sym (bytes_of whole at text p r (Some k) e b)) (b.is, w),
+  fit_from whole _ (number + 1) r _ x (behind whole at text p r (Some k) e b),
+)
 
 -- each lexeme of a text is a piece of it, within the limits
 pub lexemes_fit : (text : List ℕ) (ts : List Token) → Tokens text ts → AllByRecursion IsFit (lexemes text ts)

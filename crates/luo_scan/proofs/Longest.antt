@@ -41,22 +41,22 @@ begins_name b ps rest l a s n =
 pub begins_word : (w : Word) (b : ℕ) (ps rest : List ℕ) → spelling w ≡ b ∷ ps → Stops IsNameByte rest → Begins (b ∷ (ps ++ rest)) (b ∷ ps) rest (Some (kind.Word w))
 begins_word w b ps rest f s =
     begins b ps rest (Some (kind.Word w)) (subst (λ z. IsPiece z (Some (kind.Word w))) f (word w))
-      (λ qs after e h. front_at_most IsNameByte ps rest qs after e s (behind_letter b qs (word_first w b ps f).0 h))
+    (λ qs after e h. front_at_most IsNameByte ps rest qs after e s (behind_letter b qs (word_first w b ps f).0 h))
 
 pub begins_zero : (rest : List ℕ) → Begins (48 ∷ rest) (48 ∷ []) rest (Some (kind.Number 0))
 begins_zero rest =
     begins 48 [] rest (Some (kind.Number 0)) (number 48 [] (lit≤ tt, lit≤ tt) tt (λ e. refl))
-      (λ qs after e h. let k : qs ≡ [] = (behind_digit 48 qs (lit≤ tt, lit≤ tt) h).1 refl in omega (arith, ap length k))
+    (λ qs after e h. let k : qs ≡ [] = (behind_digit 48 qs (lit≤ tt, lit≤ tt) h).1 refl in omega (arith, ap length k))
 
 pub begins_number : (d : ℕ) (ds rest : List ℕ) → IsDigit d → d ≢ 48 → AllByRecursion IsDigit ds → Stops IsDigit rest → Begins (d ∷ (ds ++ rest)) (d ∷ ds) rest (Some (kind.Number (value_after 0 (d ∷ ds))))
 begins_number d ds rest g n a s =
     begins d ds rest (Some (kind.Number (value_after 0 (d ∷ ds)))) (number d ds g a (λ e. absurd (n e)))
-      (λ qs after e h. front_at_most IsDigit ds rest qs after e s (behind_digit d qs g h).0)
+    (λ qs after e h. front_at_most IsDigit ds rest qs after e s (behind_digit d qs g h).0)
 
 pub begins_mark : (m : Mark) (b : ℕ) (ps rest : List ℕ) → sign m ≡ b ∷ ps → Begins (b ∷ (ps ++ rest)) (b ∷ ps) rest (Some (kind.Mark m))
 begins_mark m b ps rest f =
     begins b ps rest (Some (kind.Mark m)) (subst (λ z. IsPiece z (Some (kind.Mark m))) f (mark m))
-      (λ qs after e h. let k = behind_mark m b ps qs f h in omega arith)
+    (λ qs after e h. let k = behind_mark m b ps qs f h in omega arith)
 
 -- no mark begins with this byte and goes on as the text does
 abbrev pub IsNoMark : ℕ → List ℕ → Type 0
@@ -67,7 +67,7 @@ begins_not b text s c l d m [] rest what e p = shape [] what p
 begins_not b text s c l d m (q ∷ qs) rest what e p =
     let h : q ≡ b = cc in
     elim (subst (λ z. Shape z qs) h (shape (q ∷ qs) what p)) as (λ _. ⊥) [
-        separates t f ↦ s t
+      | separates t f ↦ s t
       | comments f a ↦ c f
       | names t a ↦ l t
       | numbers t a z ↦ d t

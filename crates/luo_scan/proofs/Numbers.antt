@@ -7,8 +7,8 @@ value_more n i [] h = absurd (omega arith)
 value_more n zero (x ∷ xs) h = refl
 value_more n (suc i) (x ∷ xs) h =
     subst (λ k. value_after n (take k (x ∷ xs)) ≡ 10 * value_after n (take (suc i) (x ∷ xs)) + (get_or xs i 0 - 48)) (sym (add-one (suc i)))
-      (subst (λ k. value_after (10 * n + (x - 48)) (take k xs) ≡ 10 * value_after (10 * n + (x - 48)) (take i xs) + (get_or xs i 0 - 48)) (add-one i)
-        (value_more (10 * n + (x - 48)) i xs (omega arith)))
+    (subst (λ k. value_after (10 * n + (x - 48)) (take k xs) ≡ 10 * value_after (10 * n + (x - 48)) (take i xs) + (get_or xs i 0 - 48)) (add-one i)
+    (value_more (10 * n + (x - 48)) i xs (omega arith)))
 
 -- a digit more of a number that stops at a limit
 pub capped : (number value next digit result limit : ℕ) → number ≡ min value limit → next ≡ 10 * value + digit → result ≡ min (10 * number + digit) limit → result ≡ min next limit

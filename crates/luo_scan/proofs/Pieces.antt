@@ -32,7 +32,7 @@ comment_cut [] n l s r = absurd (omega arith)
 comment_cut (b ∷ t) zero l s r = absurd (r.stops (λ e. omega arith))
 comment_cut (b ∷ t) (suc m) l s r = record {
   some = (omega arith, r.within);
-  begins = joined b t m None (subst (λ z. Begins (z ∷ (take m t ++ drop m t)) (z ∷ take m t) (drop m t) None) (sym s) (begins_comment (take m t) (drop m t) r.all.1 r.stops))
+  begins = joined b t m None (subst (λ z. Begins (z ∷ (take m t ++ drop m t)) (z ∷ take m t) (drop m t) None) (sym s) (begins_comment (take m t) (drop m t) r.all.1 r.stops));
 }
 
 pub name_cut : (text : List ℕ) (n : ℕ) → 0 < length text → IsLetter (get_or text 0 0) → IsRun IsNameByte text n → ((w : Word) → spelling w ≢ take n text) → IsCut text n (Some kind.Name)
@@ -40,7 +40,7 @@ name_cut [] n l s r w = absurd (omega arith)
 name_cut (b ∷ t) zero l s r w = absurd (r.stops (inl s))
 name_cut (b ∷ t) (suc m) l s r w = record {
   some = (omega arith, r.within);
-  begins = joined b t m (Some kind.Name) (begins_name b (take m t) (drop m t) s r.all.1 r.stops w)
+  begins = joined b t m (Some kind.Name) (begins_name b (take m t) (drop m t) s r.all.1 r.stops w);
 }
 
 pub word_cut : (text : List ℕ) (n : ℕ) (w : Word) → 0 < length text → IsLetter (get_or text 0 0) → IsRun IsNameByte text n → spelling w ≡ take n text → IsCut text n (Some (kind.Word w))
@@ -48,14 +48,14 @@ word_cut [] n w l s r e = absurd (omega arith)
 word_cut (b ∷ t) zero w l s r e = absurd (r.stops (inl s))
 word_cut (b ∷ t) (suc m) w l s r e = record {
   some = (omega arith, r.within);
-  begins = joined b t m (Some (kind.Word w)) (begins_word w b (take m t) (drop m t) e r.stops)
+  begins = joined b t m (Some (kind.Word w)) (begins_word w b (take m t) (drop m t) e r.stops);
 }
 
 pub zero_cut : (text : List ℕ) → 0 < length text → get_or text 0 0 ≡ 48 → IsCut text 1 (Some (kind.Number 0))
 zero_cut [] l s = absurd (omega arith)
 zero_cut (b ∷ t) l s = record {
   some = (omega arith, omega arith);
-  begins = subst (λ z. Begins (z ∷ t) (z ∷ []) t (Some (kind.Number 0))) (sym s) (begins_zero t)
+  begins = subst (λ z. Begins (z ∷ t) (z ∷ []) t (Some (kind.Number 0))) (sym s) (begins_zero t);
 }
 
 pub number_cut : (text : List ℕ) (n : ℕ) → 0 < length text → IsDigit (get_or text 0 0) → get_or text 0 0 ≢ 48 → IsRun IsDigit text n → IsCut text n (Some (kind.Number (value_after 0 (take n text))))
@@ -63,7 +63,7 @@ number_cut [] n l s z r = absurd (omega arith)
 number_cut (b ∷ t) zero l s z r = absurd (r.stops s)
 number_cut (b ∷ t) (suc m) l s z r = record {
   some = (omega arith, r.within);
-  begins = joined b t m _ (begins_number b (take m t) (drop m t) s z r.all.1 r.stops)
+  begins = joined b t m _ (begins_number b (take m t) (drop m t) s z r.all.1 r.stops);
 }
 
 mark_front : (m : Mark) (p after : List ℕ) → IsMarkLike p → sign m ≡ p → IsCut (p ++ after) (length p) (Some (kind.Mark m))
@@ -71,7 +71,7 @@ mark_front m [] after h e = absurd h
 mark_front m (b ∷ ps) after h e = record {
   some = (omega arith, omega (arith, length-append (b ∷ ps) after));
   begins = subst (λ z. Begins (b ∷ (ps ++ after)) z (drop (length (b ∷ ps)) (b ∷ (ps ++ after))) (Some (kind.Mark m))) (sym (take-append_seam (b ∷ ps) after))
-    (subst (λ z. Begins (b ∷ (ps ++ after)) (b ∷ ps) z (Some (kind.Mark m))) (sym (drop-append_seam (b ∷ ps) after)) (begins_mark m b ps after e))
+      (subst (λ z. Begins (b ∷ (ps ++ after)) (b ∷ ps) z (Some (kind.Mark m))) (sym (drop-append_seam (b ∷ ps) after)) (begins_mark m b ps after e));
 }
 
 pub mark_cut : (m : Mark) (text after : List ℕ) → text ≡ sign m ++ after → IsCut text (length (sign m)) (Some (kind.Mark m))

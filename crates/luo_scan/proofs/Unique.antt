@@ -14,9 +14,10 @@ pub record Same (p q r s : List ℕ) (k l : Option TokenKind) : Type 0 where
   pub kinds : k ≡ l
 
 fronts : (p r q s : List ℕ) → p ++ r ≡ q ++ s → length p ≡ length q → (p ≡ q) × (r ≡ s)
-fronts p r q s e l =
-    (sym (take-append_seam p r) ∙ (ap (λ z. take (length p) z) e ∙ (ap (λ n. take n (q ++ s)) l ∙ take-append_seam q s)),
-     sym (drop-append_seam p r) ∙ (ap (λ z. drop (length p) z) e ∙ (ap (λ n. drop n (q ++ s)) l ∙ drop-append_seam q s)))
+fronts p r q s e l = (
+  sym (take-append_seam p r) ∙ (ap (λ z. take (length p) z) e ∙ (ap (λ n. take n (q ++ s)) l ∙ take-append_seam q s)),
+  sym (drop-append_seam p r) ∙ (ap (λ z. drop (length p) z) e ∙ (ap (λ n. drop n (q ++ s)) l ∙ drop-append_seam q s)),
+)
 
 -- a text begins with one longest piece
 pub one_piece : (text other p r q s : List ℕ) (k l : Option TokenKind) → Begins text p r k → Begins other q s l → text ≡ other → Same p q r s k l

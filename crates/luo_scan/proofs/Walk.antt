@@ -32,7 +32,7 @@ so_far_gap text at n tokens s l b =
       within = further text at n s.within l;
       goes_on = λ more t. s.goes_on more (skipped _ _ b (subst (λ k. TokensFrom (at + k) (drop n (drop at text)) more) (sym e) (subst (λ z. TokensFrom (at + n) z more) (sym d) t)));
       fails = λ fault place f. s.fails fault place (behind_separator _ _ b (subst (λ k. FaultFrom (at + k) (drop n (drop at text)) fault place) (sym e) (subst (λ z. FaultFrom (at + n) z fault place) (sym d) f)));
-      inside = s.inside
+      inside = s.inside;
     }
 
 pub so_far_token : (text : List ℕ) (at n : ℕ) (tokens : List Token) (kind : TokenKind) → SoFar text at tokens → IsSome (drop at text) n → Begins (drop at text) (take n (drop at text)) (drop n (drop at text)) (Some kind) → IsWithin (take n (drop at text)) kind → SoFar text (at + n) (tokens ++ record { kind = kind; start = at; end = at + n } ∷ [])
@@ -42,11 +42,11 @@ so_far_token text at n tokens kind s l b w =
     record {
       within = further text at n s.within l;
       goes_on = λ more t.
-        let rest = subst (λ k. TokensFrom (at + k) (drop n (drop at text)) more) (sym e) (subst (λ z. TokensFrom (at + n) z more) (sym d) t) in
-        let whole = subst (λ k. TokensFrom at (drop at text) (record { kind = kind; start = at; end = at + k } ∷ more)) e (taken _ _ kind b w rest) in
-        subst (λ z. Tokens text z) (sym (append_assoc tokens (record { kind = kind; start = at; end = at + n } ∷ []) more)) (s.goes_on _ whole);
+          let rest = subst (λ k. TokensFrom (at + k) (drop n (drop at text)) more) (sym e) (subst (λ z. TokensFrom (at + n) z more) (sym d) t) in
+          let whole = subst (λ k. TokensFrom at (drop at text) (record { kind = kind; start = at; end = at + k } ∷ more)) e (taken _ _ kind b w rest) in
+          subst (λ z. Tokens text z) (sym (append_assoc tokens (record { kind = kind; start = at; end = at + n } ∷ []) more)) (s.goes_on _ whole);
       fails = λ fault place f. s.fails fault place (behind_token _ _ kind b w (subst (λ k. FaultFrom (at + k) (drop n (drop at text)) fault place) (sym e) (subst (λ z. FaultFrom (at + n) z fault place) (sym d) f)));
-      inside = inside_more (length text) tokens _ s.inside (omega arith) (further text at n s.within l)
+      inside = inside_more (length text) tokens _ s.inside (omega arith) (further text at n s.within l);
     }
 
 -- at the end of the text the tokens are whole

@@ -11,9 +11,14 @@ mod token;
 mod words;
 
 pub use error::ScanError;
-pub use laws::{fault_is_unique, lexemes_are_fit, tokens_are_unique, tokens_lie_inside, tokens_or_fault};
-pub use marks::signed;
+pub use laws::{
+    fault_is_unique, lexemes_are_fit, tokens_are_unique, tokens_lie_inside, tokens_or_fault,
+};
+pub use marks::written;
 pub use piece::{NAME_LIMIT, NUMBER_LIMIT};
 pub use scanning::{TEXT_LIMIT, scan};
 pub use token::{Mark, Token, TokenKind, Word};
 pub use words::spelled;
+
+#[cfg(test)]
+mod tests;

@@ -19,7 +19,7 @@ const MARKS: [Mark; 11] = [
 ];
 
 /// The bytes of a mark.
-pub fn signed(mark: Mark) -> &'static [u8]
+pub fn written(mark: Mark) -> &'static [u8]
     ensures { result.now ≡ sign mark }
 {
     match mark {
@@ -42,7 +42,7 @@ pub(crate) fn mark_of(text: &[u8]) -> Option<Mark>
     ensures { MatchOption result ((m : Mark) (after : List ℕ) → text.now ≢ sign m ++ after) (λ m. (after : List ℕ) × (text.now ≡ sign m ++ after)) }
 {
     for mark in &MARKS {
-        if text.starts_with(signed(*mark)) {
+        if text.starts_with(written(*mark)) {
             return Some(*mark);
         }
     }

@@ -5,10 +5,10 @@ ghost use Rattle.luo_scan.specs.Bytes.{IsDigit, IsLetter, IsSeparator};
 ghost use Rattle.luo_scan.specs.Faults.{IsPieceOf};
 ghost use Rattle.luo_scan.specs.Spellings.{value_after};
 
-use crate::bytes::{Class, is_digit, is_letter, is_separator, run};
-use crate::marks::{mark_of, signed};
-use crate::words::word_of;
 use crate::TokenKind;
+use crate::bytes::{Class, is_digit, is_letter, is_separator, run};
+use crate::marks::{mark_of, written};
+use crate::words::word_of;
 
 /// The most bytes of a name.
 pub const NAME_LIMIT: usize = 32;
@@ -121,7 +121,7 @@ fn mark_piece(text: &[u8]) -> Piece
     match mark_of(text) {
         Some(mark) => Piece::Token {
             kind: TokenKind::Mark(mark),
-            length: signed(mark).len(),
+            length: written(mark).len(),
         },
         None => Piece::BadByte,
     }

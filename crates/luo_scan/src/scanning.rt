@@ -3,10 +3,9 @@ ghost use Rattle.std.specs.Prelude.{◌≤◌, length, IfOk, IfErr};
 ghost use Rattle.luo_scan.specs.Faults.{AllInside, IsFault};
 ghost use Rattle.luo_scan.specs.Tokens.{Tokens};
 
-use std::alloc::Global;
-
 use crate::piece::{Piece, first_piece};
 use crate::{ScanError, Token};
+use std::alloc::Global;
 
 /// The most bytes of a text.
 pub const TEXT_LIMIT: usize = 65536;
@@ -31,7 +30,11 @@ pub fn scan(alloc: Global, text: &[u8]) -> Result<Vec<Token>, ScanError>
             Piece::Token { kind, length } => {
                 let start = at;
                 at += length;
-                tokens.push(Token { kind, start, end: at })?;
+                tokens.push(Token {
+                    kind,
+                    start,
+                    end: at,
+                })?;
             }
             Piece::BadByte => return Err(ScanError::BadByte { at }),
             Piece::LongName => return Err(ScanError::NameLimit { at }),

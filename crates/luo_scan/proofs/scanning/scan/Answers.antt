@@ -13,7 +13,7 @@ pub pieces-preserved : goal.pieces-preserved
 pieces-preserved c =
     let k = subst (λ z. IsPieceOf z (Token c.in-Token.kind c.in-Token.length)) (up_to_end c.args.text.now c.pieces.at) c.in-Token.ensures in
     subst (λ z. SoFar c.args.text.now (c.pieces.at + c.in-Token.length) z) (sym c.in_ok-push-in-Token.ensures.items)
-      (so_far_token c.args.text.now c.pieces.at c.in-Token.length c.pieces.tokens.items c.in-Token.kind c.pieces.invariant k.0 k.1 k.2)
+    (so_far_token c.args.text.now c.pieces.at c.in-Token.length c.pieces.tokens.items c.in-Token.kind c.pieces.invariant k.0 k.1 k.2)
 
 pub returns-clause-ok : goal.returns-clause-ok
 returns-clause-ok c =
