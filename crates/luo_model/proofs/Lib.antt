@@ -1,0 +1,5 @@
+pub mod ChargeLemmas
+pub mod ChargeFacts
+pub mod DepthLemmas
+pub mod SiteLemmas
+pub mod OrderLemmas
