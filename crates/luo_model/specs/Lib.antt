@@ -6,3 +6,8 @@ pub mod Structures
 pub mod Charges
 pub mod Tables
 pub mod View
+pub mod Examples
+pub mod FactsCounts
+pub mod FactsMembers
+pub mod FactsCharges
+pub mod Laws

@@ -1,0 +1,43 @@
+-- What holds of charges, of the order, and of counts and totals in every program.
+use Rattle.std.specs.Prelude.{◌≡◌, ℕ, List, map, slice_get, Some}
+use Rattle.std.specs.Cmp.{IsTotalOrder}
+use Rattle.std.specs.declared.cmp.Ordering.TheVariants.{Less, Equal, Greater}
+use Rattle.luo_finite.specs.Listing.{NoDouble}
+use Rattle.luo_model.specs.Tree.{Tree}
+use Rattle.luo_model.specs.Order.{order_of, IsBefore}
+use Rattle.luo_model.specs.Program.{Program, Procedure}
+use Rattle.luo_model.specs.Charges.{Charges, SiteCharges, works_of}
+use Rattle.luo_model.specs.Tables.{IsCount, IsTotal}
+
+-- no two sites have one number
+abbrev pub SitesAreApart : Program → Type 0
+SitesAreApart p = NoDouble (map (λ w. w.0) (works_of p))
+
+-- a procedure charges at most one number on a structure
+abbrev pub ChargesAreSingle : Type 0
+ChargesAreSingle = (p : Program) (f : ℕ) (s : Tree) (a b : ℕ) → Charges p f s a → Charges p f s b → a ≡ b
+
+-- a site charges at most one number on a structure
+abbrev pub SiteChargesAreSingle : Type 0
+SiteChargesAreSingle = (p : Program) → SitesAreApart p → (i : ℕ) (s : Tree) (a b : ℕ) → SiteCharges p i s a → SiteCharges p i s b → a ≡ b
+
+-- the site of a procedure's whole charges what the procedure does
+abbrev pub WholesCharge : Type 0
+WholesCharge = (p : Program) (f : ℕ) (P : Procedure) (s : Tree) (q : ℕ) → slice_get p.procs f ≡ Some P → Charges p f s q → SiteCharges p P.site s q
+
+-- and nothing else
+abbrev pub WholesChargeNoMore : Type 0
+WholesChargeNoMore =
+  (p : Program) → SitesAreApart p → (f : ℕ) (P : Procedure) (s : Tree) (q : ℕ) → slice_get p.procs f ≡ Some P → SiteCharges p P.site s q → Charges p f s q
+
+-- the order of structures is total, and finds no difference only between equal ones
+abbrev pub OrderIsTotal : Type 0
+OrderIsTotal = IsTotalOrder order_of × ((s : Tree) → order_of s s ≡ Equal) × ((s t : Tree) → order_of s t ≡ Equal → s ≡ t)
+
+-- a node has one count at a size
+abbrev pub CountsAreSingle : Type 0
+CountsAreSingle = (p : Program) (x n a b : ℕ) → IsCount p x n a → IsCount p x n b → a ≡ b
+
+-- a site has one total at a size
+abbrev pub TotalsAreSingle : Type 0
+TotalsAreSingle = (p : Program) → SitesAreApart p → (i n a b : ℕ) → IsTotal p i n a → IsTotal p i n b → a ≡ b
