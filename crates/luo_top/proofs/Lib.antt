@@ -5,3 +5,4 @@ pub mod Complete
 pub mod Told
 pub mod Readings
 pub mod Sections
+pub mod OneReport
