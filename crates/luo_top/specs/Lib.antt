@@ -1,0 +1,5 @@
+pub mod FirstTokens
+pub mod FirstSymbols
+pub mod FirstGrammar
+pub mod FirstSteps
+pub mod FirstParts

@@ -1,5 +1,9 @@
 // Texts that define types, measures and one procedure.
 
+mod cursor;
+mod reader;
 mod source;
 
+pub use cursor::NotFirst;
+pub use reader::read_first;
 pub use source::{Definition, FirstSource, Measures, Procedure, Term};

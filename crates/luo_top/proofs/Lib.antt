@@ -1,0 +1,3 @@
+pub mod FirstOne
+pub mod FirstReads
+pub mod FirstSoFar
