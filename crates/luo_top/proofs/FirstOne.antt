@@ -103,5 +103,5 @@ first_one (first p ps) (first q qs) e =
     (cc, cc)
 
 -- lexemes are a first text of one source at most
-pub first_text_one : {ls : List Lexeme} {s t : FirstSource} → IsFirst ls s → IsFirst ls t → s ≡ t
-first_text_one p q = (first_one p q refl).1
+pub first_text_one : (ls : List Lexeme) (s t : FirstSource) → IsFirst ls s → IsFirst ls t → s ≡ t
+first_text_one ls s t p q = (first_one p q refl).1

@@ -1,3 +1,4 @@
 pub mod FirstOne
 pub mod FirstReads
 pub mod FirstSoFar
+pub mod FirstShorter
