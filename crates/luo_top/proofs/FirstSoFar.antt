@@ -51,8 +51,9 @@ names_left {b} f k g m (more_names {to} {ns} p) e = m to ns (subst (λ z. AreNam
 
 pub names_more : {b : Mark} {start at next mid : List Symbol} {n : List ℕ} {before after : List (List ℕ)} → SoFar (AreNames b) start at before → at ≡ named n ∷ next → No (mark b) next → next ≡ mark Comma ∷ mid → after ≡ before ++ n ∷ [] → SoFar (AreNames b) start mid after
 names_more {b} {start} {at} {n} {before} {after} so f k g h = record {
-    reads = λ to more p. subst (AreNames b start to) (sym (one_more before after n more h)) (so.reads to (n ∷ more) (subst (λ z. AreNames b z to (n ∷ more)) (sym (f ∙ ap (λ z. named n ∷ z) g)) (more_names p)));
-    none = λ m. so.none (λ to ns p. names_left f k g m p refl) }
+  reads = λ to more p. subst (AreNames b start to) (sym (one_more before after n more h)) (so.reads to (n ∷ more) (subst (λ z. AreNames b z to (n ∷ more)) (sym (f ∙ ap (λ z. named n ∷ z) g)) (more_names p)));
+  none = λ m. so.none (λ to ns p. names_left f k g m p refl);
+}
 
 -- charges
 
@@ -76,8 +77,9 @@ charges_left f k g m (more_charges {to} {ns} p) e = m to ns (subst (λ z. AreCha
 
 pub charges_more : {start at next mid : List Symbol} {n : List ℕ} {before after : List (List ℕ)} → SoFar AreCharges start at before → at ≡ named n ∷ next → No (word KwEnd) next → next ≡ mark Semicolon ∷ mid → after ≡ before ++ n ∷ [] → SoFar AreCharges start mid after
 charges_more {start} {n} {before} {after} so f k g h = record {
-    reads = λ to more p. subst (AreCharges start to) (sym (one_more before after n more h)) (so.reads to (n ∷ more) (subst (λ z. AreCharges z to (n ∷ more)) (sym (f ∙ ap (λ z. named n ∷ z) g)) (more_charges p)));
-    none = λ m. so.none (λ to ns p. charges_left f k g m p refl) }
+  reads = λ to more p. subst (AreCharges start to) (sym (one_more before after n more h)) (so.reads to (n ∷ more) (subst (λ z. AreCharges z to (n ∷ more)) (sym (f ∙ ap (λ z. named n ∷ z) g)) (more_charges p)));
+  none = λ m. so.none (λ to ns p. charges_left f k g m p refl);
+}
 
 -- terms
 
@@ -107,8 +109,9 @@ terms_left p k g m (more_terms {to} {ts} q qs) =
 
 pub terms_more : {start at next mid : List Symbol} {t : Term} {before after : List Term} → SoFar AreTerms start at before → IsTerm at next t → No (mark Semicolon) next → next ≡ mark Bar ∷ mid → after ≡ before ++ t ∷ [] → SoFar AreTerms start mid after
 terms_more {start} {at} {t} {before} {after} so p k g h = record {
-    reads = λ to more q. subst (AreTerms start to) (sym (one_more before after t more h)) (so.reads to (t ∷ more) (more_terms (subst (λ z. IsTerm at z t) g p) q));
-    none = λ m. so.none (λ to ts q. terms_left p k g m q) }
+  reads = λ to more q. subst (AreTerms start to) (sym (one_more before after t more h)) (so.reads to (t ∷ more) (more_terms (subst (λ z. IsTerm at z t) g p) q));
+  none = λ m. so.none (λ to ts q. terms_left p k g m q);
+}
 
 -- measures up to a procedure
 
@@ -124,10 +127,11 @@ append_nothing : {T : Type 0} (xs : List T) → xs ++ [] ≡ xs
 append_nothing [] = refl
 append_nothing (x ∷ xs) = ap (λ z. x ∷ z) (append_nothing xs)
 
-pub all_measures_end : {start at : List Symbol} {before : List Measures} → MeasuresSoFar start at before → No (word KwMeasure) at → LeadsToProcedure start at before
-all_measures_end {start} {before} so m = record {
-    reads = λ to p q. subst (λ z. FromMeasures start to z p) (append_nothing before) (so.reads to [] p (no_measure q));
-    alone = λ to ns p q. let (more, r) = so.left to ns p q in without_measures r m }
+pub all_measures_end : {start at left : List Symbol} {before : List Measures} → MeasuresSoFar start at before → left ≡ at → No (word KwMeasure) at → LeadsToProcedure start left before
+all_measures_end {start} {before} so e m = record {
+  reads = λ to p q. subst (λ z. FromMeasures start to z p) (append_nothing before) (so.reads to [] p (no_measure (subst (λ z. IsProcedure z to p) e q)));
+  alone = λ to ns p q. let (more, r) = so.left to ns p q in subst (λ z. IsProcedure z to p) (sym e) (without_measures r m);
+}
 
 measures_left : {at at' mid next to : List Symbol} {m : Measures} {ms : List Measures} {p : Procedure} → at ≡ word KwMeasure ∷ mid → AreMeasures (word KwMeasure ∷ mid) next m → FromMeasures at' to ms p → at ≡ at' → (more : List Measures) × FromMeasures next to more p
 measures_left e r (no_measure q) f = absurd (procedure_apart q r (sym f ∙ e))
@@ -142,8 +146,9 @@ all_measures_none so e m to ms p q = let (more, r) = so.left to ms p q in no_mea
 
 pub all_measures_more : {start at mid next : List Symbol} {m : Measures} {before after : List Measures} → MeasuresSoFar start at before → at ≡ word KwMeasure ∷ mid → AreMeasures (word KwMeasure ∷ mid) next m → after ≡ before ++ m ∷ [] → MeasuresSoFar start next after
 all_measures_more {start} {next} {m} {before} {after} so e r h = record {
-    reads = λ to more p q. subst (λ z. FromMeasures start to z p) (sym (one_more before after m more h)) (so.reads to (m ∷ more) p (one_measure (subst (λ z. AreMeasures z next m) (sym e) r) q));
-    left = λ to all p q. let (more, s) = so.left to all p q in measures_left e r s refl }
+  reads = λ to more p q. subst (λ z. FromMeasures start to z p) (sym (one_more before after m more h)) (so.reads to (m ∷ more) p (one_measure (subst (λ z. AreMeasures z next m) (sym e) r) q));
+  left = λ to all p q. let (more, s) = so.left to all p q in measures_left e r s refl;
+}
 
 -- definitions up to measures and a procedure
 
@@ -155,10 +160,11 @@ without_definitions : {at to : List Symbol} {ds : List Definition} {ms : List Me
 without_definitions (no_definition p) m = p
 without_definitions (one_definition (definition q) qs) m = absurd (m _ refl)
 
-pub definitions_end : {start at : List Symbol} {before : List Definition} → DefinitionsSoFar start at before → No (word KwType) at → LeadsToMeasures start at before
-definitions_end {start} {before} so m = record {
-    reads = λ to ms p q. subst (λ z. FromDefinitions start to z ms p) (append_nothing before) (so.reads to [] ms p (no_definition q));
-    alone = λ to es ms p q. let (more, r) = so.left to es ms p q in without_definitions r m }
+pub definitions_end : {start at left : List Symbol} {before : List Definition} → DefinitionsSoFar start at before → left ≡ at → No (word KwType) at → LeadsToMeasures start left before
+definitions_end {start} {before} so e m = record {
+  reads = λ to ms p q. subst (λ z. FromDefinitions start to z ms p) (append_nothing before) (so.reads to [] ms p (no_definition (subst (λ z. FromMeasures z to ms p) e q)));
+  alone = λ to es ms p q. let (more, r) = so.left to es ms p q in subst (λ z. FromMeasures z to ms p) (sym e) (without_definitions r m);
+}
 
 definitions_left : {at at' mid next to : List Symbol} {d : Definition} {ds : List Definition} {ms : List Measures} {p : Procedure} → at ≡ word KwType ∷ mid → IsDefinition (word KwType ∷ mid) next d → FromDefinitions at' to ds ms p → at ≡ at' → (more : List Definition) × FromDefinitions next to more ms p
 definitions_left e r (no_definition q) f = absurd (definition_apart r q (sym e ∙ f))
@@ -174,5 +180,6 @@ definitions_none so e m to ds ms p q = let (more, r) = so.left to ds ms p q in n
 
 pub definitions_more : {start at mid next : List Symbol} {d : Definition} {before after : List Definition} → DefinitionsSoFar start at before → at ≡ word KwType ∷ mid → IsDefinition (word KwType ∷ mid) next d → after ≡ before ++ d ∷ [] → DefinitionsSoFar start next after
 definitions_more {start} {next} {d} {before} {after} so e r h = record {
-    reads = λ to more ms p q. subst (λ z. FromDefinitions start to z ms p) (sym (one_more before after d more h)) (so.reads to (d ∷ more) ms p (one_definition (subst (λ z. IsDefinition z next d) (sym e) r) q));
-    left = λ to all ms p q. let (more, s) = so.left to all ms p q in definitions_left e r s refl }
+  reads = λ to more ms p q. subst (λ z. FromDefinitions start to z ms p) (sym (one_more before after d more h)) (so.reads to (d ∷ more) ms p (one_definition (subst (λ z. IsDefinition z next d) (sym e) r) q));
+  left = λ to all ms p q. let (more, s) = so.left to all ms p q in definitions_left e r s refl;
+}

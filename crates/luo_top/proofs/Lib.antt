@@ -2,3 +2,4 @@ pub mod FirstOne
 pub mod FirstReads
 pub mod FirstSoFar
 pub mod FirstShorter
+pub mod FirstWhole

@@ -54,10 +54,7 @@ impl<'t> Cursor<'t> {
         requires { AllInside (length text.now) tokens.now }
         ensures { result ≡ token_symbols text.now tokens.now }
     {
-        Cursor {
-            text,
-            left: tokens,
-        }
+        Cursor { text, left: tokens }
     }
 
     /// Nothing is left.

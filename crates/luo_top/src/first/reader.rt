@@ -155,7 +155,11 @@ impl<'t> Cursor<'t> {
         let name = self.name_before(Mark::LeftRound, alloc)?;
         let parameter = self.name_before(Mark::Colon, alloc)?;
         let on = self.name_before(Mark::RightRound, alloc)?;
-        Ok(Heading { name, parameter, on })
+        Ok(Heading {
+            name,
+            parameter,
+            on,
+        })
     }
 
     fn charges(&mut self, alloc: Global) -> Result<Items<Text>, NotFirst>
@@ -200,7 +204,11 @@ impl<'t> Cursor<'t> {
         ensures none { IfErr result (λ f. OnNoFirst f (Nothing IsProcedure self.old)) }
     {
         self.expect_word(Word::KwProcedure)?;
-        let Heading { name, parameter, on } = self.heading(alloc)?;
+        let Heading {
+            name,
+            parameter,
+            on,
+        } = self.heading(alloc)?;
         let charges = self.block(alloc)?;
         Ok(Procedure {
             name,
