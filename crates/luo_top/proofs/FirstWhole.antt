@@ -3,7 +3,7 @@ use Rattle.std.proofs.Common.{◌≡◌, ℕ, ◌+◌, ◌<◌, ◌≤◌, List,
 use Rattle.luo_scan.specs.declared.token.Token.{Token}
 use Rattle.luo_scan.specs.Lexemes.{lexemes, lexemes_from}
 use Rattle.luo_top.specs.FirstSymbols.{symbols, token_symbol, token_symbols}
-use Rattle.luo_top.specs.FirstGrammar.{IsNoFirst}
+use Rattle.luo_top.specs.FirstGrammar.{IsOnlyFirst, IsNoFirst}
 use Rattle.luo_scan.specs.declared.token.Word.{Word}
 use Rattle.luo_scan.specs.declared.token.Word.TheVariants.{KwType, KwEpsilon, KwAtom, KwProduct, KwMeasure, KwProcedure, KwAnalyze, KwBegin, KwEnd}
 use Rattle.luo_scan.specs.declared.token.Mark.{Mark}
@@ -19,7 +19,7 @@ use Rattle.luo_top.specs.FirstSymbols.{Symbol, word, named, number, mark}
 use Rattle.luo_top.specs.FirstSteps.{No, NoName, NoNumber, NoNameBefore, NoNumberBefore, Nothing}
 use Rattle.luo_top.specs.FirstParts.{IsHeading, IsBlock, IsAnalysed, LeadsToProcedure, LeadsToMeasures, NoMeasures, NoDefinitions}
 use Rattle.luo_top.specs.FirstGrammar.{AreNames, last_name, more_names, IsTerm, a_name, an_epsilon, an_atom, a_product, AreTerms, last_term, more_terms, IsDefinition, definition, AreMeasures, measures, AreCharges, last_charge, more_charges, IsBody, no_charge, charges, IsProcedure, procedure, FromMeasures, no_measure, one_measure, FromDefinitions, no_definition, one_definition, IsFirstOf, first, IsFirst}
-use Rattle.luo_top.proofs.FirstOne.{names_one, term_one, terms_one, definition_one, measures_one, charges_one, charges_begin, body_one, procedure_one, procedure_apart, from_measures_one, definition_apart, from_definitions_one, first_one}
+use Rattle.luo_top.proofs.FirstOne.{names_one, term_one, terms_one, definition_one, measures_one, charges_one, charges_begin, body_one, procedure_one, procedure_apart, from_measures_one, definition_apart, from_definitions_one, first_one, first_text_one}
 
 whole_first : {from mid to : List Symbol} {ds : List Definition} {ms : List Measures} {p : Procedure} {n : List ℕ} → FromDefinitions from mid ds ms p → 0 < length ds → mid ≡ word KwAnalyze ∷ named n ∷ mark Semicolon ∷ to → IsFirstOf from to (record { definitions = ds; measures = ms; procedure = p; analysed = n })
 whole_first (no_definition q) a e = absurd (omega (arith, a))
@@ -66,6 +66,9 @@ whole_none text ts e m s p = m [] s (subst (λ z. IsFirstOf z [] s) (symbols_sam
 
 pub whole_left : (text : List ℕ) (ts : List Token) {from to : List Symbol} {s : FirstSource} → from ≡ token_symbols text ts → IsFirstOf from to s → (to ≡ [] → ⊥) → IsNoFirst (lexemes text ts)
 whole_left text ts e p m t q = m (first_one p q (e ∙ sym (symbols_same 0 text ts))).0
+
+pub whole_only : (text : List ℕ) (ts : List Token) {from to : List Symbol} {s : FirstSource} → from ≡ token_symbols text ts → IsFirstOf from to s → to ≡ [] → IsOnlyFirst (lexemes text ts) s
+whole_only text ts {s} e p f t q = first_text_one (lexemes text ts) t s q (whole_reads text ts e p f)
 
 pub some_symbols : (text : List ℕ) (ts : List Token) {ss : List Symbol} → token_symbols text ts ≡ ss → 1 ≤ length ts → ss ≡ [] → ⊥
 some_symbols text [] e a f = omega (arith, a)

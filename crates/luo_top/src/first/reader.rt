@@ -13,7 +13,7 @@ ghost use Rattle.luo_top.specs.FirstTokens.{AllInside};
 ghost use Rattle.luo_top.specs.FirstSymbols.{Symbol, word, named, number, mark};
 ghost use Rattle.luo_top.specs.FirstSteps.{OnNoFirst, Nothing};
 ghost use Rattle.luo_top.specs.FirstParts.{IsHeading, IsBlock, IsAnalysed, LeadsToProcedure, LeadsToMeasures, NoMeasures, NoDefinitions};
-ghost use Rattle.luo_top.specs.FirstGrammar.{AreNames, IsTerm, AreTerms, IsDefinition, AreMeasures, AreCharges, IsBody, IsProcedure, IsFirstOf, IsFirst, IsNoFirst};
+ghost use Rattle.luo_top.specs.FirstGrammar.{AreNames, IsTerm, AreTerms, IsDefinition, AreMeasures, AreCharges, IsBody, IsProcedure, IsFirstOf, IsFirst, IsOnlyFirst, IsNoFirst};
 
 use super::cursor::{Cursor, NotFirst};
 use super::source::{Definition, FirstSource, Measures, Procedure, Term};
@@ -252,6 +252,7 @@ impl<'t> Cursor<'t> {
 pub fn read_first(alloc: Global, text: &[u8], tokens: &[Token]) -> Result<FirstSource, NotFirst>
     requires inside { AllInside (length text.now) tokens.now }
     ensures ok { IfOk result (λ s. IsFirst (lexemes text.now tokens.now) s) }
+    ensures only { IfOk result (λ s. IsOnlyFirst (lexemes text.now tokens.now) s) }
     ensures none { IfErr result (λ f. OnNoFirst f (IsNoFirst (lexemes text.now tokens.now))) }
 {
     let mut cursor = Cursor::new(text, tokens);
