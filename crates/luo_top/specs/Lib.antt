@@ -1,4 +1,3 @@
-pub mod FirstTokens
 pub mod FirstSymbols
 pub mod FirstGrammar
 pub mod FirstSteps

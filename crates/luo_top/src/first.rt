@@ -7,3 +7,6 @@ mod source;
 pub use cursor::NotFirst;
 pub use reader::read_first;
 pub use source::{Definition, FirstSource, Measures, Procedure, Term};
+
+#[cfg(test)]
+mod tests;

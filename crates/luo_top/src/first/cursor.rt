@@ -2,7 +2,7 @@
 #![tactic(auto)]
 
 ghost use Rattle.std.specs.Prelude.{◌≡◌, ◌∷◌, [], List, ℕ, length, IfOk, IfErr, OnOk};
-ghost use Rattle.luo_top.specs.FirstTokens.{AllInside};
+ghost use Rattle.luo_scan.specs.Faults.{AllInside};
 ghost use Rattle.luo_top.specs.FirstSymbols.{Symbol, word, named, number, mark, token_symbols};
 ghost use Rattle.luo_top.specs.FirstSteps.{No, NoName, NoNumber, NoNameBefore, NoNumberBefore, OnNoFirst, Takes, Ends};
 
@@ -40,7 +40,7 @@ pub struct Cursor<'t> {
 impl<'t> Model for Cursor<'t> {
     ghost use Rattle.std.specs.Prelude.{List, length};
     ghost use Rattle.luo_top.specs.FirstSymbols.{Symbol, token_symbols};
-    ghost use Rattle.luo_top.specs.FirstTokens.{AllInside};
+    ghost use Rattle.luo_scan.specs.Faults.{AllInside};
 
     ghost Value = { List Symbol };
 

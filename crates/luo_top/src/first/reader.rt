@@ -9,7 +9,7 @@ ghost use Rattle.luo_top.specs.declared.first.source.Term.TheVariants.{Atom, Pro
 ghost use Rattle.luo_top.specs.declared.first.source.Definition.{Definition};
 ghost use Rattle.luo_top.specs.declared.first.source.Measures.{Measures};
 ghost use Rattle.luo_top.specs.declared.first.source.Procedure.{Procedure};
-ghost use Rattle.luo_top.specs.FirstTokens.{AllInside};
+ghost use Rattle.luo_scan.specs.Faults.{AllInside};
 ghost use Rattle.luo_top.specs.FirstSymbols.{Symbol, word, named, number, mark};
 ghost use Rattle.luo_top.specs.FirstSteps.{OnNoFirst, Nothing};
 ghost use Rattle.luo_top.specs.FirstParts.{IsHeading, IsBlock, IsAnalysed, LeadsToProcedure, LeadsToMeasures, NoMeasures, NoDefinitions};
