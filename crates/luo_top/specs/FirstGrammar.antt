@@ -1,5 +1,5 @@
 -- The grammar of first texts. Each relation goes from the symbols at hand to those that are left.
-use Rattle.std.specs.Prelude.{ℕ, List, [], ◌∷◌}
+use Rattle.std.specs.Prelude.{◌≡◌, ℕ, List, [], ◌∷◌}
 use Rattle.luo_scan.specs.declared.token.Word.TheVariants.{KwType, KwEpsilon, KwAtom, KwProduct, KwMeasure, KwProcedure, KwAnalyze, KwBegin, KwEnd}
 use Rattle.luo_scan.specs.declared.token.Mark.{Mark}
 use Rattle.luo_scan.specs.declared.token.Mark.TheVariants.{Semicolon, Comma, Equals, Bar, LeftRound, RightRound, Colon}
@@ -70,6 +70,10 @@ pub data IsFirstOf : List Symbol → List Symbol → FirstSource → Type 0 wher
 -- these lexemes, all of them, are a first text that says this
 abbrev pub IsFirst : List Lexeme → FirstSource → Type 0
 IsFirst ls s = IsFirstOf (symbols ls) [] s
+
+-- a first text of these lexemes says nothing else
+abbrev pub IsOnlyFirst : List Lexeme → FirstSource → Type 0
+IsOnlyFirst ls s = (t : FirstSource) → IsFirst ls t → t ≡ s
 
 -- these lexemes are no first text
 abbrev pub IsNoFirst : List Lexeme → Type 0

@@ -4,6 +4,8 @@ pub mod Exit
 pub mod First
 pub mod FirstCore
 pub mod FirstGrammar
+pub mod FirstParts
+pub mod FirstSteps
 pub mod FirstSymbols
 pub mod Outcome
 pub mod Plain

@@ -1,0 +1,44 @@
+-- What is read takes symbols.
+use Rattle.std.proofs.Common.{◌≡◌, ℕ, ◌<◌, ◌≤◌, List, [], ◌∷◌, length, arith}
+use Rattle.luo_scan.specs.declared.token.Word.{Word}
+use Rattle.luo_scan.specs.declared.token.Word.TheVariants.{KwType, KwEpsilon, KwAtom, KwProduct, KwMeasure, KwProcedure, KwAnalyze, KwBegin, KwEnd}
+use Rattle.luo_scan.specs.declared.token.Mark.{Mark}
+use Rattle.luo_scan.specs.declared.token.Mark.TheVariants.{Semicolon, Comma, Equals, Bar, LeftRound, RightRound, Colon}
+use Rattle.luo_top.specs.declared.first.reader.Heading.{Heading}
+use Rattle.luo_top.specs.declared.first.source.Term.{Term}
+use Rattle.luo_top.specs.declared.first.source.Term.TheVariants.{Named, Epsilon, Atom, Product}
+use Rattle.luo_top.specs.declared.first.source.Definition.{Definition}
+use Rattle.luo_top.specs.declared.first.source.Measures.{Measures}
+use Rattle.luo_top.specs.declared.first.source.Procedure.{Procedure}
+use Rattle.luo_top.specs.declared.first.source.FirstSource.{FirstSource}
+use Rattle.luo_top.specs.FirstSymbols.{Symbol, word, named, number, mark}
+use Rattle.luo_top.specs.FirstSteps.{No, NoName, NoNumber, NoNameBefore, NoNumberBefore, Nothing}
+use Rattle.luo_top.specs.FirstParts.{IsHeading, IsBlock, IsAnalysed, LeadsToProcedure, LeadsToMeasures, NoMeasures, NoDefinitions}
+use Rattle.luo_top.specs.FirstGrammar.{AreNames, last_name, more_names, IsTerm, a_name, an_epsilon, an_atom, a_product, AreTerms, last_term, more_terms, IsDefinition, definition, AreMeasures, measures, AreCharges, last_charge, more_charges, IsBody, no_charge, charges, IsProcedure, procedure, FromMeasures, no_measure, one_measure, FromDefinitions, no_definition, one_definition, IsFirstOf, first, IsFirst}
+use Rattle.luo_top.proofs.FirstOne.{names_one, term_one, terms_one, definition_one, measures_one, charges_one, charges_begin, body_one, procedure_one, procedure_apart, from_measures_one, definition_apart, from_definitions_one, first_one}
+
+names_shorter : {b : Mark} {from to : List Symbol} {ns : List (List ℕ)} → AreNames b from to ns → length to < length from
+names_shorter last_name = omega arith
+names_shorter (more_names p) = let a = names_shorter p in omega (arith, a)
+
+pub term_shorter : {from to : List Symbol} {t : Term} → IsTerm from to t → length to < length from
+term_shorter a_name = omega arith
+term_shorter an_epsilon = omega arith
+term_shorter an_atom = omega arith
+term_shorter (a_product p) = let a = names_shorter p in omega (arith, a)
+
+terms_shorter : {from to : List Symbol} {ts : List Term} → AreTerms from to ts → length to < length from
+terms_shorter (last_term p) = let a = term_shorter p in omega (arith, a)
+terms_shorter (more_terms p q) = let a = term_shorter p in let b = terms_shorter q in omega (arith, a, b)
+
+whole_definition_shorter : {from to : List Symbol} {d : Definition} → IsDefinition from to d → length to < length from
+whole_definition_shorter (definition p) = let a = terms_shorter p in omega (arith, a)
+
+whole_measures_shorter : {from to : List Symbol} {m : Measures} → AreMeasures from to m → length to < length from
+whole_measures_shorter (measures p) = let a = names_shorter p in omega (arith, a)
+
+pub definition_shorter : {mid to : List Symbol} {d : Definition} → IsDefinition (word KwType ∷ mid) to d → length to ≤ length mid
+definition_shorter p = let a = whole_definition_shorter p in omega (arith, a)
+
+pub measures_shorter : {mid to : List Symbol} {m : Measures} → AreMeasures (word KwMeasure ∷ mid) to m → length to ≤ length mid
+measures_shorter p = let a = whole_measures_shorter p in omega (arith, a)
