@@ -1,5 +1,6 @@
 pub mod Complete
 pub mod Digits
+pub mod FirstNumbers
 pub mod FirstOne
 pub mod FirstReads
 pub mod FirstShorter
