@@ -19,3 +19,6 @@ pub use mem_sink::MemSink;
 pub use reading::{TEXT_LIMIT, read_all};
 pub use sending::send;
 pub use traits::{Files, Sink};
+
+#[cfg(test)]
+mod tests;

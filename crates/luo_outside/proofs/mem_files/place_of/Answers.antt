@@ -1,5 +1,5 @@
-use Rattle.std.proofs.Common.{arith, sym, ◌∙◌, ap}
-use Rattle.luo_outside.proofs.Content.{found_here, not_here}
+use Rattle.std.proofs.Common.{arith, sym, ◌∙◌}
+use Rattle.luo_outside.proofs.Content.{found_here}
 use Rattle.luo_outside.proofs.mem_files.place_of.Goals as goal
 
 pub returns-then-eq : goal.returns-then-eq

@@ -1,5 +1,5 @@
-use Rattle.std.proofs.Common.{◌≡◌, [], ℕ, List, ◌++◌, ◌+◌, ◌<◌, ◌≤◌, length, length-append, arith, ap, ◌∙◌, sym}
-use Rattle.luo_outside.proofs.Sent.{Sent, sent_more}
+use Rattle.std.proofs.Common.{◌≡◌, [], ℕ, List, ◌++◌, ◌<◌, length, length-append, arith, ap, ◌∙◌, sym}
+use Rattle.luo_outside.proofs.Sent.{sent_more}
 use Rattle.luo_outside.proofs.sending.send.Goals as goal
 
 -- nothing to send has no rest

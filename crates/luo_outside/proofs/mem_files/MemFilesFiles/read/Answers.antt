@@ -1,4 +1,4 @@
-use Rattle.std.proofs.Common.{arith, ◌≡◌, List, ℕ, ◌++◌, take, drop, length, ◌∙◌, take_at, length-take}
+use Rattle.std.proofs.Common.{arith, ◌≡◌, ◌++◌, take, drop, length, ◌∙◌, take_at}
 use Rattle.std.proofs.lemmas.Grind.{common_steps}
 use Rattle.luo_outside.proofs.Content.{read_front}
 use Rattle.luo_outside.proofs.mem_files.MemFilesFiles.read.Goals as goal
