@@ -1,5 +1,5 @@
 -- What is read is read in one way.
-use Rattle.std.proofs.Common.{◌≡◌, ℕ, List, [], ◌∷◌, refl, ap, sym, ◌∙◌}
+use Rattle.std.proofs.Common.{◌≡◌, ℕ, List, ◌∷◌, refl, sym}
 use Rattle.luo_scan.specs.declared.token.Mark.{Mark}
 use Rattle.luo_scan.specs.declared.token.Mark.TheVariants.{Comma}
 use Rattle.luo_scan.specs.Lexemes.{Lexeme}
@@ -8,7 +8,7 @@ use Rattle.luo_top.specs.declared.first.source.Definition.{Definition}
 use Rattle.luo_top.specs.declared.first.source.Measures.{Measures}
 use Rattle.luo_top.specs.declared.first.source.Procedure.{Procedure}
 use Rattle.luo_top.specs.declared.first.source.FirstSource.{FirstSource}
-use Rattle.luo_top.specs.FirstSymbols.{Symbol, word, named, number, mark}
+use Rattle.luo_top.specs.FirstSymbols.{Symbol, named}
 use Rattle.luo_top.specs.FirstGrammar.{AreNames, last_name, more_names, IsTerm, a_name, an_epsilon, an_atom, a_product, AreTerms, last_term, more_terms, IsDefinition, definition, AreMeasures, measures, AreCharges, last_charge, more_charges, IsBody, no_charge, charges, IsProcedure, procedure, FromMeasures, no_measure, one_measure, FromDefinitions, no_definition, one_definition, IsFirstOf, first, IsFirst}
 
 pub names_one : {b : Mark} {from from' to to' : List Symbol} {ns ms : List (List ℕ)} → (b ≡ Comma → ⊥) → AreNames b from to ns → AreNames b from' to' ms → from ≡ from' → (to ≡ to') × (ns ≡ ms)

@@ -1,21 +1,12 @@
 -- What is read takes symbols.
-use Rattle.std.proofs.Common.{◌≡◌, ℕ, ◌<◌, ◌≤◌, List, [], ◌∷◌, length, arith}
-use Rattle.luo_scan.specs.declared.token.Word.{Word}
-use Rattle.luo_scan.specs.declared.token.Word.TheVariants.{KwType, KwEpsilon, KwAtom, KwProduct, KwMeasure, KwProcedure, KwAnalyze, KwBegin, KwEnd}
+use Rattle.std.proofs.Common.{ℕ, ◌<◌, ◌≤◌, List, ◌∷◌, length, arith}
+use Rattle.luo_scan.specs.declared.token.Word.TheVariants.{KwType, KwMeasure}
 use Rattle.luo_scan.specs.declared.token.Mark.{Mark}
-use Rattle.luo_scan.specs.declared.token.Mark.TheVariants.{Semicolon, Comma, Equals, Bar, LeftRound, RightRound, Colon}
-use Rattle.luo_top.specs.declared.first.reader.Heading.{Heading}
 use Rattle.luo_top.specs.declared.first.source.Term.{Term}
-use Rattle.luo_top.specs.declared.first.source.Term.TheVariants.{Named, Epsilon, Atom, Product}
 use Rattle.luo_top.specs.declared.first.source.Definition.{Definition}
 use Rattle.luo_top.specs.declared.first.source.Measures.{Measures}
-use Rattle.luo_top.specs.declared.first.source.Procedure.{Procedure}
-use Rattle.luo_top.specs.declared.first.source.FirstSource.{FirstSource}
-use Rattle.luo_top.specs.FirstSymbols.{Symbol, word, named, number, mark}
-use Rattle.luo_top.specs.FirstSteps.{No, NoName, NoNumber, NoNameBefore, NoNumberBefore, Nothing}
-use Rattle.luo_top.specs.FirstParts.{IsHeading, IsBlock, IsAnalysed, LeadsToProcedure, LeadsToMeasures, NoMeasures, NoDefinitions}
-use Rattle.luo_top.specs.FirstGrammar.{AreNames, last_name, more_names, IsTerm, a_name, an_epsilon, an_atom, a_product, AreTerms, last_term, more_terms, IsDefinition, definition, AreMeasures, measures, AreCharges, last_charge, more_charges, IsBody, no_charge, charges, IsProcedure, procedure, FromMeasures, no_measure, one_measure, FromDefinitions, no_definition, one_definition, IsFirstOf, first, IsFirst}
-use Rattle.luo_top.proofs.FirstOne.{names_one, term_one, terms_one, definition_one, measures_one, charges_one, charges_begin, body_one, procedure_one, procedure_apart, from_measures_one, definition_apart, from_definitions_one, first_one}
+use Rattle.luo_top.specs.FirstSymbols.{Symbol, word}
+use Rattle.luo_top.specs.FirstGrammar.{AreNames, last_name, more_names, IsTerm, a_name, an_epsilon, an_atom, a_product, AreTerms, last_term, more_terms, IsDefinition, definition, AreMeasures, measures}
 
 names_shorter : {b : Mark} {from to : List Symbol} {ns : List (List ℕ)} → AreNames b from to ns → length to < length from
 names_shorter last_name = omega arith

@@ -1,21 +1,17 @@
 -- Lists that are read piece by piece.
-use Rattle.std.proofs.Common.{◌≡◌, ℕ, ◌<◌, ◌≤◌, List, [], ◌∷◌, ◌++◌, length, refl, ap, sym, ◌∙◌, subst, arith, append_assoc}
-use Rattle.luo_scan.specs.declared.token.Word.{Word}
-use Rattle.luo_scan.specs.declared.token.Word.TheVariants.{KwType, KwEpsilon, KwAtom, KwProduct, KwMeasure, KwProcedure, KwAnalyze, KwBegin, KwEnd}
+use Rattle.std.proofs.Common.{◌≡◌, ℕ, List, [], ◌∷◌, ◌++◌, refl, ap, sym, ◌∙◌, subst, append_assoc}
+use Rattle.luo_scan.specs.declared.token.Word.TheVariants.{KwType, KwMeasure, KwEnd}
 use Rattle.luo_scan.specs.declared.token.Mark.{Mark}
-use Rattle.luo_scan.specs.declared.token.Mark.TheVariants.{Semicolon, Comma, Equals, Bar, LeftRound, RightRound, Colon}
-use Rattle.luo_top.specs.declared.first.reader.Heading.{Heading}
+use Rattle.luo_scan.specs.declared.token.Mark.TheVariants.{Semicolon, Comma, Bar}
 use Rattle.luo_top.specs.declared.first.source.Term.{Term}
-use Rattle.luo_top.specs.declared.first.source.Term.TheVariants.{Named, Epsilon, Atom, Product}
 use Rattle.luo_top.specs.declared.first.source.Definition.{Definition}
 use Rattle.luo_top.specs.declared.first.source.Measures.{Measures}
 use Rattle.luo_top.specs.declared.first.source.Procedure.{Procedure}
-use Rattle.luo_top.specs.declared.first.source.FirstSource.{FirstSource}
-use Rattle.luo_top.specs.FirstSymbols.{Symbol, word, named, number, mark}
-use Rattle.luo_top.specs.FirstSteps.{No, NoName, NoNumber, NoNameBefore, NoNumberBefore, Nothing}
-use Rattle.luo_top.specs.FirstParts.{IsHeading, IsBlock, IsAnalysed, LeadsToProcedure, LeadsToMeasures, NoMeasures, NoDefinitions}
-use Rattle.luo_top.specs.FirstGrammar.{AreNames, last_name, more_names, IsTerm, a_name, an_epsilon, an_atom, a_product, AreTerms, last_term, more_terms, IsDefinition, definition, AreMeasures, measures, AreCharges, last_charge, more_charges, IsBody, no_charge, charges, IsProcedure, procedure, FromMeasures, no_measure, one_measure, FromDefinitions, no_definition, one_definition, IsFirstOf, first, IsFirst}
-use Rattle.luo_top.proofs.FirstOne.{names_one, term_one, terms_one, definition_one, measures_one, charges_one, charges_begin, body_one, procedure_one, procedure_apart, from_measures_one, definition_apart, from_definitions_one, first_one}
+use Rattle.luo_top.specs.FirstSymbols.{Symbol, word, named, mark}
+use Rattle.luo_top.specs.FirstSteps.{No, NoName, Nothing}
+use Rattle.luo_top.specs.FirstParts.{LeadsToProcedure, LeadsToMeasures, NoMeasures, NoDefinitions}
+use Rattle.luo_top.specs.FirstGrammar.{AreNames, last_name, more_names, IsTerm, AreTerms, last_term, more_terms, IsDefinition, definition, AreMeasures, measures, AreCharges, last_charge, more_charges, IsProcedure, procedure, FromMeasures, no_measure, one_measure, FromDefinitions, no_definition, one_definition}
+use Rattle.luo_top.proofs.FirstOne.{term_one, definition_one, measures_one, charges_begin, procedure_apart, definition_apart}
 
 one_more : {A : Type 0} (before after : List A) (t : A) (more : List A) → after ≡ before ++ t ∷ [] → after ++ more ≡ before ++ t ∷ more
 one_more before after t more e = ap (λ z. z ++ more) e ∙ append_assoc before (t ∷ []) more

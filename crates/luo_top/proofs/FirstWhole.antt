@@ -4,22 +4,17 @@ use Rattle.luo_scan.specs.declared.token.Token.{Token}
 use Rattle.luo_scan.specs.Lexemes.{lexemes, lexemes_from}
 use Rattle.luo_top.specs.FirstSymbols.{symbols, token_symbol, token_symbols}
 use Rattle.luo_top.specs.FirstGrammar.{IsOnlyFirst, IsNoFirst}
-use Rattle.luo_scan.specs.declared.token.Word.{Word}
-use Rattle.luo_scan.specs.declared.token.Word.TheVariants.{KwType, KwEpsilon, KwAtom, KwProduct, KwMeasure, KwProcedure, KwAnalyze, KwBegin, KwEnd}
-use Rattle.luo_scan.specs.declared.token.Mark.{Mark}
-use Rattle.luo_scan.specs.declared.token.Mark.TheVariants.{Semicolon, Comma, Equals, Bar, LeftRound, RightRound, Colon}
-use Rattle.luo_top.specs.declared.first.reader.Heading.{Heading}
-use Rattle.luo_top.specs.declared.first.source.Term.{Term}
-use Rattle.luo_top.specs.declared.first.source.Term.TheVariants.{Named, Epsilon, Atom, Product}
+use Rattle.luo_scan.specs.declared.token.Word.TheVariants.{KwAnalyze}
+use Rattle.luo_scan.specs.declared.token.Mark.TheVariants.{Semicolon}
 use Rattle.luo_top.specs.declared.first.source.Definition.{Definition}
 use Rattle.luo_top.specs.declared.first.source.Measures.{Measures}
 use Rattle.luo_top.specs.declared.first.source.Procedure.{Procedure}
 use Rattle.luo_top.specs.declared.first.source.FirstSource.{FirstSource}
-use Rattle.luo_top.specs.FirstSymbols.{Symbol, word, named, number, mark}
-use Rattle.luo_top.specs.FirstSteps.{No, NoName, NoNumber, NoNameBefore, NoNumberBefore, Nothing}
-use Rattle.luo_top.specs.FirstParts.{IsHeading, IsBlock, IsAnalysed, LeadsToProcedure, LeadsToMeasures, NoMeasures, NoDefinitions}
-use Rattle.luo_top.specs.FirstGrammar.{AreNames, last_name, more_names, IsTerm, a_name, an_epsilon, an_atom, a_product, AreTerms, last_term, more_terms, IsDefinition, definition, AreMeasures, measures, AreCharges, last_charge, more_charges, IsBody, no_charge, charges, IsProcedure, procedure, FromMeasures, no_measure, one_measure, FromDefinitions, no_definition, one_definition, IsFirstOf, first, IsFirst}
-use Rattle.luo_top.proofs.FirstOne.{names_one, term_one, terms_one, definition_one, measures_one, charges_one, charges_begin, body_one, procedure_one, procedure_apart, from_measures_one, definition_apart, from_definitions_one, first_one, first_text_one}
+use Rattle.luo_top.specs.FirstSymbols.{Symbol, word, named, mark}
+use Rattle.luo_top.specs.FirstSteps.{Nothing}
+use Rattle.luo_top.specs.FirstParts.{IsAnalysed, LeadsToProcedure, LeadsToMeasures, NoMeasures, NoDefinitions}
+use Rattle.luo_top.specs.FirstGrammar.{IsProcedure, FromDefinitions, no_definition, one_definition, IsFirstOf, first, IsFirst}
+use Rattle.luo_top.proofs.FirstOne.{procedure_one, from_definitions_one, first_one, first_text_one}
 
 whole_first : {from mid to : List Symbol} {ds : List Definition} {ms : List Measures} {p : Procedure} {n : List ℕ} → FromDefinitions from mid ds ms p → 0 < length ds → mid ≡ word KwAnalyze ∷ named n ∷ mark Semicolon ∷ to → IsFirstOf from to (record { definitions = ds; measures = ms; procedure = p; analysed = n })
 whole_first (no_definition q) a e = absurd (omega (arith, a))

@@ -1,5 +1,5 @@
 -- Parts of the grammar of first texts that are read one after another.
-use Rattle.std.specs.Prelude.{◌≡◌, ℕ, List, [], ◌∷◌}
+use Rattle.std.specs.Prelude.{◌≡◌, ℕ, List, ◌∷◌}
 use Rattle.luo_scan.specs.declared.token.Word.TheVariants.{KwAnalyze}
 use Rattle.luo_scan.specs.declared.token.Mark.TheVariants.{Semicolon, LeftRound, RightRound, Colon}
 use Rattle.luo_top.specs.declared.first.reader.Heading.{Heading}

@@ -1,11 +1,8 @@
-use Rattle.std.proofs.Common.{rules, arith, ◌≡◌, ◌∷◌, [], List, ℕ, length, ap, sym, ◌∙◌, subst}
 use Rattle.std.proofs.lemmas.Result.{err_from_is_err_and}
-use Rattle.luo_scan.specs.declared.token.Word.TheVariants.{KwType, KwAtom, KwProduct, KwMeasure, KwProcedure, KwEnd}
-use Rattle.luo_scan.specs.declared.token.Mark.TheVariants.{Semicolon, Comma, Equals, Bar, LeftRound, RightRound, Colon}
-use Rattle.luo_top.specs.FirstSymbols.{Symbol, word, named, number, mark}
-use Rattle.luo_top.specs.FirstSteps.{No, NoName, Nothing}
-use Rattle.luo_top.specs.FirstParts.{IsHeading, IsBlock, IsAnalysed, NoMeasures, NoDefinitions}
-use Rattle.luo_top.specs.FirstGrammar.{AreNames, IsTerm, AreTerms, IsDefinition, AreMeasures, AreCharges, IsBody, IsProcedure, IsFirstOf, IsFirst, IsNoFirst}
+use Rattle.luo_scan.specs.declared.token.Mark.TheVariants.{Semicolon}
+use Rattle.luo_top.specs.FirstSymbols.{mark}
+use Rattle.luo_top.specs.FirstSteps.{No, Nothing}
+use Rattle.luo_top.specs.FirstParts.{IsBlock}
 use Rattle.luo_top.proofs.FirstReads.{no_block_end}
 use Rattle.luo_top.proofs.first.cursor.Cursor.block.Goals as goal
 

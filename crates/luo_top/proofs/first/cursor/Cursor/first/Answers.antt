@@ -1,10 +1,7 @@
-use Rattle.std.proofs.Common.{rules, arith, ◌≡◌, ◌∷◌, [], List, ℕ, length, ap, sym, ◌∙◌, subst}
-use Rattle.luo_scan.specs.declared.token.Word.TheVariants.{KwType, KwAtom, KwProduct, KwMeasure, KwProcedure, KwEnd}
-use Rattle.luo_scan.specs.declared.token.Mark.TheVariants.{Semicolon, Comma, Equals, Bar, LeftRound, RightRound, Colon}
-use Rattle.luo_top.specs.FirstSymbols.{Symbol, word, named, number, mark}
-use Rattle.luo_top.specs.FirstSteps.{No, NoName, Nothing}
-use Rattle.luo_top.specs.FirstParts.{IsHeading, IsBlock, IsAnalysed, NoMeasures, NoDefinitions}
-use Rattle.luo_top.specs.FirstGrammar.{AreNames, IsTerm, AreTerms, IsDefinition, AreMeasures, AreCharges, IsBody, IsProcedure, IsFirstOf, IsFirst, IsNoFirst}
+use Rattle.std.proofs.Common.{rules, arith}
+use Rattle.luo_top.specs.FirstSteps.{Nothing}
+use Rattle.luo_top.specs.FirstParts.{IsAnalysed, NoMeasures, NoDefinitions}
+use Rattle.luo_top.specs.FirstGrammar.{IsProcedure, IsFirstOf}
 use Rattle.luo_top.proofs.FirstWhole.{no_first_definitions, no_first_empty, no_first_measures, no_first_procedure, no_first_analysed, reads_first}
 use Rattle.luo_top.proofs.first.cursor.Cursor.first.Goals as goal
 

@@ -1,10 +1,9 @@
-use Rattle.std.proofs.Common.{rules, arith, ◌≡◌, ◌∷◌, [], List, ℕ, length, ap, sym, ◌∙◌, subst}
-use Rattle.luo_scan.specs.declared.token.Word.TheVariants.{KwType, KwAtom, KwProduct, KwMeasure, KwProcedure, KwEnd}
-use Rattle.luo_scan.specs.declared.token.Mark.TheVariants.{Semicolon, Comma, Equals, Bar, LeftRound, RightRound, Colon}
-use Rattle.luo_top.specs.FirstSymbols.{Symbol, word, named, number, mark}
-use Rattle.luo_top.specs.FirstSteps.{No, NoName, Nothing}
-use Rattle.luo_top.specs.FirstParts.{IsHeading, IsBlock, IsAnalysed, NoMeasures, NoDefinitions}
-use Rattle.luo_top.specs.FirstGrammar.{AreNames, IsTerm, AreTerms, IsDefinition, AreMeasures, AreCharges, IsBody, IsProcedure, IsFirstOf, IsFirst, IsNoFirst}
+use Rattle.std.proofs.Common.{rules, ◌∷◌}
+use Rattle.luo_scan.specs.declared.token.Word.TheVariants.{KwProduct}
+use Rattle.luo_scan.specs.declared.token.Mark.TheVariants.{RightRound}
+use Rattle.luo_top.specs.FirstSymbols.{word}
+use Rattle.luo_top.specs.FirstSteps.{Nothing}
+use Rattle.luo_top.specs.FirstGrammar.{AreNames, IsTerm}
 use Rattle.luo_top.proofs.FirstReads.{no_product_names}
 use Rattle.luo_top.proofs.first.cursor.Cursor.product.Goals as goal
 

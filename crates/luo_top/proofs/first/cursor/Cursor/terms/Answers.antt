@@ -1,10 +1,8 @@
-use Rattle.std.proofs.Common.{rules, arith, ◌≡◌, ◌∷◌, [], List, ℕ, length, ap, sym, ◌∙◌, subst}
-use Rattle.luo_scan.specs.declared.token.Word.TheVariants.{KwType, KwAtom, KwProduct, KwMeasure, KwProcedure, KwEnd}
-use Rattle.luo_scan.specs.declared.token.Mark.TheVariants.{Semicolon, Comma, Equals, Bar, LeftRound, RightRound, Colon}
-use Rattle.luo_top.specs.FirstSymbols.{Symbol, word, named, number, mark}
-use Rattle.luo_top.specs.FirstSteps.{No, NoName, Nothing}
-use Rattle.luo_top.specs.FirstParts.{IsHeading, IsBlock, IsAnalysed, NoMeasures, NoDefinitions}
-use Rattle.luo_top.specs.FirstGrammar.{AreNames, IsTerm, AreTerms, IsDefinition, AreMeasures, AreCharges, IsBody, IsProcedure, IsFirstOf, IsFirst, IsNoFirst}
+use Rattle.std.proofs.Common.{rules, arith, length, ap, sym, ◌∙◌, subst}
+use Rattle.luo_scan.specs.declared.token.Mark.TheVariants.{Bar}
+use Rattle.luo_top.specs.FirstSymbols.{mark}
+use Rattle.luo_top.specs.FirstSteps.{No, Nothing}
+use Rattle.luo_top.specs.FirstGrammar.{AreTerms}
 use Rattle.luo_top.proofs.FirstShorter.{term_shorter}
 use Rattle.luo_top.proofs.FirstSoFar.{terms_end, terms_more, terms_none_behind}
 use Rattle.luo_top.proofs.first.cursor.Cursor.terms.Goals as goal
