@@ -2,3 +2,4 @@
 #![tactic(auto)]
 
 mod first;
+pub mod tables;

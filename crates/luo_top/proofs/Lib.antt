@@ -1,0 +1,2 @@
+pub mod MarkedColumns
+pub mod TreeCounts

@@ -1,0 +1,39 @@
+// The rows of the analyze lines.
+ghost use Rattle.std.specs.Prelude.{◌≡◌, ◌<◌, ◌≤◌, ◌+◌, ℕ, List, length, IfOk};
+ghost use Rattle.luo_model.specs.View.{plain_of};
+ghost use Rattle.luo_top.specs.Plain.{IsPlain};
+ghost use Rattle.luo_top.specs.Report.{IsPast, AreTables};
+ghost use Rattle.luo_top.specs.Tables.{AreColumns, AreRowsOf};
+
+use luo_model::{Program, Row};
+use luo_num::{Items, NoMemory, marked_mul};
+use std::alloc::Global;
+
+/// The rows of a procedure that charges `own`, from its node's column.
+fn rows_of(alloc: Global, own: u128, column: &[u128], sizes: u32) -> Result<Items<Row>, NoMemory>
+    requires { length column.now ≡ sizes }
+    ensures { IfOk result (AreRowsOf own column.now sizes) }
+{
+    let mut rows = Items::new(alloc);
+    for n in 0..sizes {
+        let count = column[n as usize];
+        rows.push(Row { n, count, total: marked_mul(own, count) })?;
+    }
+    Ok(rows)
+}
+
+/// The rows of each analyze line, where no number is past the last one.
+pub fn all_rows(alloc: Global, program: &Program, columns: &[Items<u128>], last: u32) -> Result<Items<Items<Row>>, NoMemory>
+    requires plain { IsPlain (plain_of program.now) }
+    requires size { last ≤ 160 }
+    requires columns { AreColumns (plain_of program.now) (last + 1) columns.now }
+    requires within { IsPast (plain_of program.now) last → ⊥ }
+    ensures { IfOk result (AreTables (plain_of program.now) last program.now.analyses) }
+{
+    let mut all = Items::new(alloc);
+    for f in program.analyses.as_slice() {
+        let procedure = &program.procs.as_slice()[*f];
+        all.push(rows_of(alloc, procedure.body.own, columns[procedure.on.node].as_slice(), last + 1)?)?;
+    }
+    Ok(all)
+}
