@@ -9,3 +9,4 @@ pub mod Totals
 pub mod Pairs
 pub mod Steps
 pub mod Pairwise
+pub mod Shares

@@ -4,7 +4,7 @@ use Rattle.std.proofs.lemmas.List.Sums.{sum_by-cons}
 use Rattle.std.proofs.Math.Nat.{add-mul, mul-add, mul-zero, zero-mul}
 use Rattle.luo_finite.specs.Listing.{In, NoDouble, Lists, Counts, Sums}
 use Rattle.luo_finite.specs.Range.{below, sum_below}
-use Rattle.luo_finite.proofs.Sums.{Sums-at, Sums-over, Counts-from}
+use Rattle.luo_finite.proofs.Sums.{Sums-at, Sums-iff, Sums-over, Counts-from}
 
 last_or_before : (k n : ℕ) → k < suc n → (k ≡ n) ⊎ (k < n)
 last_or_before k n h = grind arith
@@ -43,6 +43,12 @@ pub Sums-over_below : {A : Type 0} (Q : ℕ → A → Type 0) (w : A → ℕ) (t
 Sums-over_below Q w t n one s =
     subst (Sums (λ x. (i : ℕ) × In i (below n) × Q i x) w) (sum_by-below t n)
     (Sums-over Q w t (below n) (NoDouble-below n) one (λ i h. s i (below_In n i h)))
+
+-- the same, where the key of each is given by a function
+pub Sums-by_key : {A : Type 0} (P : A → Type 0) (key : A → ℕ) (w : A → ℕ) (t : ℕ → ℕ) (n : ℕ) → ((x : A) → P x → key x < n) → ((i : ℕ) → i < n → Sums (λ x. P x × (key x ≡ i)) w (t i)) → Sums P w (sum_below t n)
+Sums-by_key P key w t n inside each =
+    Sums-iff (λ x. (i : ℕ) × In i (below n) × (P x × (key x ≡ i))) P w (sum_below t n) (λ x r. r.2.0) (λ x p. (key x, In-below n (key x) (inside x p), (p, refl)))
+    (Sums-over_below (λ i x. P x × (key x ≡ i)) w t n (λ i j x a b. sym a.1 ∙ b.1) each)
 
 -- numbers that are equal below n have equal sums
 pub sum_below-same : (f g : ℕ → ℕ) (n : ℕ) → ((k : ℕ) → k < n → f k ≡ g k) → sum_below f n ≡ sum_below g n
