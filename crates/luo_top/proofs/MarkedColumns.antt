@@ -1,9 +1,9 @@
 -- Columns of marked numbers: a column one longer, and marked sums and convolutions.
-use Rattle.std.proofs.Common.{◌≡◌, ℕ, zero, suc, ◌+◌, ◌*◌, ◌-◌, ◌≤◌, ◌<◌, ◌⊎◌, inl, inr, ⊎_elim, List, [], ◌∷◌, ◌++◌, length, get_or, slice_index, map, sum_by, take, drop, refl, sym, ◌∙◌, ap, subst, arith, add-one}
+use Rattle.std.proofs.Common.{◌≡◌, ℕ, zero, suc, ◌+◌, ◌*◌, ◌-◌, ◌≤◌, ◌<◌, ◌⊎◌, inl, inr, ⊎_elim, List, [], ◌∷◌, ◌++◌, length, get_or, slice_index, map, sum_by, drop, refl, sym, ◌∙◌, ap, subst, arith, add-one}
 use Rattle.std.proofs.Math.ListN.{get_or-append}
 use Rattle.std.proofs.Math.Seq.{get_or-append_seam, drop-cons}
-use Rattle.std.proofs.lemmas.List.{length-append, take_more}
-use Rattle.std.proofs.lemmas.List.Sums.{sum_by-append, sum_by-cons}
+use Rattle.std.proofs.lemmas.List.{length-append}
+use Rattle.std.proofs.lemmas.List.Sums.{sum_by-cons}
 use Rattle.luo_num.specs.Mark.{capped}
 use Rattle.luo_num.proofs.Capped.{capped-mul}
 use Rattle.luo_finite.specs.Listing.{In}
@@ -30,18 +30,6 @@ marked-more f n v column next m e is = record {
 -- the same column, of numbers that are marked alike
 pub marked-alike : (f g : ℕ → ℕ) (n : ℕ) (column : List ℕ) → ((k : ℕ) → k < n → capped (f k) ≡ capped (g k)) → AreMarked f n column → AreMarked g n column
 marked-alike f g n column e m = record { long = m.long; marked = λ k h. m.marked k h ∙ e k h }
-
--- a marked sum and one more term
-pub marked_sum-none : {X : Type 0} (f : X → ℕ) (xs : List X) → 0 ≡ capped (sum_by f (take 0 xs))
-marked_sum-none f xs = refl
-
-pub marked_sum-more : {X : Type 0} (f : X → ℕ) (xs : List X) (i : ℕ) (x : X) (sum next v : ℕ) → i < length xs → x ≡ get_or xs i x → sum ≡ capped (sum_by f (take i xs)) → v ≡ f x → next ≡ capped (sum + v) → next ≡ capped (sum_by f (take (i + 1) xs))
-marked_sum-more f xs i x sum next v h is e d q =
-  let t : sum_by f (take (i + 1) xs) ≡ sum_by f (take i xs) + (f (get_or xs i x) + 0) = ap (sum_by f) (take_more xs i x h) ∙ sum_by-append f (take i xs) (get_or xs i x ∷ []) in
-  let w : f x ≡ f (get_or xs i x) = ap f is in
-  let s : capped (sum_by f (take (i + 1) xs)) ≡ capped (sum_by f (take i xs) + (f (get_or xs i x) + 0)) = ap capped t in
-  let a : next ≡ capped (capped (sum_by f (take i xs)) + f (get_or xs i x)) = q ∙ ap (λ k. capped (k + v)) e ∙ ap (λ k. capped (capped (sum_by f (take i xs)) + k)) (d ∙ w) in
-  a ∙ (let z : capped (capped (sum_by f (take i xs)) + f (get_or xs i x)) ≡ capped (sum_by f (take i xs) + (f (get_or xs i x) + 0)) = omega arith in z) ∙ sym s
 
 -- a marked sum over a range and one more term
 pub shared-more : (f : ℕ → ℕ) (k sum term next : ℕ) → sum ≡ capped (sum_below f k) → term ≡ capped (f k) → next ≡ capped (sum + term) → next ≡ capped (sum_below f (k + 1))
@@ -73,7 +61,8 @@ alike-convolve a b c d n e h =
 
 pub alike-sum_by : {X : Type 0} (f g : X → ℕ) (xs : List X) → ((x : X) → In x xs → capped (f x) ≡ capped (g x)) → capped (sum_by f xs) ≡ capped (sum_by g xs)
 alike-sum_by f g [] h = refl
-alike-sum_by f g (x ∷ xs) h = alike-plus (f x) (sum_by f xs) (g x) (sum_by g xs) (h x (inl refl)) (alike-sum_by f g xs (λ y i. h y (inr i)))
+alike-sum_by f g (x ∷ xs) h =
+  ap capped (sum_by-cons f x xs) ∙ alike-plus (f x) (sum_by f xs) (g x) (sum_by g xs) (h x (inl refl)) (alike-sum_by f g xs (λ y i. h y (inr i))) ∙ ap capped (sym (sum_by-cons g x xs))
 
 pub alike-convolve_all : {X : Type 0} (f g : X → ℕ → ℕ) (xs : List X) (n : ℕ) → ((x : X) → In x xs → (k : ℕ) → k ≤ n → capped (f x k) ≡ capped (g x k)) → capped (convolve_all (map f xs) n) ≡ capped (convolve_all (map g xs) n)
 alike-convolve_all f g [] n h = refl
@@ -82,14 +71,16 @@ alike-convolve_all f g (x ∷ xs) n h =
     (λ k l. alike-convolve_all f g xs k (λ y i j m. h y (inr i) j (omega arith)))
 
 -- one more factor before the rest
-pub product-more : (columns : List (List ℕ)) (parts : List Part) (i sizes : ℕ) (part : Part) (left rest next : List ℕ) → i < length parts → part ≡ get_or parts i part → left ≡ column_of columns part.node
-  → AreMarked (convolve_all (map (λ (part : Part). entry_of columns part.node) (drop (suc i) parts))) sizes rest → AreMarked (convolve (slice_index left) (slice_index rest)) sizes next
+pub product-more : (columns : List (List ℕ)) (parts : List Part) (i j sizes : ℕ) (d : Part) (left rest kept next : List ℕ) → i < length parts → j ≡ suc i → left ≡ column_of columns (get_or parts i d).node → rest ≡ kept
+  → AreMarked (convolve_all (map (λ (part : Part). entry_of columns part.node) (drop j parts))) sizes kept → AreMarked (convolve (slice_index left) (slice_index rest)) sizes next
   → AreMarked (convolve_all (map (λ (part : Part). entry_of columns part.node) (drop i parts))) sizes next
-product-more columns parts i sizes part left rest next h is l m k =
+product-more columns parts i j sizes d left rest kept next h o l q m k =
   let F : Part → ℕ → ℕ = λ (part : Part). entry_of columns part.node in
-  subst (λ (ps : List Part). AreMarked (convolve_all (map (λ (part : Part). entry_of columns part.node) ps)) sizes next) (sym (drop-cons parts i part h))
-    (marked-alike (convolve (slice_index left) (slice_index rest)) (convolve (F (get_or parts i part)) (convolve_all (map F (drop (suc i) parts)))) sizes next
-      (λ n b. alike-convolve (slice_index left) (slice_index rest) (F (get_or parts i part)) (convolve_all (map F (drop (suc i) parts))) n
-        (λ j _. ap (λ (c : List ℕ). capped (slice_index c j)) (l ∙ ap (λ (q : Part). column_of columns q.node) is))
-        (λ j q. ap capped (m.marked j (omega arith)) ∙ capped-capped (convolve_all (map F (drop (suc i) parts)) j)))
+  let tail : List Part = drop (suc i) parts in
+  let before : AreMarked (convolve_all (map F tail)) sizes kept = subst (λ (i : ℕ). AreMarked (convolve_all (map (λ (part : Part). entry_of columns part.node) (drop i parts))) sizes kept) o m in
+  subst (λ (ps : List Part). AreMarked (convolve_all (map (λ (part : Part). entry_of columns part.node) ps)) sizes next) (sym (drop-cons parts i d h))
+    (marked-alike (convolve (slice_index left) (slice_index rest)) (convolve (F (get_or parts i d)) (convolve_all (map F tail))) sizes next
+      (λ n b. alike-convolve (slice_index left) (slice_index rest) (F (get_or parts i d)) (convolve_all (map F tail)) n
+        (λ j _. ap (λ (c : List ℕ). capped (slice_index c j)) l)
+        (λ j g. ap (λ (c : List ℕ). capped (slice_index c j)) q ∙ ap capped (before.marked j (omega arith)) ∙ capped-capped (convolve_all (map F tail) j)))
       k)

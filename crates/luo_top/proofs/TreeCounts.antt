@@ -62,7 +62,7 @@ module _ (p : Program) (weight : ℕ) (u : p.universe ≡ Unlabelled) where
 abbrev no_part : Part
 no_part = record { node = 0; name = None }
 
-In-place : {X : Type 0} (xs : List X) (i : ℕ) (d : X) → i < length xs → In (get_or xs i d) xs
+pub In-place : {X : Type 0} (xs : List X) (i : ℕ) (d : X) → i < length xs → In (get_or xs i d) xs
 In-place [] i d h = absurd (omega arith)
 In-place (x ∷ xs) zero d h = inl refl
 In-place (x ∷ xs) (suc i) d h = inr (In-place xs i d (omega arith))

@@ -8,6 +8,23 @@ use luo_model::Part;
 use luo_num::{Items, NoMemory, marked_add, marked_mul};
 use std::alloc::Global;
 
+/// The column of node x.
+pub fn column_at(columns: &[Items<u128>], x: usize) -> &[u128]
+    requires { x < length columns.now }
+    ensures { result.now ≡ column_of columns.now x }
+{
+    columns[x].as_slice()
+}
+
+/// The entry of node x at size n.
+fn entry_at(columns: &[Items<u128>], x: usize, n: usize) -> u128
+    requires node { x < length columns.now }
+    requires size { n < length (column_of columns.now x) }
+    ensures { result ≡ entry_of columns.now x n }
+{
+    column_at(columns, x)[n]
+}
+
 /// The column of an atom.
 pub fn atom_column(alloc: Global, weight: usize, sizes: usize) -> Result<Items<u128>, NoMemory>
     ensures { IfOk result (AreMarked (atom_counts weight) sizes) }
@@ -27,7 +44,7 @@ fn sum_at(columns: &[Items<u128>], parts: &[Part], n: usize, sizes: usize) -> u1
 {
     let mut sum = 0;
     for part in parts {
-        sum = marked_add(sum, columns[part.node].as_slice()[n]);
+        sum = marked_add(sum, entry_at(columns, part.node, n));
     }
     sum
 }
@@ -77,7 +94,7 @@ pub fn product_column(alloc: Global, columns: &[Items<u128>], parts: &[Part], si
 {
     let mut product = atom_column(alloc, 0, sizes)?;
     for i in (0..parts.len()).rev() {
-        product = shared_column(alloc, columns[parts[i].node].as_slice(), product.as_slice(), sizes)?;
+        product = shared_column(alloc, column_at(columns, parts[i].node), product.as_slice(), sizes)?;
     }
     Ok(product)
 }

@@ -3,6 +3,7 @@ ghost use Rattle.std.specs.Prelude.{◌≡◌, ◌<◌, ℕ, List, length, slice
 ghost use Rattle.luo_model.specs.declared.program.Proc.{Proc};
 ghost use Rattle.luo_top.specs.Tables.{HasPast, HasPastCount, HasPastTotal};
 
+use super::columns::column_at;
 use luo_model::Proc;
 use luo_num::{Items, MAX, marked_mul};
 
@@ -36,7 +37,7 @@ pub fn has_past_total(procs: &[Proc], columns: &[Items<u128>]) -> bool
     ensures { IsTrue result ↔ HasPastTotal procs.now columns.now }
 {
     for procedure in procs {
-        if has_past(procedure.body.own, columns[procedure.on.node].as_slice()) {
+        if has_past(procedure.body.own, column_at(columns, procedure.on.node)) {
             return true;
         }
     }

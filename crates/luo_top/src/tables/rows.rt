@@ -5,6 +5,7 @@ ghost use Rattle.luo_top.specs.Plain.{IsPlain};
 ghost use Rattle.luo_top.specs.Report.{IsPast, AreTables};
 ghost use Rattle.luo_top.specs.Tables.{AreColumns, AreRowsOf};
 
+use super::columns::column_at;
 use luo_model::{Program, Row};
 use luo_num::{Items, NoMemory, marked_mul};
 use std::alloc::Global;
@@ -33,7 +34,7 @@ pub fn all_rows(alloc: Global, program: &Program, columns: &[Items<u128>], last:
     let mut all = Items::new(alloc);
     for f in program.analyses.as_slice() {
         let procedure = &program.procs.as_slice()[*f];
-        all.push(rows_of(alloc, procedure.body.own, columns[procedure.on.node].as_slice(), last + 1)?)?;
+        all.push(rows_of(alloc, procedure.body.own, column_at(columns, procedure.on.node), last + 1)?)?;
     }
     Ok(all)
 }
