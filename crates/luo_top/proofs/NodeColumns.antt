@@ -22,16 +22,16 @@ use Rattle.luo_top.proofs.TreeCounts.{count-of, of-count, Counts-atom, Counts-no
 node_is : (nodes : List Node) (x : ℕ) (node : Node) → x < length nodes → node ≡ get_or nodes x node → get_or nodes x no_node ≡ node
 node_is nodes x node h e = get_or_from_slice_get nodes x node no_node (slice_get-get_or nodes x node h ∙ ap Some (sym e))
 
-pub shape_is : (p : Program) (x : ℕ) (node : Node) (s : Shape) → x < length p.nodes → node ≡ get_or p.nodes x node → node.shape ≡ s → shape_of p x ≡ s
-shape_is p x node s h e q = ap (λ (n : Node). n.shape) (node_is p.nodes x node h e) ∙ q
+pub shape_is : (p : Program) (nodes : List Node) (x : ℕ) (node : Node) (s : Shape) → nodes ≡ p.nodes → x < length p.nodes → node ≡ get_or nodes x node → node.shape ≡ s → shape_of p x ≡ s
+shape_is p nodes x node s q h e d = ap (λ (n : Node). n.shape) (node_is p.nodes x node h (e ∙ ap (λ (l : List Node). get_or l x node) q)) ∙ d
 
-pub owner_is : (p : Program) (x : ℕ) (node : Node) → x < length p.nodes → node ≡ get_or p.nodes x node → owner_of p x ≡ node.owner
-owner_is p x node h e = ap (λ (n : Node). n.owner) (node_is p.nodes x node h e)
+pub owner_is : (p : Program) (nodes : List Node) (x : ℕ) (node : Node) → nodes ≡ p.nodes → x < length p.nodes → node ≡ get_or nodes x node → owner_of p x ≡ node.owner
+owner_is p nodes x node q h e = ap (λ (n : Node). n.owner) (node_is p.nodes x node h (e ∙ ap (λ (l : List Node). get_or l x node) q))
 
--- a plain program has no collection
-pub no_collection : (p : Program) (x : ℕ) (s : Shape) → IsPlain p → x < length p.nodes → shape_of p x ≡ s → IsPlainShape p x s
-no_collection p x s plain h e = subst (IsPlainShape p x) e (plain.shapes x h)
+pub plain_shape : (p : Program) (x : ℕ) (s : Shape) → IsPlain p → x < length p.nodes → shape_of p x ≡ s → IsPlainShape p x s
+plain_shape p x s plain h e = subst (IsPlainShape p x) e (plain.shapes x h)
 
+-- the parts of a node have columns
 pub have_columns : (p : Program) (columns : List (List ℕ)) (parts : List Part) (x sizes : ℕ) → length columns ≡ length p.nodes → ((part : Part) → In part parts → IsBelow p x part.node)
   → ((y : ℕ) → IsBelow p x y → IsColumn p y sizes (column_of columns y)) → HaveColumns columns parts sizes
 have_columns p columns parts x sizes w below ready part i = let b = below part i in (omega (arith, w, b.0), (ready part.node b).marked.long)

@@ -37,7 +37,7 @@ past_one c v e h = omega arith
 past_one_back : (c v : ℕ) → v ≡ capped c → MAX < c → MAX < capped (1 * v)
 past_one_back c v e h = omega arith
 
-capped_times : (own c v : ℕ) → own ≤ 1024 * 10 ^ 35 → v ≡ capped c → capped (own * v) ≡ capped (own * c)
+pub capped_times : (own c v : ℕ) → own ≤ 1024 * 10 ^ 35 → v ≡ capped c → capped (own * v) ≡ capped (own * c)
 capped_times own c v small e =
   let o : capped own ≡ own = omega arith in
   ap (λ (k : ℕ). capped (own * k)) e ∙ ap (λ (k : ℕ). capped (k * capped c)) (sym o) ∙ capped-mul own c
@@ -50,7 +50,7 @@ past_total_back m n e h = omega arith
 
 module _ (q : coded.Program) (last : ℕ) (columns : List (List ℕ)) (plain : IsPlain (plain_of q)) (columns_are : AreColumns (plain_of q) (last + 1) columns) where
   pub count_past : HasPastCount columns → IsPast (plain_of q) last
-  count_past (x, inside, n, long, past) =
+  count_past (x, inside, (n, long, past)) =
     let b : x < length q.nodes = omega (arith, columns_are.wide) in
     let c = columns_are.each x b in
     let m : n < last + 1 = omega (arith, c.marked.long) in
@@ -61,10 +61,10 @@ module _ (q : coded.Program) (last : ℕ) (columns : List (List ℕ)) (plain : I
     let d = columns_are.each x b in
     let m : n < last + 1 = omega arith in
     let e : d.counts n ≡ c = Counts-unique (IsStructure (plain_of q) x n) (d.counts n) c (d.right n m) k in
-    (x, omega (arith, columns_are.wide), n, omega (arith, d.marked.long), past_one_back c (slice_index (column_of columns x) n) (d.marked.marked n m ∙ ap capped e) past)
+    (x, omega (arith, columns_are.wide), (n, omega (arith, d.marked.long), past_one_back c (slice_index (column_of columns x) n) (d.marked.marked n m ∙ ap capped e) past))
 
   pub total_past : HasPastTotal q.procs columns → IsPast (plain_of q) last
-  total_past (f, proc, there, n, long, past) =
+  total_past (f, proc, there, (n, long, past)) =
     let P = procedure_of proc in
     let t = procedure_there q.procs f proc there in
     let r = plain.procedures f P t in
@@ -95,8 +95,8 @@ module _ (q : coded.Program) (last : ℕ) (columns : List (List ℕ)) (plain : I
         let c = columns_are.each proc.on.node r.on in
         let m : n < last + 1 = omega arith in
         let e : proc.body.own * c.counts n ≡ t = one_total (plain_of q) plain f P u proc.body.own body n (proc.body.own * c.counts n) t (total_is (plain_of q) plain f P u proc.body.own body n (c.counts n) (c.right n m)) h in
-        (f, proc, there, n, omega (arith, c.marked.long),
-          past_total_back (capped (proc.body.own * slice_index (column_of columns proc.on.node) n)) t (capped_times proc.body.own (c.counts n) (slice_index (column_of columns proc.on.node) n) small (c.marked.marked n m) ∙ ap capped e) past)
+        (f, proc, there, (n, omega (arith, c.marked.long),
+          past_total_back (capped (proc.body.own * slice_index (column_of columns proc.on.node) n)) t (capped_times proc.body.own (c.counts n) (slice_index (column_of columns proc.on.node) n) small (c.marked.marked n m) ∙ ap capped e) past))
 
   pub past_from : IsPast (plain_of q) last → HasPastCount columns ⊎ HasPastTotal q.procs columns
   past_from (inl (x, n, c, b, l, k, past)) = inl (past_count x n c b l k past)

@@ -22,8 +22,9 @@ pub fn tables(alloc: Global, program: &Program, last: u32) -> Result<Option<Item
     ensures { IfOk result (λ o. MatchOption o (IsPast (plain_of program.now) last) (λ t. AreTables (plain_of program.now) last program.now.analyses t × (IsPast (plain_of program.now) last → ⊥))) }
 {
     let columns = fill::fill(alloc, program, last as usize + 1)?;
-    if past::has_past_count(columns.as_slice()) || past::has_past_total(program.procs.as_slice(), columns.as_slice()) {
+    if past::is_past(program.procs.as_slice(), columns.as_slice()) {
         return Ok(None);
     }
-    Ok(Some(rows::all_rows(alloc, program, columns.as_slice(), last)?))
+    let all = rows::all_rows(alloc, program, columns.as_slice(), last)?;
+    Ok(Some(all))
 }
