@@ -10,7 +10,7 @@ filled-none p sizes columns e = record { wide = e; done = λ y h k. ⊎_elim (λ
 -- the nodes below x are done
 pub filled-ready : (p : Program) (sizes owner x : ℕ) (columns : List (List ℕ)) → IsFilled p sizes owner (suc x) columns → owner_of p x ≡ owner → (y : ℕ) → IsBelow p x y → IsColumn p y sizes (column_of columns y)
 filled-ready p sizes owner x columns f e y b =
-  f.done y b.0 (⊎_elim (λ l. inl (omega arith)) (λ l. inr (l.0 ∙ e, omega (arith, l.1))) b.1)
+    f.done y b.0 (⊎_elim (λ l. inl (omega arith)) (λ l. inr (l.0 ∙ e, omega (arith, l.1))) b.1)
 
 last_or_after : (x y : ℕ) → x ≤ y → (y ≡ x) ⊎ (suc x ≤ y)
 last_or_after x y h = grind arith
@@ -33,7 +33,7 @@ filled-set p sizes owner x columns next column f h right e = record {
 
     other : (y : ℕ) → y < length p.nodes → (y ≡ x → ⊥) → (owner_of p y < owner) ⊎ ((owner_of p y ≡ owner) × (x ≤ y)) → IsColumn p y sizes (column_of next y)
     other y k n d =
-      subst (IsColumn p y sizes) (sym (ap (λ (t : List (List ℕ)). get_or t y []) e ∙ get_or-set_other columns x y column [] n))
+        subst (IsColumn p y sizes) (sym (ap (λ (t : List (List ℕ)). get_or t y []) e ∙ get_or-set_other columns x y column [] n))
         (f.done y k (⊎_elim (λ l. inl l) (λ l. ⊎_elim (λ q. absurd (n q)) (λ q. inr (l.0, q)) (last_or_after x y l.1)) d))
 
 -- node x is another definition's

@@ -56,31 +56,31 @@ alike-sum_below f g (suc n) h = alike-plus (f n) (sum_below f n) (g n) (sum_belo
 pub alike-convolve : (a b c d : ℕ → ℕ) (n : ℕ) → ((k : ℕ) → k ≤ n → capped (a k) ≡ capped (c k)) → ((k : ℕ) → k ≤ n → capped (b k) ≡ capped (d k)) → capped (convolve a b n) ≡ capped (convolve c d n)
 unfolding convolve
 alike-convolve a b c d n e h =
-  alike-sum_below (λ k. a k * b (n - k)) (λ k. c k * d (n - k)) (suc n)
+    alike-sum_below (λ k. a k * b (n - k)) (λ k. c k * d (n - k)) (suc n)
     (λ k l. alike-times (a k) (b (n - k)) (c k) (d (n - k)) (e k (omega arith)) (h (n - k) (omega arith)))
 
 pub alike-sum_by : {X : Type 0} (f g : X → ℕ) (xs : List X) → ((x : X) → In x xs → capped (f x) ≡ capped (g x)) → capped (sum_by f xs) ≡ capped (sum_by g xs)
 alike-sum_by f g [] h = refl
 alike-sum_by f g (x ∷ xs) h =
-  ap capped (sum_by-cons f x xs) ∙ alike-plus (f x) (sum_by f xs) (g x) (sum_by g xs) (h x (inl refl)) (alike-sum_by f g xs (λ y i. h y (inr i))) ∙ ap capped (sym (sum_by-cons g x xs))
+    ap capped (sum_by-cons f x xs) ∙ alike-plus (f x) (sum_by f xs) (g x) (sum_by g xs) (h x (inl refl)) (alike-sum_by f g xs (λ y i. h y (inr i))) ∙ ap capped (sym (sum_by-cons g x xs))
 
 pub alike-convolve_all : {X : Type 0} (f g : X → ℕ → ℕ) (xs : List X) (n : ℕ) → ((x : X) → In x xs → (k : ℕ) → k ≤ n → capped (f x k) ≡ capped (g x k)) → capped (convolve_all (map f xs) n) ≡ capped (convolve_all (map g xs) n)
 alike-convolve_all f g [] n h = refl
 alike-convolve_all f g (x ∷ xs) n h =
-  alike-convolve (f x) (convolve_all (map f xs)) (g x) (convolve_all (map g xs)) n (h x (inl refl))
+    alike-convolve (f x) (convolve_all (map f xs)) (g x) (convolve_all (map g xs)) n (h x (inl refl))
     (λ k l. alike-convolve_all f g xs k (λ y i j m. h y (inr i) j (omega arith)))
 
 -- one more factor before the rest
 pub product-more : (columns : List (List ℕ)) (parts : List Part) (i j sizes : ℕ) (d : Part) (left rest kept next : List ℕ) → i < length parts → j ≡ suc i → left ≡ column_of columns (get_or parts i d).node → rest ≡ kept
-  → AreMarked (convolve_all (map (λ (part : Part). entry_of columns part.node) (drop j parts))) sizes kept → AreMarked (convolve (slice_index left) (slice_index rest)) sizes next
-  → AreMarked (convolve_all (map (λ (part : Part). entry_of columns part.node) (drop i parts))) sizes next
+    → AreMarked (convolve_all (map (λ (part : Part). entry_of columns part.node) (drop j parts))) sizes kept → AreMarked (convolve (slice_index left) (slice_index rest)) sizes next
+    → AreMarked (convolve_all (map (λ (part : Part). entry_of columns part.node) (drop i parts))) sizes next
 product-more columns parts i j sizes d left rest kept next h o l q m k =
-  let F : Part → ℕ → ℕ = λ (part : Part). entry_of columns part.node in
-  let tail : List Part = drop (suc i) parts in
-  let before : AreMarked (convolve_all (map F tail)) sizes kept = subst (λ (i : ℕ). AreMarked (convolve_all (map (λ (part : Part). entry_of columns part.node) (drop i parts))) sizes kept) o m in
-  subst (λ (ps : List Part). AreMarked (convolve_all (map (λ (part : Part). entry_of columns part.node) ps)) sizes next) (sym (drop-cons parts i d h))
+    let F : Part → ℕ → ℕ = λ (part : Part). entry_of columns part.node in
+    let tail : List Part = drop (suc i) parts in
+    let before : AreMarked (convolve_all (map F tail)) sizes kept = subst (λ (i : ℕ). AreMarked (convolve_all (map (λ (part : Part). entry_of columns part.node) (drop i parts))) sizes kept) o m in
+    subst (λ (ps : List Part). AreMarked (convolve_all (map (λ (part : Part). entry_of columns part.node) ps)) sizes next) (sym (drop-cons parts i d h))
     (marked-alike (convolve (slice_index left) (slice_index rest)) (convolve (F (get_or parts i d)) (convolve_all (map F tail))) sizes next
-      (λ n b. alike-convolve (slice_index left) (slice_index rest) (F (get_or parts i d)) (convolve_all (map F tail)) n
-        (λ j _. ap (λ (c : List ℕ). capped (slice_index c j)) l)
-        (λ j g. ap (λ (c : List ℕ). capped (slice_index c j)) q ∙ ap capped (before.marked j (omega arith)) ∙ capped-capped (convolve_all (map F tail) j)))
-      k)
+    (λ n b. alike-convolve (slice_index left) (slice_index rest) (F (get_or parts i d)) (convolve_all (map F tail)) n
+    (λ j _. ap (λ (c : List ℕ). capped (slice_index c j)) l)
+    (λ j g. ap (λ (c : List ℕ). capped (slice_index c j)) q ∙ ap capped (before.marked j (omega arith)) ∙ capped-capped (convolve_all (map F tail) j)))
+    k)

@@ -19,21 +19,21 @@ use Rattle.luo_top.proofs.MarkedColumns.{marked-alike, alike-sum_by, alike-convo
 use Rattle.luo_top.proofs.TreeCounts.{count-of, of-count, Counts-atom, Counts-no_atom, Counts-union, Counts-product}
 
 -- the node at a place that is there
-node_is : (nodes : List Node) (x : ℕ) (node : Node) → x < length nodes → node ≡ get_or nodes x node → get_or nodes x no_node ≡ node
-node_is nodes x node h e = get_or_from_slice_get nodes x node no_node (slice_get-get_or nodes x node h ∙ ap Some (sym e))
+node_is : (p : Program) (nodes : List Node) (x : ℕ) (d : Node) → nodes ≡ p.nodes → x < length p.nodes → get_or p.nodes x no_node ≡ get_or nodes x d
+node_is p nodes x d q h = get_or_from_slice_get p.nodes x (get_or p.nodes x d) no_node (slice_get-get_or p.nodes x d h) ∙ ap (λ (l : List Node). get_or l x d) (sym q)
 
-pub shape_is : (p : Program) (nodes : List Node) (x : ℕ) (node : Node) (s : Shape) → nodes ≡ p.nodes → x < length p.nodes → node ≡ get_or nodes x node → node.shape ≡ s → shape_of p x ≡ s
-shape_is p nodes x node s q h e d = ap (λ (n : Node). n.shape) (node_is p.nodes x node h (e ∙ ap (λ (l : List Node). get_or l x node) q)) ∙ d
+pub shape_is : (p : Program) (nodes : List Node) (x : ℕ) (d : Node) (s : Shape) → nodes ≡ p.nodes → x < length p.nodes → (get_or nodes x d).shape ≡ s → shape_of p x ≡ s
+shape_is p nodes x d s q h e = ap (λ (n : Node). n.shape) (node_is p nodes x d q h) ∙ e
 
-pub owner_is : (p : Program) (nodes : List Node) (x : ℕ) (node : Node) → nodes ≡ p.nodes → x < length p.nodes → node ≡ get_or nodes x node → owner_of p x ≡ node.owner
-owner_is p nodes x node q h e = ap (λ (n : Node). n.owner) (node_is p.nodes x node h (e ∙ ap (λ (l : List Node). get_or l x node) q))
+pub owner_is : (p : Program) (nodes : List Node) (x : ℕ) (d : Node) → nodes ≡ p.nodes → x < length p.nodes → owner_of p x ≡ (get_or nodes x d).owner
+owner_is p nodes x d q h = ap (λ (n : Node). n.owner) (node_is p nodes x d q h)
 
 pub plain_shape : (p : Program) (x : ℕ) (s : Shape) → IsPlain p → x < length p.nodes → shape_of p x ≡ s → IsPlainShape p x s
 plain_shape p x s plain h e = subst (IsPlainShape p x) e (plain.shapes x h)
 
 -- the parts of a node have columns
 pub have_columns : (p : Program) (columns : List (List ℕ)) (parts : List Part) (x sizes : ℕ) → length columns ≡ length p.nodes → ((part : Part) → In part parts → IsBelow p x part.node)
-  → ((y : ℕ) → IsBelow p x y → IsColumn p y sizes (column_of columns y)) → HaveColumns columns parts sizes
+    → ((y : ℕ) → IsBelow p x y → IsColumn p y sizes (column_of columns y)) → HaveColumns columns parts sizes
 have_columns p columns parts x sizes w below ready part i = let b = below part i in (omega (arith, w, b.0), (ready part.node b).marked.long)
 
 -- it is decided which nodes are below another
@@ -58,7 +58,7 @@ either_decided (inr n) (inr m) = inr (λ h. ⊎_elim n m h)
 
 below_decided : (p : Program) (x y : ℕ) → IsBelow p x y ⊎ (IsBelow p x y → ⊥)
 below_decided p x y =
-  both_decided (lt_decided y (length p.nodes)) (either_decided (lt_decided (owner_of p y) (owner_of p x)) (both_decided (eq_decided (owner_of p y) (owner_of p x)) (lt_decided x y)))
+    both_decided (lt_decided y (length p.nodes)) (either_decided (lt_decided (owner_of p y) (owner_of p x)) (both_decided (eq_decided (owner_of p y) (owner_of p x)) (lt_decided x y)))
 
 -- counts of all nodes, right at each node below x
 abbrev AreRight : Program → ℕ → List (List ℕ) → ℕ → (ℕ → ℕ) → Type 0
@@ -108,6 +108,6 @@ atom_column_is p x sizes weight column plain e m = record {
   counts = atom_counts weight;
   right = λ n h. count-of p x n (atom_counts weight n) (Atom weight) plain.unlabelled e
       (⊎_elim (λ q. subst (Counts (λ t. Fits p (Atom weight) t × (size_of t ≡ n))) (atom_counts-same weight n q) (Counts-atom p weight plain.unlabelled n q))
-        (λ q. subst (Counts (λ t. Fits p (Atom weight) t × (size_of t ≡ n))) (atom_counts-other weight n q) (Counts-no_atom p weight plain.unlabelled n q)) (eq_decided n weight));
+      (λ q. subst (Counts (λ t. Fits p (Atom weight) t × (size_of t ≡ n))) (atom_counts-other weight n q) (Counts-no_atom p weight plain.unlabelled n q)) (eq_decided n weight));
   marked = m;
 }

@@ -29,14 +29,14 @@ PartsOf p parts n ts = FitAll p parts ts × (sizes_of ts ≡ n)
 -- in the unlabelled universe the structures of a node are those of its construct
 pub count-of : (p : Program) (x n c : ℕ) (s : Shape) → p.universe ≡ Unlabelled → shape_of p x ≡ s → Counts (Of p s n) c → IsCount p x n c
 count-of p x n c s u e k =
-  Counts-iff (Of p (shape_of p x) n) (IsStructure p x n) c
+    Counts-iff (Of p (shape_of p x) n) (IsStructure p x n) c
     (λ t m. (m.0, m.1, subst (λ (U : Universe). Carries U (labels_from 1 n) t) (sym u) tt))
     (λ t m. (m.0, m.1))
     (subst (λ (s : Shape). Counts (Of p s n) c) (sym e) k)
 
 pub of-count : (p : Program) (x n c : ℕ) → p.universe ≡ Unlabelled → IsCount p x n c → Counts (Of p (shape_of p x) n) c
 of-count p x n c u k =
-  Counts-iff (IsStructure p x n) (Of p (shape_of p x) n) c
+    Counts-iff (IsStructure p x n) (Of p (shape_of p x) n) c
     (λ t m. (m.0, m.1))
     (λ t m. (m.0, m.1, subst (λ (U : Universe). Carries U (labels_from 1 n) t) (sym u) tt))
     k
@@ -81,8 +81,8 @@ module _ (p : Program) (parts : List Part) (n : ℕ) where
   to_branch (Atom w l) m = absurd m.0
   to_branch (Inj zero t) m = absurd m.0
   to_branch (Inj (suc i) t) m =
-    let b = m.0 in
-    (i, In-below (length parts) i (slice_get_within parts i b.0 b.1), (t, (subst (λ (part : Part). Member p part.node t) (sym (get_or_from_slice_get parts i b.0 no_part b.1)) b.2, m.1), refl))
+      let b = m.0 in
+      (i, In-below (length parts) i (slice_get_within parts i b.0 b.1), (t, (subst (λ (part : Part). Member p part.node t) (sym (get_or_from_slice_get parts i b.0 no_part b.1)) b.2, m.1), refl))
   to_branch (Tup ts) m = absurd m.0
   to_branch (Coll ts) m = absurd m.0
 
@@ -93,12 +93,12 @@ module _ (p : Program) (parts : List Part) (n : ℕ) where
   pub Counts-union : (c : Part → ℕ) → ((part : Part) → In part parts → Counts (Of p (shape_of p part.node) n) (c part)) → Counts (Of p (shape.Union parts) n) (sum_by c parts)
   unfolding Branch
   Counts-union c h =
-    subst (Counts (Of p (shape.Union parts) n)) (sum_below-places c parts no_part)
+      subst (Counts (Of p (shape.Union parts) n)) (sum_below-places c parts no_part)
       (Counts-from (Of p (shape.Union parts) n) (sum_below (λ i. c (get_or parts i no_part)) (length parts))
-        (Sums-iff (λ s. (i : ℕ) × In i (below (length parts)) × Branch i s) (Of p (shape.Union parts) n) (λ s. 1) (sum_below (λ i. c (get_or parts i no_part)) (length parts)) from_branch to_branch
-          (Sums-over_below Branch (λ s. 1) (λ i. c (get_or parts i no_part)) (length parts) one_branch
-            (λ i k. Sums-map (Of p (shape_of p (get_or parts i no_part).node) n) (λ t. Inj (suc i) t) (λ s. 1) (c (get_or parts i no_part)) (λ x y q r e. cc)
-              (Counts-to (Of p (shape_of p (get_or parts i no_part).node) n) (c (get_or parts i no_part)) (h (get_or parts i no_part) (In-place parts i no_part k)))))))
+      (Sums-iff (λ s. (i : ℕ) × In i (below (length parts)) × Branch i s) (Of p (shape.Union parts) n) (λ s. 1) (sum_below (λ i. c (get_or parts i no_part)) (length parts)) from_branch to_branch
+      (Sums-over_below Branch (λ s. 1) (λ i. c (get_or parts i no_part)) (length parts) one_branch
+      (λ i k. Sums-map (Of p (shape_of p (get_or parts i no_part).node) n) (λ t. Inj (suc i) t) (λ s. 1) (c (get_or parts i no_part)) (λ x y q r e. cc)
+      (Counts-to (Of p (shape_of p (get_or parts i no_part).node) n) (c (get_or parts i no_part)) (h (get_or parts i no_part) (In-place parts i no_part k)))))))
 
 -- the first part of a tuple, and the rest
 module _ (p : Program) (part : Part) (parts : List Part) (n : ℕ) where
@@ -108,8 +108,8 @@ module _ (p : Program) (part : Part) (parts : List Part) (n : ℕ) where
   from_first : (ts : Trees) → (k : ℕ) × In k (below (suc n)) × First k ts → PartsOf p (part ∷ parts) n ts
   unfolding First
   from_first ts (k, i, (z, (a, b), e)) =
-    let l : k < suc n = below_In (suc n) k i in
-    subst (PartsOf p (part ∷ parts) n) (sym e) ((a.0, b.0), omega (arith, a.1, b.1))
+      let l : k < suc n = below_In (suc n) k i in
+      subst (PartsOf p (part ∷ parts) n) (sym e) ((a.0, b.0), omega (arith, a.1, b.1))
 
   to_first : (ts : Trees) → PartsOf p (part ∷ parts) n ts → (k : ℕ) × In k (below (suc n)) × First k ts
   unfolding First
@@ -126,10 +126,10 @@ module _ (p : Program) (part : Part) (parts : List Part) (n : ℕ) where
   Sums-first : (a b : ℕ → ℕ) → ((k : ℕ) → k ≤ n → Counts (Of p (shape_of p part.node) k) (a k)) → ((k : ℕ) → k ≤ n → Sums (PartsOf p parts k) (λ ts. 1) (b k)) → Sums (PartsOf p (part ∷ parts) n) (λ ts. 1) (convolve a b n)
   unfolding First convolve
   Sums-first a b h r =
-    Sums-iff (λ ts. (k : ℕ) × In k (below (suc n)) × First k ts) (PartsOf p (part ∷ parts) n) (λ ts. 1) (sum_below (λ k. a k * b (n - k)) (suc n)) from_first to_first
+      Sums-iff (λ ts. (k : ℕ) × In k (below (suc n)) × First k ts) (PartsOf p (part ∷ parts) n) (λ ts. 1) (sum_below (λ k. a k * b (n - k)) (suc n)) from_first to_first
       (Sums-over_below First (λ ts. 1) (λ k. a k * b (n - k)) (suc n) one_first
-        (λ k i. Sums-map (λ (z : Tree × Trees). Of p (shape_of p part.node) k z.0 × PartsOf p parts (n - k) z.1) (λ z. more z.0 z.1) (λ ts. 1) (a k * b (n - k)) (λ y z q r e. both y z e)
-          (Sums-pairs (Of p (shape_of p part.node) k) (PartsOf p parts (n - k)) (λ t. 1) (λ ts. 1) (a k) (b (n - k)) (Counts-to (Of p (shape_of p part.node) k) (a k) (h k (omega arith))) (r (n - k) (omega arith)))))
+      (λ k i. Sums-map (λ (z : Tree × Trees). Of p (shape_of p part.node) k z.0 × PartsOf p parts (n - k) z.1) (λ z. more z.0 z.1) (λ ts. 1) (a k * b (n - k)) (λ y z q r e. both y z e)
+      (Sums-pairs (Of p (shape_of p part.node) k) (PartsOf p parts (n - k)) (λ t. 1) (λ ts. 1) (a k) (b (n - k)) (Counts-to (Of p (shape_of p part.node) k) (a k) (h k (omega arith))) (r (n - k) (omega arith)))))
 
 only_none : (p : Program) (n : ℕ) (ts : Trees) → PartsOf p [] n ts → ts ≡ none
 only_none p n none m = refl
@@ -142,7 +142,7 @@ Sums-no_parts p (suc n) = Sums-none (PartsOf p [] (suc n)) (λ ts. 1) (λ ts m. 
 Sums-parts : (p : Program) (c : Part → ℕ → ℕ) (parts : List Part) (n : ℕ) → ((part : Part) → In part parts → (k : ℕ) → k ≤ n → Counts (Of p (shape_of p part.node) k) (c part k)) → Sums (PartsOf p parts n) (λ ts. 1) (convolve_all (map c parts) n)
 Sums-parts p c [] n h = Sums-no_parts p n
 Sums-parts p c (part ∷ parts) n h =
-  Sums-first p part parts n (c part) (convolve_all (map c parts)) (h part (inl refl)) (λ k l. Sums-parts p c parts k (λ q i j m. h q (inr i) j (omega arith)))
+    Sums-first p part parts n (c part) (convolve_all (map c parts)) (h part (inl refl)) (λ k l. Sums-parts p c parts k (λ q i j m. h q (inr i) j (omega arith)))
 
 Tup-of : (p : Program) (parts : List Part) (n : ℕ) (s : Tree) → (ts : Trees) × PartsOf p parts n ts × (s ≡ Tup ts) → Of p (shape.Product parts) n s
 Tup-of p parts n s r = subst (Of p (shape.Product parts) n) (sym r.2) (r.1.0, r.1.1)
@@ -156,6 +156,6 @@ of-Tup p parts n (Coll ts) m = absurd m.0
 -- a product: the ways to share the size among its factors
 pub Counts-product : (p : Program) (c : Part → ℕ → ℕ) (parts : List Part) (n : ℕ) → ((part : Part) → In part parts → (k : ℕ) → k ≤ n → Counts (Of p (shape_of p part.node) k) (c part k)) → Counts (Of p (shape.Product parts) n) (convolve_all (map c parts) n)
 Counts-product p c parts n h =
-  Counts-from (Of p (shape.Product parts) n) (convolve_all (map c parts) n)
+    Counts-from (Of p (shape.Product parts) n) (convolve_all (map c parts) n)
     (Sums-iff (λ s. (ts : Trees) × PartsOf p parts n ts × (s ≡ Tup ts)) (Of p (shape.Product parts) n) (λ s. 1) (convolve_all (map c parts) n) (Tup-of p parts n) (of-Tup p parts n)
-      (Sums-map (PartsOf p parts n) Tup (λ s. 1) (convolve_all (map c parts) n) (λ x y q r i. cc) (Sums-parts p c parts n h)))
+    (Sums-map (PartsOf p parts n) Tup (λ s. 1) (convolve_all (map c parts) n) (λ x y q r i. cc) (Sums-parts p c parts n h)))

@@ -16,7 +16,11 @@ use std::alloc::Global;
 
 /// The rows of each analyze line for the sizes from 0 to `last`, or `None` exactly where a count or a
 /// total of such a size is above the last number. `NoMemory` comes where memory is refused.
-pub fn tables(alloc: Global, program: &Program, last: u32) -> Result<Option<Items<Items<Row>>>, NoMemory>
+pub fn tables(
+    alloc: Global,
+    program: &Program,
+    last: u32,
+) -> Result<Option<Items<Items<Row>>>, NoMemory>
     requires plain { IsPlain (plain_of program.now) }
     requires size { last ≤ 160 }
     ensures { IfOk result (λ o. MatchOption o (IsPast (plain_of program.now) last) (λ t. AreTables (plain_of program.now) last program.now.analyses t × (IsPast (plain_of program.now) last → ⊥))) }

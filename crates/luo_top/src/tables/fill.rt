@@ -21,7 +21,13 @@ fn empty_columns(alloc: Global, width: usize) -> Result<Items<Items<u128>>, NoMe
 }
 
 /// The column of node x, from those of the nodes below it.
-fn column(alloc: Global, program: &Program, columns: &[Items<u128>], x: usize, sizes: usize) -> Result<Items<u128>, NoMemory>
+fn column(
+    alloc: Global,
+    program: &Program,
+    columns: &[Items<u128>],
+    x: usize,
+    sizes: usize,
+) -> Result<Items<u128>, NoMemory>
     requires plain { IsPlain (plain_of program.now) }
     requires node { x < length program.now.nodes }
     requires wide { length columns.now ≡ length program.now.nodes }
@@ -37,7 +43,13 @@ fn column(alloc: Global, program: &Program, columns: &[Items<u128>], x: usize, s
 }
 
 /// The columns with those of a definition's nodes, from those of earlier definitions.
-fn fill_definition(alloc: Global, program: &Program, earlier: Items<Items<u128>>, owner: usize, sizes: usize) -> Result<Items<Items<u128>>, NoMemory>
+fn fill_definition(
+    alloc: Global,
+    program: &Program,
+    earlier: Items<Items<u128>>,
+    owner: usize,
+    sizes: usize,
+) -> Result<Items<Items<u128>>, NoMemory>
     requires plain { IsPlain (plain_of program.now) }
     requires filled { IsFilled (plain_of program.now) sizes owner (length program.now.nodes) earlier }
     ensures { IfOk result (IsFilled (plain_of program.now) sizes owner 0) }

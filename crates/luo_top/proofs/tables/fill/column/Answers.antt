@@ -1,4 +1,4 @@
-use Rattle.std.proofs.Common.{◌≡◌, ℕ, ◌<◌, List, length, sym, ap, subst, IfOk, Result, Ok, Err, map, sum_by}
+use Rattle.std.proofs.Common.{◌≡◌, ℕ, ◌<◌, List, length, sym, ◌∙◌, ap, subst, IfOk, Result, Ok, Err, map, sum_by}
 use Rattle.luo_finite.specs.Listing.{In}
 use Rattle.luo_finite.specs.Range.{convolve_all}
 use Rattle.luo_model.specs.declared.program.Part.{Part}
@@ -18,20 +18,33 @@ ok_into (Err e) P Q f h = h
 pub union_column-requires : goal.union_column-requires
 union_column-requires c =
     let p = plain_of c.args.program.now in
-    let s = shape_is p c.as_slice.result.now c.args.x c.index-as_slice-x.result _ c.as_slice.ensures c.requires.node c.index-as_slice-x.is c.in-Union.is in
-    have_columns p c.args.columns.now c.as_slice-in-Union.result.now c.args.x c.args.sizes c.requires.wide ? c.requires.ready
+    let s = shape_is p c.as_slice.result.now c.args.x _ _ c.as_slice.ensures c.requires.node c.in-Union.is in
+    have_columns p c.args.columns.now c.as_slice-in-Union.result.now c.args.x c.args.sizes c.requires.wide (plain_shape p c.args.x _ c.requires.plain c.requires.node (s ∙ ap Union (sym c.as_slice-in-Union.ensures))) c.requires.ready
 
 pub product_column-requires : goal.product_column-requires
-product_column-requires c = ?
+product_column-requires c =
+    let p = plain_of c.args.program.now in
+    let s = shape_is p c.as_slice.result.now c.args.x _ _ c.as_slice.ensures c.requires.node c.in-Product.is in
+    have_columns p c.args.columns.now c.as_slice-in-Product.result.now c.args.x c.args.sizes c.requires.wide (plain_shape p c.args.x _ c.requires.plain c.requires.node (s ∙ ap Product (sym c.as_slice-in-Product.ensures))) c.requires.ready
 
 pub returns-in-Atom : goal.returns-in-Atom
 returns-in-Atom c =
     let p = plain_of c.args.program.now in
-    let s = shape_is p c.as_slice.result.now c.args.x c.index-as_slice-x.result _ c.as_slice.ensures c.requires.node c.index-as_slice-x.is c.in-Atom.is in
+    let s = shape_is p c.as_slice.result.now c.args.x _ _ c.as_slice.ensures c.requires.node c.in-Atom.is in
     ok_into c.atom_column.result _ _ (λ column m. atom_column_is p c.args.x c.args.sizes _ column c.requires.plain s m) c.atom_column.ensures
 
 pub returns-in-Union : goal.returns-in-Union
-returns-in-Union c = ?
+returns-in-Union c =
+    let p = plain_of c.args.program.now in
+    let s = shape_is p c.as_slice.result.now c.args.x _ _ c.as_slice.ensures c.requires.node c.in-Union.is ∙ ap Union (sym c.as_slice-in-Union.ensures) in
+    ok_into c.union_column.result _ _
+    (λ column m. union_column_is p c.args.x c.args.sizes c.args.columns.now c.as_slice-in-Union.result.now c.requires.plain c.requires.ready (plain_shape p c.args.x _ c.requires.plain c.requires.node s) column s m)
+    c.union_column.ensures
 
 pub returns-in-Product : goal.returns-in-Product
-returns-in-Product c = ?
+returns-in-Product c =
+    let p = plain_of c.args.program.now in
+    let s = shape_is p c.as_slice.result.now c.args.x _ _ c.as_slice.ensures c.requires.node c.in-Product.is ∙ ap Product (sym c.as_slice-in-Product.ensures) in
+    ok_into c.product_column.result _ _
+    (λ column m. product_column_is p c.args.x c.args.sizes c.args.columns.now c.as_slice-in-Product.result.now c.requires.plain c.requires.ready (plain_shape p c.args.x _ c.requires.plain c.requires.node s) column s m)
+    c.product_column.ensures
