@@ -5,7 +5,7 @@ use Rattle.luo_finite.specs.Listing.{In, Counts, Sums}
 use Rattle.luo_finite.specs.Range.{below, sum_below, convolve, convolve_all, unit}
 use Rattle.luo_finite.proofs.Sums.{Sums-iff, Sums-none, Sums-one, Sums-map, Counts-from, Counts-to, Counts-iff}
 use Rattle.luo_finite.proofs.Ranges.{In-below, below_In, sum_below-places, Sums-over_below}
-use Rattle.luo_finite.proofs.Products.{Sums-pairs}
+use Rattle.luo_finite.proofs.Shares.{Shared, Sums-shared}
 use Rattle.luo_model.specs.declared.program.Universe.TheVariants.{Unlabelled}
 use Rattle.luo_model.specs.declared.program.Universe.{Universe}
 use Rattle.luo_model.specs.declared.program.Part.{Part}
@@ -102,34 +102,28 @@ module _ (p : Program) (parts : List Part) (n : ℕ) where
 
 -- the first part of a tuple, and the rest
 module _ (p : Program) (part : Part) (parts : List Part) (n : ℕ) where
-  First : ℕ → Trees → Type 0
-  First k ts = (z : Tree × Trees) × (Of p (shape_of p part.node) k z.0 × PartsOf p parts (n - k) z.1) × (ts ≡ more z.0 z.1)
+  First : Tree × Trees → Type 0
+  First = Shared (Of p (shape_of p part.node)) (PartsOf p parts) n
 
-  from_first : (ts : Trees) → (k : ℕ) × In k (below (suc n)) × First k ts → PartsOf p (part ∷ parts) n ts
+  from_first : (ts : Trees) → (z : Tree × Trees) × First z × (ts ≡ more z.0 z.1) → PartsOf p (part ∷ parts) n ts
   unfolding First
-  from_first ts (k, i, (z, (a, b), e)) =
-      let l : k < suc n = below_In (suc n) k i in
-      subst (PartsOf p (part ∷ parts) n) (sym e) ((a.0, b.0), omega (arith, a.1, b.1))
+  from_first ts (z, (k, l, a, b), e) = subst (PartsOf p (part ∷ parts) n) (sym e) ((a.0, b.0), omega (arith, a.1, b.1))
 
-  to_first : (ts : Trees) → PartsOf p (part ∷ parts) n ts → (k : ℕ) × In k (below (suc n)) × First k ts
+  to_first : (ts : Trees) → PartsOf p (part ∷ parts) n ts → (z : Tree × Trees) × First z × (ts ≡ more z.0 z.1)
   unfolding First
   to_first none m = absurd m.0
-  to_first (more t ts) m = (size_of t, In-below (suc n) (size_of t) (omega (arith, m.1)), ((t, ts), ((m.0.0, refl), (m.0.1, omega (arith, m.1))), refl))
-
-  one_first : (i j : ℕ) (ts : Trees) → First i ts → First j ts → i ≡ j
-  unfolding First
-  one_first i j ts a b = cc
+  to_first (more t ts) m = ((t, ts), (size_of t, omega (arith, m.1), (m.0.0, refl), (m.0.1, omega (arith, m.1))), refl)
 
   both : (y z : Tree × Trees) → more y.0 y.1 ≡ more z.0 z.1 → y ≡ z
   both y z e = let a : y.0 ≡ z.0 = cc in let b : y.1 ≡ z.1 = cc in λ i. (a i, b i)
 
   Sums-first : (a b : ℕ → ℕ) → ((k : ℕ) → k ≤ n → Counts (Of p (shape_of p part.node) k) (a k)) → ((k : ℕ) → k ≤ n → Sums (PartsOf p parts k) (λ ts. 1) (b k)) → Sums (PartsOf p (part ∷ parts) n) (λ ts. 1) (convolve a b n)
-  unfolding First convolve
+  unfolding First
   Sums-first a b h r =
-      Sums-iff (λ ts. (k : ℕ) × In k (below (suc n)) × First k ts) (PartsOf p (part ∷ parts) n) (λ ts. 1) (sum_below (λ k. a k * b (n - k)) (suc n)) from_first to_first
-      (Sums-over_below First (λ ts. 1) (λ k. a k * b (n - k)) (suc n) one_first
-      (λ k i. Sums-map (λ (z : Tree × Trees). Of p (shape_of p part.node) k z.0 × PartsOf p parts (n - k) z.1) (λ z. more z.0 z.1) (λ ts. 1) (a k * b (n - k)) (λ y z q r e. both y z e)
-      (Sums-pairs (Of p (shape_of p part.node) k) (PartsOf p parts (n - k)) (λ t. 1) (λ ts. 1) (a k) (b (n - k)) (Counts-to (Of p (shape_of p part.node) k) (a k) (h k (omega arith))) (r (n - k) (omega arith)))))
+    Sums-iff (λ ts. (z : Tree × Trees) × First z × (ts ≡ more z.0 z.1)) (PartsOf p (part ∷ parts) n) (λ ts. 1) (convolve a b n) from_first to_first
+      (Sums-map First (λ z. more z.0 z.1) (λ ts. 1) (convolve a b n) (λ y z q r e. both y z e)
+        (Sums-shared (Of p (shape_of p part.node)) (PartsOf p parts) (λ t. 1) (λ ts. 1) a b n (λ i j t x y. sym x.1 ∙ y.1)
+          (λ k l. Counts-to (Of p (shape_of p part.node) k) (a k) (h k l)) r))
 
 only_none : (p : Program) (n : ℕ) (ts : Trees) → PartsOf p [] n ts → ts ≡ none
 only_none p n none m = refl
