@@ -1,0 +1,50 @@
+use Rattle.std.proofs.Common.{◌≡◌, ℕ, ◌<◌, List, length, sym, ◌∙◌, ap, subst, IfOk, Result, Ok, Err, map, sum_by}
+use Rattle.luo_finite.specs.Listing.{In}
+use Rattle.luo_finite.specs.Range.{convolve_all}
+use Rattle.luo_model.specs.declared.program.Part.{Part}
+use Rattle.luo_model.specs.declared.program.Shape.{Shape}
+use Rattle.luo_model.specs.declared.program.Shape.TheVariants.{Atom, Union, Product}
+use Rattle.luo_model.specs.Program.{shape_of}
+use Rattle.luo_model.specs.View.{plain_of}
+use Rattle.luo_top.specs.Plain.{IsPlain, IsBelow, IsPlainShape}
+use Rattle.luo_top.specs.Tables.{column_of, entry_of, AreMarked, HaveColumns, IsColumn, atom_counts}
+use Rattle.luo_top.proofs.NodeColumns.{shape_is, plain_shape, have_columns, atom_column_is, union_column_is, product_column_is}
+use Rattle.luo_top.proofs.tables.fill.column.Goals as goal
+
+ok_into : {A E : Type 0} (r : Result A E) (P Q : A → Type 0) → ((x : A) → P x → Q x) → IfOk r P → IfOk r Q
+ok_into (Ok x) P Q f h = f x h
+ok_into (Err e) P Q f h = h
+
+pub union_column-requires : goal.union_column-requires
+union_column-requires c =
+    let p = plain_of c.args.program.now in
+    let s = shape_is p c.as_slice.result.now c.args.x _ _ c.as_slice.ensures c.requires.node c.in-Union.is in
+    have_columns p c.args.columns.now c.as_slice-in-Union.result.now c.args.x c.args.sizes c.requires.wide (plain_shape p c.args.x _ c.requires.plain c.requires.node (s ∙ ap Union (sym c.as_slice-in-Union.ensures))) c.requires.ready
+
+pub product_column-requires : goal.product_column-requires
+product_column-requires c =
+    let p = plain_of c.args.program.now in
+    let s = shape_is p c.as_slice.result.now c.args.x _ _ c.as_slice.ensures c.requires.node c.in-Product.is in
+    have_columns p c.args.columns.now c.as_slice-in-Product.result.now c.args.x c.args.sizes c.requires.wide (plain_shape p c.args.x _ c.requires.plain c.requires.node (s ∙ ap Product (sym c.as_slice-in-Product.ensures))) c.requires.ready
+
+pub returns-in-Atom : goal.returns-in-Atom
+returns-in-Atom c =
+    let p = plain_of c.args.program.now in
+    let s = shape_is p c.as_slice.result.now c.args.x _ _ c.as_slice.ensures c.requires.node c.in-Atom.is in
+    ok_into c.atom_column.result _ _ (λ column m. atom_column_is p c.args.x c.args.sizes _ column c.requires.plain s m) c.atom_column.ensures
+
+pub returns-in-Union : goal.returns-in-Union
+returns-in-Union c =
+    let p = plain_of c.args.program.now in
+    let s = shape_is p c.as_slice.result.now c.args.x _ _ c.as_slice.ensures c.requires.node c.in-Union.is ∙ ap Union (sym c.as_slice-in-Union.ensures) in
+    ok_into c.union_column.result _ _
+    (λ column m. union_column_is p c.args.x c.args.sizes c.args.columns.now c.as_slice-in-Union.result.now c.requires.plain c.requires.ready (plain_shape p c.args.x _ c.requires.plain c.requires.node s) column s m)
+    c.union_column.ensures
+
+pub returns-in-Product : goal.returns-in-Product
+returns-in-Product c =
+    let p = plain_of c.args.program.now in
+    let s = shape_is p c.as_slice.result.now c.args.x _ _ c.as_slice.ensures c.requires.node c.in-Product.is ∙ ap Product (sym c.as_slice-in-Product.ensures) in
+    ok_into c.product_column.result _ _
+    (λ column m. product_column_is p c.args.x c.args.sizes c.args.columns.now c.as_slice-in-Product.result.now c.requires.plain c.requires.ready (plain_shape p c.args.x _ c.requires.plain c.requires.node s) column s m)
+    c.product_column.ensures
