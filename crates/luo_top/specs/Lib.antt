@@ -11,4 +11,5 @@ pub mod Outcome
 pub mod Plain
 pub mod Report
 pub mod Run
+pub mod Tables
 pub mod Words
