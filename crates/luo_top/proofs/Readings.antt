@@ -8,7 +8,7 @@ use Rattle.luo_top.specs.declared.work.Decision.{Decision}
 use Rattle.luo_top.specs.declared.work.Decision.TheVariants.{Output, Refusal, ReadFault, NoMemory}
 use Rattle.luo_top.specs.Answer as answer
 use Rattle.luo_top.specs.Decided.{IsDecision, IsReading}
-use Rattle.luo_top.specs.First.{IsFirstProgram, IsNoFirst}
+use Rattle.luo_top.specs.First.{IsFirstProgram, IsNoFirstText}
 use Rattle.luo_top.specs.Outcome.{Outcome}
 use Rattle.luo_top.specs.Report.{line, IsPast, IsReport}
 use Rattle.luo_top.specs.Run.{IsRefusal, text_of}

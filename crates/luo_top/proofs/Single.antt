@@ -8,7 +8,7 @@ use Rattle.luo_model.specs.Program.{Program}
 use Rattle.luo_top.specs.declared.status.Status.{Status}
 use Rattle.luo_top.specs.declared.status.Status.TheVariants.{Usage, Refused, Limit}
 use Rattle.luo_top.specs.Answer.{Answer, Output, Refusal}
-use Rattle.luo_top.specs.First.{IsFirstProgram, IsNoFirst}
+use Rattle.luo_top.specs.First.{IsFirstProgram, IsNoFirstText}
 use Rattle.luo_top.specs.Outcome.{Outcome, RefusedWhere, AsksFor, Reports}
 use Rattle.luo_top.specs.Report.{line, IsPast, IsReport}
 use Rattle.luo_top.specs.Words.{IsAnalyse, IsNumber, HasNoForm}
@@ -66,7 +66,7 @@ module _ (words : List (List ℕ)) (text file : List ℕ) (n : ℕ) (a : IsAnaly
   unfolding Outcome
   too_long long = inr (passes _ _ _ (has_form words file n a), inl (long, refl))
 
-  pub not_first : length text ≤ 65536 → IsNoFirst text → Outcome words text (Refusal Refused (line (codes "refused: F0")))
+  pub not_first : length text ≤ 65536 → IsNoFirstText text → Outcome words text (Refusal Refused (line (codes "refused: F0")))
   unfolding Outcome
   not_first short none = inr (passes _ _ _ (has_form words file n a), inr (passes _ _ _ (λ long. absurd (omega arith)), inl (none, refl)))
 

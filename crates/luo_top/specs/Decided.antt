@@ -5,7 +5,7 @@ use Rattle.luo_top.specs.declared.status.Status.TheVariants as way
 use Rattle.luo_top.specs.declared.work.Decision.{Decision}
 use Rattle.luo_top.specs.declared.work.Decision.TheVariants.{Output, Refusal, ReadFault, NoMemory}
 use Rattle.luo_top.specs.Answer as answer
-use Rattle.luo_top.specs.First.{IsFirstProgram, IsNoFirst}
+use Rattle.luo_top.specs.First.{IsFirstProgram, IsNoFirstText}
 use Rattle.luo_top.specs.Outcome.{Outcome}
 use Rattle.luo_top.specs.Report.{line, IsPast, IsReport}
 use Rattle.luo_top.specs.Run.{text_of, IsRefusal, FileFault}
@@ -24,7 +24,7 @@ IsDecision named before now words NoMemory = HasNoForm words → ⊥
 abbrev pub IsReading : List ℕ → ℕ → Decision → Type 0
 IsReading text last (Output bytes) = (p : Program) × IsFirstProgram text p × (last ≤ 160) × (IsPast p last → ⊥) × IsReport p last bytes.items
 IsReading text last (Refusal s bytes) =
-    (IsNoFirst text × (s ≡ way.Refused) × (bytes.now ≡ line (codes "refused: F0")))
+    (IsNoFirstText text × (s ≡ way.Refused) × (bytes.now ≡ line (codes "refused: F0")))
     ⊎ ((p : Program) × IsFirstProgram text p × (160 < last) × (s ≡ way.Limit) × (bytes.now ≡ line (codes "limit: size 160")))
     ⊎ ((p : Program) × IsFirstProgram text p × (last ≤ 160) × IsPast p last × (s ≡ way.Refused) × (bytes.now ≡ line (codes "refused: F0")))
 IsReading text last ReadFault = ⊥

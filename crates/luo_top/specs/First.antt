@@ -13,5 +13,9 @@ abbrev pub IsFirstProgram : List ℕ → Program → Type 0
 IsFirstProgram text p = (tokens : List Token) × (source : FirstSource) × Tokens text tokens × IsFirst (lexemes text tokens) source × IsFirstCore source p
 
 -- the text is no first text
-abbrev pub IsNoFirst : List ℕ → Type 0
-IsNoFirst text = (p : Program) → IsFirstProgram text p → ⊥
+abbrev pub IsNoFirstText : List ℕ → Type 0
+IsNoFirstText text = (p : Program) → IsFirstProgram text p → ⊥
+
+-- the text has a lexical fault
+abbrev pub HasNoTokens : List ℕ → Type 0
+HasNoTokens text = (tokens : List Token) → Tokens text tokens → ⊥

@@ -1,4 +1,5 @@
 pub mod Answer
+pub mod CoreSteps
 pub mod Decided
 pub mod Exit
 pub mod First

@@ -5,7 +5,7 @@ use Rattle.luo_model.specs.Program.{Program}
 use Rattle.luo_top.specs.declared.status.Status.{Status}
 use Rattle.luo_top.specs.declared.status.Status.TheVariants.{Usage, Refused, Limit}
 use Rattle.luo_top.specs.Answer.{Answer, Output, Refusal}
-use Rattle.luo_top.specs.First.{IsFirstProgram, IsNoFirst}
+use Rattle.luo_top.specs.First.{IsFirstProgram, IsNoFirstText}
 use Rattle.luo_top.specs.Report.{line, IsPast, IsReport}
 use Rattle.luo_top.specs.Words.{IsAnalyse, HasNoForm}
 
@@ -26,7 +26,7 @@ unfoldable pub Outcome : List (List ℕ) → List ℕ → Answer → Type 0
 Outcome words text =
     RefusedWhere (HasNoForm words) Usage (line (codes "usage"))
     or_else RefusedWhere (65536 < length text) Limit (line (codes "limit: bytes 65536"))
-    or_else RefusedWhere (IsNoFirst text) Refused (line (codes "refused: F0"))
+    or_else RefusedWhere (IsNoFirstText text) Refused (line (codes "refused: F0"))
     or_else With (AsksFor words) (λ last. RefusedWhere (160 < last) Limit (line (codes "limit: size 160"))
     or_else With (IsFirstProgram text) (λ p. RefusedWhere (IsPast p last) Refused (line (codes "refused: F0"))
     or_else Reports p last))

@@ -4,6 +4,7 @@
 mod first;
 mod report;
 mod status;
+mod tables;
 mod top;
 mod words;
 mod work;

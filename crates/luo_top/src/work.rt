@@ -1,10 +1,18 @@
 // What the words ask for, up to the sinks.
-ghost use Rattle.std.specs.Prelude.{◌≡◌, ◌≤◌, length};
+ghost use Rattle.std.specs.Prelude.{◌≡◌, ◌≤◌, length, IfOk, MatchOption};
+ghost use Rattle.luo_model.specs.View.{plain_of};
+ghost use Rattle.luo_top.specs.Plain.{IsPlain};
+ghost use Rattle.luo_top.specs.Report.{IsPast, IsReport};
 ghost use Rattle.luo_top.specs.Words.{texts};
 ghost use Rattle.luo_top.specs.Decided.{IsDecision, IsReading};
 
 use crate::Status;
+use crate::first::{NotFirst, first_program};
+use crate::report::report;
+use crate::tables::tables;
 use crate::words::command;
+use luo_model::Program;
+use luo_num::NoMemory;
 use luo_outside::{Files, ReadError, read_all};
 use std::alloc::Global;
 
@@ -43,10 +51,36 @@ pub fn decide<F: Files>(alloc: Global, words: &[String], files: &mut F) -> Decis
     }
 }
 
+// The report of a program for the sizes up to `last`. `None` comes exactly where a number of one of these is too large.
+fn report_of(alloc: Global, program: &Program, last: u32) -> Result<Option<Vec<u8>>, NoMemory>
+    requires plain { IsPlain (plain_of program.now) }
+    requires size { last ≤ 160 }
+    ensures { IfOk result (λ o. MatchOption o (IsPast (plain_of program.now) last)
+        (λ text. IsReport (plain_of program.now) last text.items × (IsPast (plain_of program.now) last → ⊥))) }
+{
+    let Some(rows) = tables(alloc, program, last)? else {
+        return Ok(None);
+    };
+    let text = report(alloc, program, rows.as_slice())?;
+    Ok(Some(text))
+}
+
 // The answer over a text that was read.
 fn analyse_text(alloc: Global, text: &[u8], last: u64) -> Decision
     requires short { length text.now ≤ 65536 }
     ensures { IsReading text.now last result }
 {
-    Decision::NoMemory
+    let program = match first_program(alloc, text) {
+        Ok(program) => program,
+        Err(NotFirst::NoFirst) => return Decision::Refusal(Status::Refused, NOT_TAKEN),
+        Err(NotFirst::NoMemory) => return Decision::NoMemory,
+    };
+    if last > SIZE_LIMIT {
+        return Decision::Refusal(Status::Limit, SIZE_LINE);
+    }
+    match report_of(alloc, &program, last as u32) {
+        Ok(Some(text)) => Decision::Output(text),
+        Ok(None) => Decision::Refusal(Status::Refused, NOT_TAKEN),
+        Err(_) => Decision::NoMemory,
+    }
 }
