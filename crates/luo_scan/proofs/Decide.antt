@@ -1,20 +1,19 @@
 -- A text has tokens or a first fault.
-use Rattle.std.proofs.Common.{◌≡◌, ◌≢◌, ◌≤◌, ◌<◌, ◌+◌, ◌^◌, ℕ, zero, suc, List, [], ◌∷◌, ◌++◌, length, take, drop, bytes_eq, refl, ap, sym, ◌∙◌, subst, inl, inr, arith, Option, None, Some}
+use Rattle.std.proofs.Common.{◌≡◌, ◌≢◌, ◌≤◌, ◌+◌, ◌^◌, ℕ, zero, suc, List, [], ◌∷◌, ◌++◌, length, take, drop, bytes_eq, refl, ap, sym, ◌∙◌, subst, inl, inr, arith, Option, None, Some}
 use Rattle.std.specs.Prelude.{◌⊎◌}
 use Rattle.std.specs.List.{AllByRecursion}
 use Rattle.std.proofs.Math.Seq.{take-append_seam}
 use Rattle.std.proofs.lemmas.Bool.{cases_lt, cases_eq, cases_Bool}
 use Rattle.std.proofs.lemmas.List.{length-append, take-append-drop}
 use Rattle.std.proofs.lemmas.Slice.Eq.{bytes_eq-Decides}
-use Rattle.luo_scan.specs.declared.token.Word.{Word}
 use Rattle.luo_scan.specs.declared.token.Mark.{Mark}
 use Rattle.luo_scan.specs.declared.token.TokenKind.{TokenKind}
 use Rattle.luo_scan.specs.declared.token.TokenKind.TheVariants as kind
 use Rattle.luo_scan.specs.declared.token.Token.{Token}
 use Rattle.luo_scan.specs.Bytes.{IsSeparator, IsDigit, IsLetter, IsNameByte}
 use Rattle.luo_scan.specs.Fronts.{Stops}
-use Rattle.luo_scan.specs.Spellings.{spelling, sign, value_after}
-use Rattle.luo_scan.specs.Tokens.{IsPiece, Begins, BeginsNot, IsWithin, TokensFrom, at_end, skipped, taken, LexicalFault, bad_byte, long_name, large_number, FaultFrom, no_piece, name_limit, number_limit, behind_separator, behind_token}
+use Rattle.luo_scan.specs.Spellings.{spelling, sign}
+use Rattle.luo_scan.specs.Tokens.{Begins, BeginsNot, IsWithin, TokensFrom, at_end, skipped, taken, LexicalFault, bad_byte, long_name, large_number, FaultFrom, no_piece, name_limit, number_limit, behind_separator, behind_token}
 use Rattle.luo_scan.proofs.Exclusions.{word_of, word_of-spelling, mark_of, mark_of-sign}
 use Rattle.luo_scan.proofs.Longest.{begins_separator, begins_comment, begins_name, begins_word, begins_zero, begins_number, begins_mark, begins_not}
 use Rattle.luo_scan.proofs.OneKind.{piece_some}

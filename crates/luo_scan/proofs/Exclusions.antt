@@ -1,16 +1,13 @@
 -- The kinds of a piece exclude each other.
-use Rattle.std.proofs.Common.{◌≡◌, ◌≢◌, ◌≤◌, ℕ, List, [], ◌∷◌, ◌++◌, length, refl, ap, sym, ◌∙◌, inl, inr, arith, Option, None, Some, cond, bytes_eq}
-use Rattle.std.specs.Prelude.{◌⊎◌}
+use Rattle.std.proofs.Common.{◌≡◌, ◌≢◌, ℕ, List, [], ◌∷◌, length, refl, ap, sym, ◌∙◌, arith, cond, bytes_eq}
 use Rattle.std.specs.List.{AllByRecursion}
 use Rattle.luo_scan.specs.declared.token.Word.{Word}
 use Rattle.luo_scan.specs.declared.token.Word.TheVariants.{KwLabelled, KwUnlabelled, KwType, KwEpsilon, KwAtom, KwProduct, KwSequence, KwSet, KwCycle, KwMultiset, KwPowerset, KwCard, KwIn, KwMeasure, KwProcedure, KwAnalyze, KwBegin, KwEnd, KwCase, KwOf, KwForall, KwDo, KwSkip, KwAs}
 use Rattle.luo_scan.specs.declared.token.Mark.{Mark}
 use Rattle.luo_scan.specs.declared.token.Mark.TheVariants.{Semicolon, Comma, Equals, Bar, LeftRound, RightRound, LessEqual, GreaterEqual, Dots, Colon, Underscore}
-use Rattle.luo_scan.specs.declared.token.TokenKind.{TokenKind}
 use Rattle.luo_scan.specs.Bytes.{IsSeparator, IsDigit, IsLetter, IsNameByte}
 use Rattle.luo_scan.specs.Spellings.{spelling, sign}
-use Rattle.luo_scan.specs.Tokens.{IsPiece, separator, comment, name, word, number, mark}
-use Rattle.luo_scan.proofs.Shapes.{Shape, separates, comments, names, numbers, marks, IsMarkByte, mark_first, mark_long, word_first}
+use Rattle.luo_scan.proofs.Shapes.{Shape, separates, comments, names, numbers, marks, IsMarkByte, mark_first, mark_long}
 
 pub separator_letter : (b : ℕ) → IsSeparator b → IsLetter b → ⊥
 separator_letter b s l = grind arith

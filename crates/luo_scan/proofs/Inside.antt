@@ -1,5 +1,5 @@
 -- Where tokens lie, and which bytes they have.
-use Rattle.std.proofs.Common.{◌≡◌, ◌≤◌, ◌<◌, ◌+◌, ◌-◌, ℕ, List, [], ◌∷◌, ◌++◌, length, take, drop, refl, ap, sym, ◌∙◌, subst, arith, Option, None, Some}
+use Rattle.std.proofs.Common.{◌≡◌, ◌≤◌, ◌<◌, ◌+◌, ◌-◌, ℕ, List, [], ◌∷◌, length, take, drop, refl, ap, sym, ◌∙◌, subst, arith, Option, None, Some}
 use Rattle.std.specs.List.{AllByRecursion}
 use Rattle.std.proofs.Math.Seq.{take-append_seam, drop-append_seam}
 use Rattle.std.proofs.lemmas.List.{length-append, drop-drop}
@@ -8,7 +8,7 @@ use Rattle.luo_scan.specs.declared.token.TokenKind.TheVariants as kind
 use Rattle.luo_scan.specs.declared.token.Token.{Token}
 use Rattle.luo_scan.specs.Faults.{AllInside}
 use Rattle.luo_scan.specs.Laws.{IsFit}
-use Rattle.luo_scan.specs.Lexemes.{Lexeme, lexeme, lexemes_from, lexemes}
+use Rattle.luo_scan.specs.Lexemes.{lexeme, lexemes_from, lexemes}
 use Rattle.luo_scan.specs.Tokens.{IsPiece, Begins, IsWithin, Tokens, TokensFrom, at_end, skipped, taken}
 use Rattle.luo_scan.proofs.OneKind.{piece_some}
 

@@ -1,5 +1,5 @@
 -- What begins with a piece of a kind, and goes on with a byte that the kind has not, begins with no longer piece.
-use Rattle.std.proofs.Common.{◌≡◌, ◌≢◌, ◌≤◌, ◌+◌, ℕ, List, [], ◌∷◌, ◌++◌, length, refl, ap, sym, ◌∙◌, subst, inl, inr, arith, lit≤, Option, None, Some}
+use Rattle.std.proofs.Common.{◌≡◌, ◌≢◌, ◌≤◌, ℕ, List, [], ◌∷◌, ◌++◌, length, refl, ap, subst, arith, lit≤, Option, None, Some}
 use Rattle.std.specs.List.{AllByRecursion}
 use Rattle.luo_scan.specs.declared.token.Word.{Word}
 use Rattle.luo_scan.specs.declared.token.Mark.{Mark}
@@ -10,7 +10,7 @@ use Rattle.luo_scan.specs.Fronts.{Stops}
 use Rattle.luo_scan.specs.Spellings.{spelling, sign, value_after}
 use Rattle.luo_scan.specs.Tokens.{IsPiece, Begins, BeginsNot, separator, comment, name, word, number, mark}
 use Rattle.luo_scan.proofs.Fronts.{front_at_most}
-use Rattle.luo_scan.proofs.Shapes.{Shape, ShapeOf, shape, separates, comments, names, numbers, marks, word_first}
+use Rattle.luo_scan.proofs.Shapes.{Shape, shape, separates, comments, names, numbers, marks, word_first}
 use Rattle.luo_scan.proofs.Exclusions.{behind_separator_byte, behind_percent, behind_letter, behind_digit, behind_mark}
 
 -- each piece that begins with this byte and goes on with these has no more bytes than this front

@@ -1,5 +1,5 @@
 -- Bytes are a piece of one kind.
-use Rattle.std.proofs.Common.{◌≡◌, ◌≢◌, ◌≤◌, ℕ, List, [], ◌∷◌, ◌++◌, length, refl, ap, sym, ◌∙◌, subst, inl, inr, arith, Option, None, Some}
+use Rattle.std.proofs.Common.{◌≡◌, ◌≢◌, ℕ, List, [], ◌∷◌, refl, ap, sym, ◌∙◌, subst, inl, inr, Option, None, Some}
 use Rattle.std.specs.Prelude.{◌⊎◌}
 use Rattle.luo_scan.specs.declared.token.Word.{Word}
 use Rattle.luo_scan.specs.declared.token.Mark.{Mark}

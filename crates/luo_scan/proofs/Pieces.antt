@@ -1,17 +1,16 @@
 -- What the first byte of a text and a run of bytes say of the piece that begins it.
-use Rattle.std.proofs.Common.{◌≡◌, ◌≢◌, ◌≤◌, ◌<◌, ◌+◌, ◌-◌, ◌^◌, min, ℕ, zero, suc, List, [], ◌∷◌, ◌++◌, length, take, drop, get_or, refl, ap, sym, ◌∙◌, subst, inl, inr, arith, Option, None, Some}
+use Rattle.std.proofs.Common.{◌≡◌, ◌≢◌, ◌≤◌, ◌<◌, ◌+◌, ◌^◌, min, ℕ, zero, suc, List, [], ◌∷◌, ◌++◌, length, take, drop, get_or, refl, ap, sym, ◌∙◌, subst, inl, arith, Option, None, Some}
 use Rattle.std.proofs.Math.Seq.{take-append_seam, drop-append_seam}
 use Rattle.std.proofs.lemmas.List.{take-append-drop, length-take-le, length-append}
-use Rattle.std.specs.List.{AllByRecursion}
 use Rattle.luo_scan.specs.declared.token.Word.{Word}
 use Rattle.luo_scan.specs.declared.token.Mark.{Mark}
 use Rattle.luo_scan.specs.declared.token.TokenKind.{TokenKind}
 use Rattle.luo_scan.specs.declared.token.TokenKind.TheVariants as kind
 use Rattle.luo_scan.specs.Bytes.{IsSeparator, IsDigit, IsLetter, IsNameByte}
 use Rattle.luo_scan.specs.Faults.{IsSome, IsFaulty}
-use Rattle.luo_scan.specs.Fronts.{Stops, IsRun}
+use Rattle.luo_scan.specs.Fronts.{IsRun}
 use Rattle.luo_scan.specs.Spellings.{spelling, sign, value_after}
-use Rattle.luo_scan.specs.Tokens.{IsPiece, Begins, BeginsNot, LexicalFault, bad_byte, long_name, large_number, FaultFrom, no_piece, name_limit, number_limit}
+use Rattle.luo_scan.specs.Tokens.{Begins, bad_byte, long_name, large_number, no_piece, name_limit, number_limit}
 use Rattle.luo_scan.proofs.Longest.{begins_separator, begins_comment, begins_name, begins_word, begins_zero, begins_number, begins_mark, begins_not}
 use Rattle.luo_scan.proofs.Shapes.{IsMarkLike, mark_like}
 

@@ -1,5 +1,5 @@
 -- What a piece is by its first byte.
-use Rattle.std.proofs.Common.{◌≡◌, ◌≢◌, ◌≤◌, ◌+◌, ℕ, List, [], ◌∷◌, ◌++◌, length, refl, ap, sym, ◌∙◌, subst, inl, inr, arith, Option, None, Some, IsTrue, Bool, true, false, cond, ◌||◌, nat_eq, bytes_eq, lit≤}
+use Rattle.std.proofs.Common.{◌≡◌, ◌≢◌, ◌≤◌, ℕ, List, [], ◌∷◌, length, refl, sym, ◌∙◌, subst, inl, inr, Option, cond, ◌||◌, nat_eq, lit≤}
 use Rattle.std.specs.Prelude.{◌⊎◌}
 use Rattle.std.specs.List.{AllByRecursion}
 use Rattle.luo_scan.specs.declared.token.Word.{Word}

@@ -1,10 +1,10 @@
 -- A text has one list of tokens or one first fault, and not both.
-use Rattle.std.proofs.Common.{◌≡◌, ◌≢◌, ◌≤◌, ◌<◌, ◌+◌, ◌^◌, ℕ, List, [], ◌∷◌, ◌++◌, length, take, drop, refl, ap, sym, ◌∙◌, subst, arith, Option, None, Some}
+use Rattle.std.proofs.Common.{◌≡◌, ◌≤◌, ◌<◌, ◌^◌, ℕ, List, [], ◌∷◌, ◌++◌, length, take, drop, refl, ap, sym, ◌∙◌, subst, arith, Option, None, Some}
 use Rattle.std.proofs.Math.Seq.{take-append_seam, drop-append_seam}
 use Rattle.luo_scan.specs.declared.token.TokenKind.{TokenKind}
 use Rattle.luo_scan.specs.declared.token.TokenKind.TheVariants as kind
 use Rattle.luo_scan.specs.declared.token.Token.{Token}
-use Rattle.luo_scan.specs.Tokens.{IsPiece, Begins, BeginsNot, IsWithin, TokensFrom, at_end, skipped, taken, LexicalFault, bad_byte, long_name, large_number, FaultFrom, no_piece, name_limit, number_limit, behind_separator, behind_token}
+use Rattle.luo_scan.specs.Tokens.{IsPiece, Begins, IsWithin, TokensFrom, at_end, skipped, taken, LexicalFault, FaultFrom, no_piece, name_limit, number_limit, behind_separator, behind_token}
 use Rattle.luo_scan.proofs.OneKind.{one_kind, piece_some}
 
 -- two pieces are the same, with what follows

@@ -1,5 +1,5 @@
 -- What is read from a byte on is read from the start on, behind what there is.
-use Rattle.std.proofs.Common.{◌≡◌, ◌≤◌, ◌<◌, ◌+◌, ◌-◌, ℕ, zero, suc, List, [], ◌∷◌, ◌++◌, length, take, drop, refl, ap, sym, ◌∙◌, subst, arith, None, Some}
+use Rattle.std.proofs.Common.{◌≡◌, ◌≤◌, ◌+◌, ◌-◌, ℕ, List, [], ◌∷◌, ◌++◌, length, take, drop, sym, subst, arith, None, Some}
 use Rattle.std.proofs.lemmas.List.{drop-drop, drop_all, take_all, append_assoc, append-nil, length-take-le, length-drop}
 use Rattle.luo_scan.specs.declared.token.TokenKind.{TokenKind}
 use Rattle.luo_scan.specs.declared.token.Token.{Token}

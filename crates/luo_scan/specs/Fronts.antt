@@ -1,5 +1,5 @@
 -- Fronts of a text.
-use Rattle.std.specs.Prelude.{◌≢◌, ℕ, List, [], ◌∷◌, take, drop, ◌<◌, ◌≤◌, length, None, Some}
+use Rattle.std.specs.Prelude.{◌≢◌, ℕ, List, [], ◌∷◌, take, drop, ◌≤◌, length}
 use Rattle.std.specs.List.{AllByRecursion}
 use Rattle.luo_scan.specs.declared.bytes.Class.{Class}
 use Rattle.luo_scan.specs.declared.bytes.Class.TheVariants.{Name, Digit, Comment}

@@ -1,4 +1,4 @@
-use Rattle.std.proofs.Common.{◌≡◌, List, ◌++◌, ℕ, ap, ◌∙◌}
+use Rattle.std.proofs.Common.{◌++◌, ap, ◌∙◌}
 use Rattle.luo_scan.proofs.Fronts.{starts_front}
 use Rattle.luo_scan.proofs.marks.mark_of.Goals as goal
 

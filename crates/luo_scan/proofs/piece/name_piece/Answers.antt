@@ -1,4 +1,3 @@
-use Rattle.std.proofs.Common.{ℕ, take}
 use Rattle.luo_scan.proofs.Pieces.{name_cut, word_cut, short_cut, long_cut}
 use Rattle.luo_scan.proofs.piece.name_piece.Goals as goal
 

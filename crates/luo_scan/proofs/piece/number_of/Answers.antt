@@ -1,4 +1,4 @@
-use Rattle.std.proofs.Common.{◌≡◌, ◌+◌, ◌*◌, ◌-◌, min, take, get_or, length, sym, ◌∙◌, ap}
+use Rattle.std.proofs.Common.{◌+◌, ◌*◌, take, sym, ◌∙◌, ap}
 use Rattle.luo_scan.specs.Spellings.{value_after}
 use Rattle.luo_scan.proofs.Numbers.{value_more, capped}
 use Rattle.luo_scan.proofs.piece.number_of.Goals as goal

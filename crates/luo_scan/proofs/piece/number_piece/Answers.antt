@@ -1,4 +1,4 @@
-use Rattle.std.proofs.Common.{ℕ, ◌≡◌, take, subst, Some, sym, rules}
+use Rattle.std.proofs.Common.{take, subst, Some, rules}
 use Rattle.luo_scan.specs.Spellings.{value_after}
 use Rattle.luo_scan.specs.declared.token.TokenKind.TheVariants.{Number}
 use Rattle.luo_scan.proofs.Pieces.{IsCut, zero_cut, number_cut, large_cut, exact}

@@ -1,4 +1,4 @@
-use Rattle.std.proofs.Common.{◌+◌, drop, subst, sym}
+use Rattle.std.proofs.Common.{◌+◌, subst, sym}
 use Rattle.luo_scan.specs.declared.piece.Piece.TheVariants.{Gap, Token}
 use Rattle.luo_scan.specs.Faults.{IsPieceOf}
 use Rattle.luo_scan.proofs.Walk.{SoFar, so_far_gap, so_far_token, so_far_end, up_to_end}
