@@ -1,3 +1,4 @@
 pub mod Listing
 pub mod Range
 pub mod Steps
+pub mod Laws

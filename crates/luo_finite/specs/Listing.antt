@@ -17,6 +17,12 @@ abbrev pub Pairwise : {A : Type 0} → (A → A → Type 0) → List A → Type 
 Pairwise R [] = Unit {0}
 Pairwise {A} R (x ∷ xs) = ((y : A) → In y xs → R x y) × Pairwise R xs
 
+-- each element is so related to the next
+abbrev pub Neighbours : {A : Type 0} → (A → A → Type 0) → List A → Type 0
+Neighbours R [] = Unit {0}
+Neighbours R (x ∷ []) = Unit {0}
+Neighbours R (x ∷ (y ∷ rest)) = R x y × Neighbours R (y ∷ rest)
+
 -- l has no doubles and holds exactly what P holds of
 pub record Lists {A : Type 0} (P : A → Type 0) (l : List A) : Type 0 where
   pub single : NoDouble l

@@ -1,13 +1,9 @@
 //! Finite listings and their sums, ranges, and answers by steps in order: words and laws.
 #![tactic(auto)]
 
-ghost use Rattle.std.specs.Prelude.{◌≡◌};
-ghost use Rattle.luo_finite.specs.Listing.{Sums, Totals, Counts, Pairwise};
-ghost use Rattle.luo_finite.specs.Steps.{With, ◌or_else◌};
-ghost use Rattle.luo_finite.specs.Range.{convolve_all};
+mod laws;
 
-fn one() -> u8
-    ensures { result ≡ 1 }
-{
-    1
-}
+pub use laws::{
+    count_of_below, neighbours_decide, one_answer, one_length, one_total, sum_of_products,
+    sum_over_keys, sums_change_places,
+};

@@ -3,8 +3,11 @@
 
 ghost use Rattle.std.specs.Prelude.{◌≡◌, ◌+◌, ◌*◌, ◌≤◌, SomeIff};
 
+pub mod laws;
+mod marks;
 mod memory;
 
+pub use marks::{marked_add, marked_mul};
 pub use memory::NoMemory;
 pub use sqlite_items::{Boxed, Items};
 
@@ -13,6 +16,9 @@ pub type Text = Items<u8>;
 
 /// The greatest number that a table holds, `2^127 - 1`.
 pub const MAX: u128 = 170141183460469231731687303715884105727;
+
+/// The mark of a number above `MAX`, in tables that hold marks: `MAX + 1`.
+pub const MARK: u128 = MAX + 1;
 
 /// The sum of two numbers. `None` comes exactly where it is above `MAX`.
 pub fn add(a: u128, b: u128) -> Option<u128>
@@ -33,5 +39,31 @@ pub fn mul(a: u128, b: u128) -> Option<u128>
     match a.checked_mul(b) {
         Some(product) if product <= MAX => Some(product),
         _ => None,
+    }
+}
+
+#[cfg(test)]
+mod tests {
+    use super::*;
+
+    // Holds of a type whose values may be handed to other threads and shared by them.
+    fn shared<T: Send + Sync>() {}
+
+    #[test]
+    fn numbers_end_at_the_last(rt: HostRuntime) {
+        assert_eq!(rt; add(MAX, 1), None);
+        assert_eq!(rt; add(MAX, 0), Some(MAX));
+        assert_eq!(rt; mul(MAX, 2), None);
+        assert_eq!(rt; mul(MAX, 0), Some(0));
+        assert_eq!(rt; marked_add(MARK, MARK), MARK);
+        assert_eq!(rt; marked_mul(MARK, 0), 0);
+        assert_eq!(rt; marked_mul(MARK, MARK), MARK);
+    }
+
+    #[test]
+    fn threads_may_share_these(_rt: HostRuntime) {
+        shared::<Text>();
+        shared::<Items<Text>>();
+        shared::<NoMemory>();
     }
 }

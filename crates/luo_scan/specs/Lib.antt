@@ -2,3 +2,6 @@ pub mod Bytes
 pub mod Spellings
 pub mod Tokens
 pub mod Lexemes
+pub mod Fronts
+pub mod Faults
+pub mod Laws

@@ -1,0 +1,12 @@
+pub mod Membership
+pub mod SumsBy
+pub mod Doubles
+pub mod Listings
+pub mod Sums
+pub mod Products
+pub mod Ranges
+pub mod Totals
+pub mod Pairs
+pub mod Steps
+pub mod Pairwise
+pub mod Shares

@@ -1,0 +1,11 @@
+pub mod Fronts
+pub mod Shapes
+pub mod Exclusions
+pub mod Longest
+pub mod Pieces
+pub mod Numbers
+pub mod Walk
+pub mod OneKind
+pub mod Unique
+pub mod Decide
+pub mod Inside

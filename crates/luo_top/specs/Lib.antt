@@ -1,0 +1,12 @@
+pub mod Answer
+pub mod Decided
+pub mod Exit
+pub mod First
+pub mod FirstCore
+pub mod FirstGrammar
+pub mod FirstSymbols
+pub mod Outcome
+pub mod Plain
+pub mod Report
+pub mod Run
+pub mod Words

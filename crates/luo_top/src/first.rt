@@ -1,0 +1,2 @@
+// First texts: what they say, and their core form.
+pub mod source;

@@ -1,0 +1,12 @@
+//! The top call, which does all that the program does.
+#![tactic(auto)]
+
+mod first;
+mod report;
+mod status;
+mod top;
+mod words;
+mod work;
+
+pub use status::{Status, code};
+pub use top::luo;
