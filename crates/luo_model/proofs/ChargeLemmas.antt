@@ -7,7 +7,7 @@ use Rattle.luo_model.specs.Charges.{bound, EachCharges, BodyCharges, ItemsCharge
 pub some_one : {A : Type 0} (x y : A) → Some x ≡ Some y → x ≡ y
 some_one x y e = cc
 
-trees_one : (ss ts : Trees) → Coll ss ≡ Coll ts → ss ≡ ts
+pub trees_one : (ss ts : Trees) → Coll ss ≡ Coll ts → ss ≡ ts
 trees_one ss ts e = cc
 
 -- what two relations of called procedures allow, each tree having one number by the first that is also its number by the second

@@ -112,3 +112,9 @@ module _ (p : Program) where
 
   pub within_charges : (d f : ℕ) (s : Tree) (q : ℕ) → ChargesWithin p.procs d f s q → Charges p f s q
   within_charges d f s q c = (d, c)
+
+  -- no relation that follows the bodies holds less
+  pub charges_least : (R : ℕ → Tree → ℕ → Type 0) → ((f : ℕ) (P : Procedure) (s : Tree) (q : ℕ) → slice_get p.procs f ≡ Some P → BodyCharges R P.body (s ∷ []) q → R f s q)
+    → (d f : ℕ) (s : Tree) (q : ℕ) → ChargesWithin p.procs d f s q → R f s q
+  charges_least R follows zero f s q c = absurd c
+  charges_least R follows (suc d) f s q c = follows f c.0 s q c.1 (body_wider (ChargesWithin p.procs d) R (charges_least R follows d) c.0.body (s ∷ []) q c.2)

@@ -1,14 +1,15 @@
 -- The order of structures is total. It compares structures as it would two lists of numbers, their codes.
-use Rattle.std.proofs.Common.{◌≡◌, ℕ, zero, suc, ◌<◌, List, [], ◌∷◌, refl, sym, ◌∙◌, ap, subst}
+use Rattle.std.proofs.Common.{◌≡◌, ℕ, zero, suc, ◌<◌, List, [], ◌∷◌, Bool, true, false, refl, sym, ◌∙◌, ap, subst, arith}
 use Rattle.std.specs.declared.cmp.Ordering.{Ordering}
 use Rattle.std.specs.declared.cmp.Ordering.TheVariants.{Less, Equal, Greater}
 use Rattle.std.specs.Cmp.{IsTotalOrder}
 use Rattle.std.specs.Cmp.Lexicographic.{slice_cmp}
-use Rattle.std.specs.Ordering.{nat_cmp, on, MatchOrdering, ordering_then}
-use Rattle.std.proofs.lemmas.Cmp.{nat_list_cmp_total, on_total, ranked, tied_itself}
-use Rattle.luo_model.specs.Tree.{Tree, Trees, Atom, Inj, Tup, Coll, none, more, size_of, labels_of}
-use Rattle.luo_model.specs.Order.{sorted, then_by, form_of, by_size_and_labels, by_form, by_parts, order_of}
-use Rattle.luo_model.specs.Laws.{OrderIsTotal}
+use Rattle.std.specs.Ordering.{nat_cmp, on, MatchOrdering, ordering_then, ordering_reverse, is_gt}
+use Rattle.std.proofs.lemmas.Cmp.{nat_list_cmp_total, on_total, ranked, tied_itself, upto}
+use Rattle.luo_finite.proofs.Pairwise.{pairwise_from_neighbours}
+use Rattle.luo_model.specs.Tree.{Tree, Trees, Atom, Inj, Tup, Coll, none, more, size_of, labels_of, least_label}
+use Rattle.luo_model.specs.Order.{sorted, then_by, form_of, by_size_and_labels, by_form, by_parts, order_of, IsBefore, IsNotBefore}
+use Rattle.luo_model.specs.Laws.{OrderIsTotal, NeighboursStand}
 
 -- the labels with a sign before each and another at the end
 unfoldable ended : List ℕ → List ℕ → List ℕ
@@ -152,3 +153,28 @@ order_itself s = tied_itself order_total s
 
 pub order_is_total : OrderIsTotal
 order_is_total = (order_total, order_itself, order_equal)
+
+not_above : (o : Ordering) → (o ≡ Less → ⊥) → is_gt (ordering_reverse o) ≡ false
+not_above Less h = absurd (h refl)
+not_above Equal h = refl
+not_above Greater h = refl
+
+turned_below : (o : Ordering) → o ≡ Less → is_gt (ordering_reverse o) ≡ true
+turned_below o e = ap (λ a. is_gt (ordering_reverse a)) e
+
+never_both : (b : Bool) → b ≡ true → b ≡ false → ⊥
+never_both b e f = absurd (cc)
+
+turned : (s t : Tree) → is_gt (order_of t s) ≡ is_gt (ordering_reverse (order_of s t))
+turned s t = ap is_gt (order_total.antisymm t s)
+
+pub not_before_through : (s t u : Tree) → IsNotBefore s t → IsNotBefore t u → IsNotBefore s u
+not_before_through s t u h k e =
+  never_both (is_gt (order_of u s)) (turned s u ∙ turned_below (order_of s u) e)
+    (upto order_total u t s (turned t u ∙ not_above (order_of t u) k) (turned s t ∙ not_above (order_of s t) h))
+
+pub neighbours_stand : NeighboursStand
+neighbours_stand =
+  ((λ ts h. pairwise_from_neighbours (λ s t. least_label s < least_label t) ts (λ s t u a b. omega (arith, a, b)) h),
+    (λ ts h. pairwise_from_neighbours IsNotBefore ts not_before_through h),
+    (λ ts h. pairwise_from_neighbours (λ s t. IsBefore t s) ts (λ s t u a b. order_total.trans u t s b a) h))

@@ -48,10 +48,6 @@ leaf = Inj 1 (Atom 0 0)
 abbrev pub branching : Tree → Tree → Tree
 branching s t = Inj 2 (Tup (three (Atom 1 0) s t))
 
--- z = atom(1); node 1 is z | z
-abbrev pub twice : Program
-twice = program Unlabelled (node (shape.Atom 1) ∷ (node (shape.Union (part 0 ∷ (part 0 ∷ []))) ∷ [])) []
-
 -- e = epsilon; z = atom(1); node 2 is product(e, z)
 abbrev pub beside_nothing : Program
 beside_nothing = program Unlabelled (node (shape.Atom 0) ∷ (node (shape.Atom 1) ∷ (node (shape.Product (part 0 ∷ (part 1 ∷ []))) ∷ []))) []
@@ -78,10 +74,11 @@ atoms universe weight = program universe (node (shape.Atom weight) ∷ []) []
 abbrev pub point : ℕ → Tree
 point label = Atom 1 label
 
--- the union of an atom with itself, and a case that charges 3 in the first branch and 5 in the second
+-- z = atom(1); node 1 is z | z, and a procedure on it charges 3 in the first branch and 5 in the second; site 0 is its case, and site 1 its whole
 abbrev pub choosing : Program
-choosing = program Unlabelled (node (shape.Atom 1) ∷ (node (shape.Union (part 0 ∷ (part 0 ∷ []))) ∷ []))
-  (procedure 1 (Does 0 (item (Case 0 (arm Nothing (Does 3 no_items) (arm Nothing (Does 5 no_items) no_arms)) 0) no_items)) 1 ∷ [])
+choosing = record (program Unlabelled (node (shape.Atom 1) ∷ (node (shape.Union (part 0 ∷ (part 0 ∷ []))) ∷ []))
+  (procedure 1 (Does 0 (item (Case 0 (arm Nothing (Does 3 no_items) (arm Nothing (Does 5 no_items) no_arms)) 0) no_items)) 1 ∷ []))
+  { sites = record { node = 1; caller = 0; place = 0 } ∷ (record { node = 1; caller = 0; place = 1 } ∷ []) }
 
 -- multisets of atoms of weight 1, and a walk that charges 1 at each component
 abbrev pub walking : Program
