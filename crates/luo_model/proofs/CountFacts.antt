@@ -1,5 +1,5 @@
 -- How many structures some small types have.
-use Rattle.std.proofs.Common.{◌≡◌, ℕ, zero, suc, ◌+◌, List, [], ◌∷◌, ◌⊎◌, inl, inr, length, refl, sym, ◌∙◌, ap, subst, arith, Some, None, slice_get}
+use Rattle.std.proofs.Common.{◌≡◌, ℕ, zero, suc, ◌+◌, List, [], ◌∷◌, ◌⊎◌, inl, inr, length, refl, sym, ◌∙◌, ap, subst, arith, Some}
 use Rattle.luo_finite.specs.Listing.{In, Lists, Counts}
 use Rattle.luo_finite.proofs.Listings.{Lists-same_length, Lists-none, Lists-one}
 use Rattle.luo_model.specs.declared.program.Part.{Part}
@@ -7,7 +7,7 @@ use Rattle.luo_model.specs.Tree.{Tree, Trees, Atom, Inj, Tup, Coll, none, more, 
 use Rattle.luo_model.specs.Program.{Program, shape_of}
 use Rattle.luo_model.specs.Member.{Member, Fits, FitAll}
 use Rattle.luo_model.specs.Structures.{IsStructure}
-use Rattle.luo_model.specs.Examples.{part, one, two, three, trees, leaf, branching, choosing, beside_nothing}
+use Rattle.luo_model.specs.Examples.{part, two, trees, leaf, branching, choosing, beside_nothing}
 use Rattle.luo_model.specs.FactsCounts.{BinaryTreesAreCounted, BranchesAreCountedApart, EmptyFactorChangesNoCount}
 use Rattle.luo_model.proofs.ChargeLemmas.{some_one}
 
@@ -18,7 +18,7 @@ count_listed P l h = record { exists = (l, h); each = λ m k. Lists-same_length 
 count_none : {A : Type 0} (P : A → Type 0) → ((x : A) → P x → ⊥) → Counts P 0
 count_none P never = count_listed P [] (Lists-none P never)
 
-count_one : {A : Type 0} (P : A → Type 0) (a : A) → P a → ((x : A) → P x → x ≡ a) → Counts P 1
+pub count_one : {A : Type 0} (P : A → Type 0) (a : A) → P a → ((x : A) → P x → x ≡ a) → Counts P 1
 count_one P a h only = count_listed P (a ∷ []) (Lists-one P a h only)
 
 list_two : {A : Type 0} (P : A → Type 0) (a b : A) → (a ≡ b → ⊥) → P a → P b → ((x : A) → P x → (x ≡ a) ⊎ (x ≡ b)) → Lists P (a ∷ (b ∷ []))
@@ -37,7 +37,7 @@ list_two {A} P a b differ h g only = record { single = ((λ i. apart i), ((λ i.
     found x (inl e) = inl e
     found x (inr e) = inr (inl e)
 
-count_two : {A : Type 0} (P : A → Type 0) (a b : A) → (a ≡ b → ⊥) → P a → P b → ((x : A) → P x → (x ≡ a) ⊎ (x ≡ b)) → Counts P 2
+pub count_two : {A : Type 0} (P : A → Type 0) (a b : A) → (a ≡ b → ⊥) → P a → P b → ((x : A) → P x → (x ≡ a) ⊎ (x ≡ b)) → Counts P 2
 count_two P a b differ h g only = count_listed P (a ∷ (b ∷ [])) (list_two P a b differ h g only)
 
 -- a member of a union's branch, where the branch is known
@@ -57,7 +57,7 @@ atom_in_choosing (Inj (suc i) t) h = absurd h
 atom_in_choosing (Tup ts) h = absurd h
 atom_in_choosing (Coll ts) h = absurd h
 
-either_branch : (s : Tree) → Member choosing 1 s → (s ≡ Inj 1 (Atom 1 0)) ⊎ (s ≡ Inj 2 (Atom 1 0))
+pub either_branch : (s : Tree) → Member choosing 1 s → (s ≡ Inj 1 (Atom 1 0)) ⊎ (s ≡ Inj 2 (Atom 1 0))
 either_branch (Atom w l) h = absurd h
 either_branch (Inj zero t) h = absurd h
 either_branch (Inj (suc zero) t) h = inl (ap (Inj 1) (atom_in_choosing t (in_branch choosing (part 0) h.0 t h.1 h.2)))
@@ -66,10 +66,13 @@ either_branch (Inj (suc (suc (suc i))) t) h = absurd (cc)
 either_branch (Tup ts) h = absurd h
 either_branch (Coll ts) h = absurd h
 
-pub branches_are_counted_apart : BranchesAreCountedApart
-branches_are_counted_apart =
-  count_two (IsStructure choosing 1 1) (Inj 1 (Atom 1 0)) (Inj 2 (Atom 1 0)) (λ e. cc) ((_, refl, (refl, refl)), refl, tt) ((_, refl, (refl, refl)), refl, tt)
+pub branches_listed : Lists (IsStructure choosing 1 1) (Inj 1 (Atom 1 0) ∷ (Inj 2 (Atom 1 0) ∷ []))
+branches_listed =
+    list_two (IsStructure choosing 1 1) (Inj 1 (Atom 1 0)) (Inj 2 (Atom 1 0)) (λ e. cc) ((_, refl, (refl, refl)), refl, tt) ((_, refl, (refl, refl)), refl, tt)
     (λ s h. either_branch s h.0)
+
+pub branches_are_counted_apart : BranchesAreCountedApart
+branches_are_counted_apart = count_listed (IsStructure choosing 1 1) (Inj 1 (Atom 1 0) ∷ (Inj 2 (Atom 1 0) ∷ [])) branches_listed
 
 -- ---- the product with a factor of size 0
 
@@ -104,10 +107,11 @@ no_other_size : (n : ℕ) → (1 ≡ n → ⊥) → (s : Tree) → IsStructure b
 no_other_size n other s h = other (sym (ap size_of (product_is s h.0)) ∙ h.1)
 
 pub empty_factor_changes_no_count : EmptyFactorChangesNoCount
-empty_factor_changes_no_count =
-  (count_none (IsStructure beside_nothing 2 0) (no_other_size 0 (λ e. omega (arith, e))),
-    count_one (IsStructure beside_nothing 2 1) (Tup (two (Atom 0 0) (Atom 1 0))) (((refl, refl), ((refl, refl), tt)), refl, tt) (λ s h. product_is s h.0),
-    count_none (IsStructure beside_nothing 2 2) (no_other_size 2 (λ e. omega (arith, e))))
+empty_factor_changes_no_count = (
+  count_none (IsStructure beside_nothing 2 0) (no_other_size 0 (λ e. omega (arith, e))),
+  count_one (IsStructure beside_nothing 2 1) (Tup (two (Atom 0 0) (Atom 1 0))) (((refl, refl), ((refl, refl), tt)), refl, tt) (λ s h. product_is s h.0),
+  count_none (IsStructure beside_nothing 2 2) (no_other_size 2 (λ e. omega (arith, e))),
+)
 
 -- ---- binary trees
 
@@ -138,7 +142,7 @@ factors none h = absurd h
 factors (more s none) h = absurd h.1
 factors (more s (more t none)) h = absurd h.1.1
 factors (more s (more t (more u none))) h =
-  record { left = t; right = u; left_is = h.1.0; right_is = h.1.1.0; is = λ i. Inj 2 (Tup (more (node_is s h.0 i) (two t u))) }
+    record { left = t; right = u; left_is = h.1.0; right_is = h.1.1.0; is = λ i. Inj 2 (Tup (more (node_is s h.0 i) (two t u))) }
 factors (more s (more t (more u (more v ts)))) h = absurd h.1.1.1
 
 product_branches : (s : Tree) → Member trees 3 s → Branches (Inj 2 s)
@@ -173,9 +177,9 @@ at_one s h e = by (leaf_or_branches s h)
     by : (s ≡ leaf) ⊎ Branches s → s ≡ branching leaf leaf
     by (inl f) = let g : size_of s ≡ size_of leaf = ap size_of f in absurd (omega (arith, e, g))
     by (inr b) =
-      let l : b.left ≡ leaf = at_none b.left b.left_is (omega (arith, e, size_of_branching s b)) in
-      let r : b.right ≡ leaf = at_none b.right b.right_is (omega (arith, e, size_of_branching s b)) in
-      b.is ∙ (λ i. branching (l i) (r i))
+        let l : b.left ≡ leaf = at_none b.left b.left_is (omega (arith, e, size_of_branching s b)) in
+        let r : b.right ≡ leaf = at_none b.right b.right_is (omega (arith, e, size_of_branching s b)) in
+        b.is ∙ (λ i. branching (l i) (r i))
 
 shared : (m n : ℕ) → m + n ≡ 1 → ((m ≡ 0) × (n ≡ 1)) ⊎ ((m ≡ 1) × (n ≡ 0))
 shared m n e = grind arith
@@ -184,7 +188,7 @@ at_two : (s : Tree) → Member trees 2 s → size_of s ≡ 2 → (s ≡ branchin
 at_two s h e = by (leaf_or_branches s h)
   where
     of : (b : Branches s) → ((size_of b.left ≡ 0) × (size_of b.right ≡ 1)) ⊎ ((size_of b.left ≡ 1) × (size_of b.right ≡ 0))
-      → (s ≡ branching (branching leaf leaf) leaf) ⊎ (s ≡ branching leaf (branching leaf leaf))
+        → (s ≡ branching (branching leaf leaf) leaf) ⊎ (s ≡ branching leaf (branching leaf leaf))
     of b (inl k) = inr (b.is ∙ (λ i. branching (at_none b.left b.left_is k.0 i) (at_one b.right b.right_is k.1 i)))
     of b (inr k) = inl (b.is ∙ (λ i. branching (at_one b.left b.left_is k.0 i) (at_none b.right b.right_is k.1 i)))
 
@@ -200,9 +204,10 @@ branching_member s t h k = (_, refl, ((refl, refl), (h, (k, tt))))
 
 pub binary_trees_are_counted : BinaryTreesAreCounted
 binary_trees_are_counted =
-  let cherry = branching_member leaf leaf leaf_member leaf_member in
-  (count_one (IsStructure trees 2 0) leaf (leaf_member, refl, tt) (λ s h. at_none s h.0 h.1),
-    count_one (IsStructure trees 2 1) (branching leaf leaf) (cherry, refl, tt) (λ s h. at_one s h.0 h.1),
-    count_two (IsStructure trees 2 2) (branching (branching leaf leaf) leaf) (branching leaf (branching leaf leaf)) (λ e. cc)
-      (branching_member (branching leaf leaf) leaf cherry leaf_member, refl, tt) (branching_member leaf (branching leaf leaf) leaf_member cherry, refl, tt)
-      (λ s h. at_two s h.0 h.1))
+    let cherry = branching_member leaf leaf leaf_member leaf_member in (
+      count_one (IsStructure trees 2 0) leaf (leaf_member, refl, tt) (λ s h. at_none s h.0 h.1),
+      count_one (IsStructure trees 2 1) (branching leaf leaf) (cherry, refl, tt) (λ s h. at_one s h.0 h.1),
+      count_two (IsStructure trees 2 2) (branching (branching leaf leaf) leaf) (branching leaf (branching leaf leaf)) (λ e. cc)
+          (branching_member (branching leaf leaf) leaf cherry leaf_member, refl, tt) (branching_member leaf (branching leaf leaf) leaf_member cherry, refl, tt)
+          (λ s h. at_two s h.0 h.1),
+    )

@@ -1,11 +1,11 @@
 -- The sites of procedures' wholes, and what a site charges.
-use Rattle.std.proofs.Common.{◌≡◌, ℕ, zero, suc, ◌+◌, List, [], ◌∷◌, ◌++◌, ◌⊎◌, inl, inr, ⊎_elim, refl, sym, ◌∙◌, ap, subst, map, flat_map, Some, slice_get}
+use Rattle.std.proofs.Common.{◌≡◌, ℕ, zero, suc, List, [], ◌∷◌, inl, inr, refl, sym, ◌∙◌, ap, subst, map, flat_map, Some, slice_get}
 use Rattle.luo_finite.specs.Listing.{In, NoDouble}
 use Rattle.luo_finite.proofs.Membership.{In-append_left, In-append_right}
-use Rattle.luo_model.specs.Tree.{Tree, Trees, Coll}
-use Rattle.luo_model.specs.Program.{Program, Procedure, Body}
-use Rattle.luo_model.specs.Charges.{Work, of_body, of_call, of_case, of_walk, EachCharges, BodyCharges, ChargesWithin, Charges, works_of_body, works_of_procedure, works_of, WorkCharges, SiteCharges}
-use Rattle.luo_model.specs.Laws.{SitesAreApart, ChargesAreSingle, SiteChargesAreSingle, ProceduresChargeTheirBodies, WholesCharge, WholesChargeNoMore}
+use Rattle.luo_model.specs.Tree.{Tree}
+use Rattle.luo_model.specs.Program.{Program, Procedure}
+use Rattle.luo_model.specs.Charges.{Work, of_body, of_call, of_case, of_walk, EachCharges, BodyCharges, ChargesWithin, Charges, works_of_body, works_of_procedure, works_of, WorkCharges}
+use Rattle.luo_model.specs.Laws.{ChargesAreSingle, SiteChargesAreSingle, ProceduresChargeTheirBodies, WholesCharge, WholesChargeNoMore}
 use Rattle.luo_model.proofs.ChargeLemmas.{some_one, trees_one, charges_one, each_one, body_one, case_one}
 use Rattle.luo_model.proofs.DepthLemmas.{body_wider, charges_by_body, within_charges}
 
@@ -33,7 +33,7 @@ whole_in p f P h = in_flat_map works_of_procedure p.procs f P (P.site, of_body P
 body_of_charges : (p : Program) (f : ℕ) (P : Procedure) (s : Tree) (q : ℕ) → slice_get p.procs f ≡ Some P → (d : ℕ) → ChargesWithin p.procs d f s q → BodyCharges (Charges p) P.body (s ∷ []) q
 body_of_charges p f P s q h zero c = absurd c
 body_of_charges p f P s q h (suc d) c =
-  body_wider (ChargesWithin p.procs d) (Charges p) (within_charges p d) P.body (s ∷ []) q
+    body_wider (ChargesWithin p.procs d) (Charges p) (within_charges p d) P.body (s ∷ []) q
     (subst (λ Q. BodyCharges (ChargesWithin p.procs d) Q.body (s ∷ []) q) (some_one c.0 P (sym c.1 ∙ h)) c.2)
 
 pub procedures_charge_their_bodies : ProceduresChargeTheirBodies
@@ -44,8 +44,8 @@ wholes_charge p f P s q h c = (of_body P.body, whole_in p f P h, body_of_charges
 
 pub wholes_charge_no_more : WholesChargeNoMore
 wholes_charge_no_more p d f P s q h c =
-  let e : c.0 ≡ of_body P.body = second_one (works_of p) d P.site c.0 (of_body P.body) c.1 (whole_in p f P h) in
-  charges_by_body p f P s q h (subst (λ w. WorkCharges p w s q) e c.2)
+    let e : c.0 ≡ of_body P.body = second_one (works_of p) d P.site c.0 (of_body P.body) c.1 (whole_in p f P h) in
+    charges_by_body p f P s q h (subst (λ w. WorkCharges p w s q) e c.2)
 
 pub charges_are_single : ChargesAreSingle
 charges_are_single = charges_one
@@ -55,10 +55,10 @@ work_one p (of_body body) s a b x y = body_one (Charges p) (Charges p) (charges_
 work_one p (of_call f) s a b x y = charges_one p f s a b x y
 work_one p (of_case arms) s a b x y = case_one (Charges p) (Charges p) (charges_one p) arms s a b x y
 work_one p (of_walk body) s a b x y =
-  let e : y.0 ≡ x.0 = trees_one y.0 x.0 (sym y.1 ∙ x.1) in
-  let P : Tree → ℕ → Type 0 = λ t. BodyCharges (Charges p) body (t ∷ []) in
-  each_one (Charges p) (Charges p) (charges_one p) P P (λ t c d. body_one (Charges p) (Charges p) (charges_one p) body (t ∷ []) c d) x.0 a b x.2 (subst (λ ts. EachCharges P ts b) e y.2)
+    let e : y.0 ≡ x.0 = trees_one y.0 x.0 (sym y.1 ∙ x.1) in
+    let P : Tree → ℕ → Type 0 = λ t. BodyCharges (Charges p) body (t ∷ []) in
+    each_one (Charges p) (Charges p) (charges_one p) P P (λ t c d. body_one (Charges p) (Charges p) (charges_one p) body (t ∷ []) c d) x.0 a b x.2 (subst (λ ts. EachCharges P ts b) e y.2)
 
 pub site_charges_are_single : SiteChargesAreSingle
 site_charges_are_single p d i s a b x y =
-  work_one p y.0 s a b (subst (λ w. WorkCharges p w s a) (second_one (works_of p) d i x.0 y.0 x.1 y.1) x.2) y.2
+    work_one p y.0 s a b (subst (λ w. WorkCharges p w s a) (second_one (works_of p) d i x.0 y.0 x.1 y.1) x.2) y.2

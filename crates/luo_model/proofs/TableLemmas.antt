@@ -1,5 +1,4 @@
 -- A node has one count at a size, and a site one total.
-use Rattle.std.proofs.Common.{◌≡◌, ℕ}
 use Rattle.luo_finite.proofs.Sums.{Counts-unique}
 use Rattle.luo_finite.proofs.Totals.{Totals-unique}
 use Rattle.luo_model.specs.Program.{site_node}
@@ -13,4 +12,4 @@ counts_are_single p x n a b h k = Counts-unique (IsStructure p x n) a b h k
 
 pub totals_are_single : TotalsAreSingle
 totals_are_single p apart i n a b h k =
-  Totals-unique (IsStructure p (site_node p i) n) (SiteCharges p i) a b (λ s x y m. site_charges_are_single p apart i s x y) h k
+    Totals-unique (IsStructure p (site_node p i) n) (SiteCharges p i) a b (λ s x y m. site_charges_are_single p apart i s x y) h k

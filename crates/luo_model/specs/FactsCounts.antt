@@ -20,7 +20,7 @@ EmptyFactorChangesNoCount = IsCount beside_nothing 2 0 0 × IsCount beside_nothi
 -- of two labelled points there are two sequences, one set and one cycle
 abbrev pub LabelledPairsAreCounted : Type 0
 LabelledPairsAreCounted =
-  IsCount (collection Labelled Sequence 0 None) 1 2 2 × IsCount (collection Labelled Set 0 None) 1 2 1 × IsCount (collection Labelled Cycle 1 None) 1 2 1
+    IsCount (collection Labelled Sequence 0 None) 1 2 2 × IsCount (collection Labelled Set 0 None) 1 2 1 × IsCount (collection Labelled Cycle 1 None) 1 2 1
 
 -- a procedure that charges 3 on one of the two structures of size 1 and 5 on the other has the row 1, 2, 8
 abbrev pub RowsSumCharges : Type 0

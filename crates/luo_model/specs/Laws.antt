@@ -1,7 +1,7 @@
 -- What holds of charges, of the order, and of counts and totals in every program.
 use Rattle.std.specs.Prelude.{◌≡◌, ℕ, ◌<◌, List, [], ◌∷◌, map, slice_get, Some}
 use Rattle.std.specs.Cmp.{IsTotalOrder}
-use Rattle.std.specs.declared.cmp.Ordering.TheVariants.{Less, Equal, Greater}
+use Rattle.std.specs.declared.cmp.Ordering.TheVariants.{Equal}
 use Rattle.luo_finite.specs.Listing.{NoDouble, Neighbours}
 use Rattle.luo_model.specs.declared.program.Kind.TheVariants.{Set, Multiset, Powerset}
 use Rattle.luo_model.specs.Tree.{Tree, least_label}
@@ -26,7 +26,7 @@ SiteChargesAreSingle = (p : Program) → SitesAreApart p → (i : ℕ) (s : Tree
 -- a procedure charges what its body does, where what the body calls may go on as deep as it likes
 abbrev pub ProceduresChargeTheirBodies : Type 0
 ProceduresChargeTheirBodies =
-  (p : Program) (f : ℕ) (P : Procedure) (s : Tree) (q : ℕ) → slice_get p.procs f ≡ Some P
+    (p : Program) (f : ℕ) (P : Procedure) (s : Tree) (q : ℕ) → slice_get p.procs f ≡ Some P
     → (Charges p f s q → BodyCharges (Charges p) P.body (s ∷ []) q) × (BodyCharges (Charges p) P.body (s ∷ []) q → Charges p f s q)
 
 -- the site of a procedure's whole charges what the procedure does
@@ -36,7 +36,7 @@ WholesCharge = (p : Program) (f : ℕ) (P : Procedure) (s : Tree) (q : ℕ) → 
 -- and nothing else
 abbrev pub WholesChargeNoMore : Type 0
 WholesChargeNoMore =
-  (p : Program) → SitesAreApart p → (f : ℕ) (P : Procedure) (s : Tree) (q : ℕ) → slice_get p.procs f ≡ Some P → SiteCharges p P.site s q → Charges p f s q
+    (p : Program) → SitesAreApart p → (f : ℕ) (P : Procedure) (s : Tree) (q : ℕ) → slice_get p.procs f ≡ Some P → SiteCharges p P.site s q → Charges p f s q
 
 -- the order of structures is total, and finds no difference only between equal ones
 abbrev pub OrderIsTotal : Type 0
@@ -45,9 +45,9 @@ OrderIsTotal = IsTotalOrder order_of × ((s : Tree) → order_of s s ≡ Equal) 
 -- components stand as their kind wants them where each neighbour does
 abbrev pub NeighboursStand : Type 0
 NeighboursStand =
-  ((ts : List Tree) → Neighbours (λ s t. least_label s < least_label t) ts → StandAs Set ts)
-  × ((ts : List Tree) → Neighbours IsNotBefore ts → StandAs Multiset ts)
-  × ((ts : List Tree) → Neighbours (λ s t. IsBefore t s) ts → StandAs Powerset ts)
+    ((ts : List Tree) → Neighbours (λ s t. least_label s < least_label t) ts → StandAs Set ts)
+    × ((ts : List Tree) → Neighbours IsNotBefore ts → StandAs Multiset ts)
+    × ((ts : List Tree) → Neighbours (λ s t. IsBefore t s) ts → StandAs Powerset ts)
 
 -- a node has one count at a size
 abbrev pub CountsAreSingle : Type 0

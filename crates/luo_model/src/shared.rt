@@ -1,5 +1,8 @@
 // Threads may share a program, and hand on what is said of it.
-use crate::{Arm, Bind, Body, Def, Entry, Fill, Item, Kind, Made, Node, Part, Proc, Program, Row, Shape, Site, Universe, Value, ValueArm};
+use crate::{
+    Arm, Bind, Body, Def, Entry, Fill, Item, Kind, Made, Node, Part, Proc, Program, Row, Shape,
+    Site, Universe, Value, ValueArm,
+};
 
 fn shared<T: Send + Sync>() {}
 

@@ -7,11 +7,18 @@ use std::test::Fail;
 // A procedure on node 0 that charges 1 and calls itself.
 fn looping(alloc: Global) -> Result<Items<Proc>, Fail> {
     let mut items = Items::new(alloc);
-    items.push(Item::Call { var: 0, callee: 0, site: 0 })?;
+    items.push(Item::Call {
+        var: 0,
+        callee: 0,
+        site: 0,
+    })?;
     let mut procs = Items::new(alloc);
     procs.push(Proc {
         name: Items::new(alloc),
-        on: Part { node: 0, name: None },
+        on: Part {
+            node: 0,
+            name: None,
+        },
         body: Body { own: 1, items },
         site: 1,
         result: None,
@@ -23,7 +30,11 @@ fn looping(alloc: Global) -> Result<Items<Proc>, Fail> {
 fn a_program_is_made(rt: HostRuntime) -> Result<(), Fail> {
     let alloc = rt.alloc();
     let mut nodes = Items::new(alloc);
-    nodes.push(Node { shape: Shape::Atom { weight: 1 }, owner: 0, place: 0 })?;
+    nodes.push(Node {
+        shape: Shape::Atom { weight: 1 },
+        owner: 0,
+        place: 0,
+    })?;
     let program = Program {
         universe: Universe::Unlabelled,
         defs: Items::new(alloc),
