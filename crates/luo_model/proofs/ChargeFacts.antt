@@ -1,7 +1,7 @@
 -- What some small procedures charge.
-use Rattle.std.proofs.Common.{◌≡◌, ℕ, zero, suc, ◌+◌, List, [], ◌∷◌, refl, sym, ◌∙◌, subst, arith, Some, slice_get}
-use Rattle.luo_model.specs.Tree.{Tree, Trees, Atom, Inj, Tup, Coll, none, more}
-use Rattle.luo_model.specs.Program.{Program, Procedure, Body, Does, Items, no_items, item, Item, Call, Case, Forall, Arms, no_arms, arm}
+use Rattle.std.proofs.Common.{ℕ, zero, suc, [], ◌∷◌, refl, sym, subst}
+use Rattle.luo_model.specs.Tree.{Tree, Inj, Coll}
+use Rattle.luo_model.specs.Program.{Program}
 use Rattle.luo_model.specs.Charges.{BodyCharges, ChargesWithin, Charges}
 use Rattle.luo_model.specs.Examples.{two, point, choosing, walking, looping}
 use Rattle.luo_model.specs.FactsCharges.{ChargesOnly, CasesTakeTheirArm, CopiesAreChargedEach, EndlessCallsChargeNothing}
@@ -28,8 +28,8 @@ copies_are_charged_each = only walking 0 (Coll (two (point 0) (point 0))) 2 both
 endless : (depth : ℕ) (s : Tree) (q : ℕ) → ChargesWithin looping.procs depth 0 s q → ⊥
 endless zero s q h = h
 endless (suc depth) s q h =
-  let k = subst (λ P. BodyCharges (ChargesWithin looping.procs depth) P.body (s ∷ []) q) (sym (some_one _ h.0 h.1)) h.2 in
-  endless depth k.1.2.0 k.1.0 k.1.2.2
+    let k = subst (λ P. BodyCharges (ChargesWithin looping.procs depth) P.body (s ∷ []) q) (sym (some_one _ h.0 h.1)) h.2 in
+    endless depth k.1.2.0 k.1.0 k.1.2.2
 
 pub endless_calls_charge_nothing : EndlessCallsChargeNothing
 endless_calls_charge_nothing s q h = endless h.0 s q h.1

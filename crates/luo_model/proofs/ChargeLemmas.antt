@@ -1,5 +1,5 @@
 -- A procedure charges at most one number on a structure.
-use Rattle.std.proofs.Common.{◌≡◌, ℕ, zero, suc, ◌+◌, List, [], ◌∷◌, sym, ◌∙◌, subst, arith, Some, slice_get}
+use Rattle.std.proofs.Common.{◌≡◌, ℕ, zero, suc, List, [], ◌∷◌, sym, ◌∙◌, subst, arith, Some}
 use Rattle.luo_model.specs.Tree.{Tree, Trees, Atom, Inj, Tup, Coll, none, more}
 use Rattle.luo_model.specs.Program.{Program, Procedure, Body, Does, Items, no_items, item, Item, Call, Case, Forall, Arms, no_arms, arm}
 use Rattle.luo_model.specs.Charges.{bound, EachCharges, BodyCharges, ItemsCharge, ItemCharges, CaseCharges, ChargesWithin, Charges}
@@ -7,7 +7,7 @@ use Rattle.luo_model.specs.Charges.{bound, EachCharges, BodyCharges, ItemsCharge
 pub some_one : {A : Type 0} (x y : A) → Some x ≡ Some y → x ≡ y
 some_one x y e = cc
 
-trees_one : (ss ts : Trees) → Coll ss ≡ Coll ts → ss ≡ ts
+pub trees_one : (ss ts : Trees) → Coll ss ≡ Coll ts → ss ≡ ts
 trees_one ss ts e = cc
 
 -- what two relations of called procedures allow, each tree having one number by the first that is also its number by the second
@@ -28,8 +28,8 @@ module _ (R S : ℕ → Tree → ℕ → Type 0) (one : (f : ℕ) (t : Tree) (a 
     item_one (Call var f site) vars a b p q = one f p.0 a b p.2 (subst (λ t. S f t b) (some_one q.0 p.0 (sym q.1 ∙ p.1)) q.2)
     item_one (Case var arms site) vars a b p q = case_one arms p.0 a b p.2 (subst (λ t. CaseCharges S arms t b) (some_one q.0 p.0 (sym q.1 ∙ p.1)) q.2)
     item_one (Forall var body body_site site) vars a b p q =
-      let e : q.0 ≡ p.0 = trees_one q.0 p.0 (some_one (Coll q.0) (Coll p.0) (sym q.1 ∙ p.1)) in
-      each_one (λ t. BodyCharges R body (t ∷ [])) (λ t. BodyCharges S body (t ∷ [])) (λ t c d x y. body_one body (t ∷ []) c d x y) p.0 a b p.2
+        let e : q.0 ≡ p.0 = trees_one q.0 p.0 (some_one (Coll q.0) (Coll p.0) (sym q.1 ∙ p.1)) in
+        each_one (λ t. BodyCharges R body (t ∷ [])) (λ t. BodyCharges S body (t ∷ [])) (λ t c d x y. body_one body (t ∷ []) c d x y) p.0 a b p.2
         (subst (λ ts. EachCharges (λ t. BodyCharges S body (t ∷ [])) ts b) e q.2)
 
     pub case_one : (arms : Arms) (t : Tree) (a b : ℕ) → CaseCharges R arms t a → CaseCharges S arms t b → a ≡ b
@@ -56,7 +56,7 @@ pub within_one : (procs : List Procedure) (d e f : ℕ) (t : Tree) (a b : ℕ) �
 within_one procs zero e f t a b p q = absurd p
 within_one procs (suc d) zero f t a b p q = absurd q
 within_one procs (suc d) (suc e) f t a b p q =
-  body_one (ChargesWithin procs d) (ChargesWithin procs e) (within_one procs d e) p.0.body (t ∷ []) a b p.2
+    body_one (ChargesWithin procs d) (ChargesWithin procs e) (within_one procs d e) p.0.body (t ∷ []) a b p.2
     (subst (λ P. BodyCharges (ChargesWithin procs e) P.body (t ∷ []) b) (some_one q.0 p.0 (sym q.1 ∙ p.1)) q.2)
 
 pub charges_one : (p : Program) (f : ℕ) (s : Tree) (a b : ℕ) → Charges p f s a → Charges p f s b → a ≡ b

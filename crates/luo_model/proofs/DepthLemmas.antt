@@ -22,7 +22,7 @@ module _ (R S : ℕ → Tree → ℕ → Type 0) (wider : (f : ℕ) (t : Tree) (
     item_wider (Call var f site) vars q p = (p.0, p.1, wider f p.0 q p.2)
     item_wider (Case var arms site) vars q p = (p.0, p.1, case_wider arms p.0 q p.2)
     item_wider (Forall var body body_site site) vars q p =
-      (p.0, p.1, each_wider (λ t. BodyCharges R body (t ∷ [])) (λ t. BodyCharges S body (t ∷ [])) (λ t c x. body_wider body (t ∷ []) c x) p.0 q p.2)
+        (p.0, p.1, each_wider (λ t. BodyCharges R body (t ∷ [])) (λ t. BodyCharges S body (t ∷ [])) (λ t c x. body_wider body (t ∷ []) c x) p.0 q p.2)
 
     case_wider : (arms : Arms) (t : Tree) (q : ℕ) → CaseCharges R arms t q → CaseCharges S arms t q
     case_wider no_arms (Atom w l) q p = absurd p
@@ -48,7 +48,7 @@ pub within_deeper : (procs : List Procedure) (d e : ℕ) → d ≤ e → (f : �
 within_deeper procs zero e h f s q p = absurd p
 within_deeper procs (suc d) zero h f s q p = absurd (omega (arith, h))
 within_deeper procs (suc d) (suc e) h f s q p =
-  (p.0, p.1, body_wider (ChargesWithin procs d) (ChargesWithin procs e) (within_deeper procs d e (omega (arith, h))) p.0.body (s ∷ []) q p.2)
+    (p.0, p.1, body_wider (ChargesWithin procs d) (ChargesWithin procs e) (within_deeper procs d e (omega (arith, h))) p.0.body (s ∷ []) q p.2)
 
 -- what calls of any depth charge, calls of some depth do
 module _ (p : Program) where
@@ -56,16 +56,23 @@ module _ (p : Program) where
   deeper d e h = within_deeper p.procs d e h
 
   each_depth : (body : Body) → ((t : Tree) (q : ℕ) → BodyCharges (Charges p) body (t ∷ []) q → (d : ℕ) × BodyCharges (ChargesWithin p.procs d) body (t ∷ []) q)
-    → (ts : Trees) (q : ℕ) → EachCharges (λ t. BodyCharges (Charges p) body (t ∷ [])) ts q → (d : ℕ) × EachCharges (λ t. BodyCharges (ChargesWithin p.procs d) body (t ∷ [])) ts q
+      → (ts : Trees) (q : ℕ) → EachCharges (λ t. BodyCharges (Charges p) body (t ∷ [])) ts q → (d : ℕ) × EachCharges (λ t. BodyCharges (ChargesWithin p.procs d) body (t ∷ [])) ts q
   each_depth body h none q c = (0, c)
   each_depth body h (more t ts) q c =
-    let a = h t c.0 c.2 in
-    let b = each_depth body h ts c.1 c.3 in
-    let d = a.0 + b.0 in
-    (d, (c.0, c.1, body_wider (ChargesWithin p.procs a.0) (ChargesWithin p.procs d) (deeper a.0 d (omega arith)) body (t ∷ []) c.0 a.1,
-      each_wider (ChargesWithin p.procs b.0) (ChargesWithin p.procs d) (deeper b.0 d (omega arith))
-        (λ u. BodyCharges (ChargesWithin p.procs b.0) body (u ∷ [])) (λ u. BodyCharges (ChargesWithin p.procs d) body (u ∷ []))
-        (λ u k x. body_wider (ChargesWithin p.procs b.0) (ChargesWithin p.procs d) (deeper b.0 d (omega arith)) body (u ∷ []) k x) ts c.1 b.1, c.4))
+      let a = h t c.0 c.2 in
+      let b = each_depth body h ts c.1 c.3 in
+      let d = a.0 + b.0 in (
+        d,
+        (
+          c.0,
+          c.1,
+          body_wider (ChargesWithin p.procs a.0) (ChargesWithin p.procs d) (deeper a.0 d (omega arith)) body (t ∷ []) c.0 a.1,
+          each_wider (ChargesWithin p.procs b.0) (ChargesWithin p.procs d) (deeper b.0 d (omega arith))
+              (λ u. BodyCharges (ChargesWithin p.procs b.0) body (u ∷ [])) (λ u. BodyCharges (ChargesWithin p.procs d) body (u ∷ []))
+              (λ u k x. body_wider (ChargesWithin p.procs b.0) (ChargesWithin p.procs d) (deeper b.0 d (omega arith)) body (u ∷ []) k x) ts c.1 b.1,
+          c.4,
+        ),
+      )
 
   mutual
     pub body_depth : (body : Body) (vars : List Tree) (q : ℕ) → BodyCharges (Charges p) body vars q → (d : ℕ) × BodyCharges (ChargesWithin p.procs d) body vars q
@@ -74,17 +81,24 @@ module _ (p : Program) where
     items_depth : (items : Items) (vars : List Tree) (q : ℕ) → ItemsCharge (Charges p) items vars q → (d : ℕ) × ItemsCharge (ChargesWithin p.procs d) items vars q
     items_depth no_items vars q c = (0, c)
     items_depth (item i is) vars q c =
-      let a = item_depth i vars c.0 c.2 in
-      let b = items_depth is vars c.1 c.3 in
-      let d = a.0 + b.0 in
-      (d, (c.0, c.1, item_wider (ChargesWithin p.procs a.0) (ChargesWithin p.procs d) (deeper a.0 d (omega arith)) i vars c.0 a.1,
-        items_wider (ChargesWithin p.procs b.0) (ChargesWithin p.procs d) (deeper b.0 d (omega arith)) is vars c.1 b.1, c.4))
+        let a = item_depth i vars c.0 c.2 in
+        let b = items_depth is vars c.1 c.3 in
+        let d = a.0 + b.0 in (
+          d,
+          (
+            c.0,
+            c.1,
+            item_wider (ChargesWithin p.procs a.0) (ChargesWithin p.procs d) (deeper a.0 d (omega arith)) i vars c.0 a.1,
+            items_wider (ChargesWithin p.procs b.0) (ChargesWithin p.procs d) (deeper b.0 d (omega arith)) is vars c.1 b.1,
+            c.4,
+          ),
+        )
 
     item_depth : (i : Item) (vars : List Tree) (q : ℕ) → ItemCharges (Charges p) i vars q → (d : ℕ) × ItemCharges (ChargesWithin p.procs d) i vars q
     item_depth (Call var f site) vars q c = (c.2.0, (c.0, c.1, c.2.1))
     item_depth (Case var arms site) vars q c = let r = case_depth arms c.0 q c.2 in (r.0, (c.0, c.1, r.1))
     item_depth (Forall var body body_site site) vars q c =
-      let r = each_depth body (λ t k x. body_depth body (t ∷ []) k x) c.0 q c.2 in (r.0, (c.0, c.1, r.1))
+        let r = each_depth body (λ t k x. body_depth body (t ∷ []) k x) c.0 q c.2 in (r.0, (c.0, c.1, r.1))
 
     case_depth : (arms : Arms) (t : Tree) (q : ℕ) → CaseCharges (Charges p) arms t q → (d : ℕ) × CaseCharges (ChargesWithin p.procs d) arms t q
     case_depth no_arms (Atom w l) q c = absurd c
@@ -112,3 +126,9 @@ module _ (p : Program) where
 
   pub within_charges : (d f : ℕ) (s : Tree) (q : ℕ) → ChargesWithin p.procs d f s q → Charges p f s q
   within_charges d f s q c = (d, c)
+
+  -- no relation that follows the bodies holds less
+  pub charges_least : (R : ℕ → Tree → ℕ → Type 0) → ((f : ℕ) (P : Procedure) (s : Tree) (q : ℕ) → slice_get p.procs f ≡ Some P → BodyCharges R P.body (s ∷ []) q → R f s q)
+      → (d f : ℕ) (s : Tree) (q : ℕ) → ChargesWithin p.procs d f s q → R f s q
+  charges_least R follows zero f s q c = absurd c
+  charges_least R follows (suc d) f s q c = follows f c.0 s q c.1 (body_wider (ChargesWithin p.procs d) R (charges_least R follows d) c.0.body (s ∷ []) q c.2)

@@ -6,3 +6,5 @@ pub mod OrderLemmas
 pub mod MemberFacts
 pub mod CountFacts
 pub mod TableLemmas
+pub mod RowFacts
+pub mod PairFacts

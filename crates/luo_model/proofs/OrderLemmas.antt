@@ -1,14 +1,15 @@
 -- The order of structures is total. It compares structures as it would two lists of numbers, their codes.
-use Rattle.std.proofs.Common.{◌≡◌, ℕ, zero, suc, ◌<◌, List, [], ◌∷◌, refl, sym, ◌∙◌, ap, subst}
+use Rattle.std.proofs.Common.{◌≡◌, ℕ, ◌<◌, List, [], ◌∷◌, Bool, true, false, refl, sym, ◌∙◌, ap, subst, arith}
 use Rattle.std.specs.declared.cmp.Ordering.{Ordering}
 use Rattle.std.specs.declared.cmp.Ordering.TheVariants.{Less, Equal, Greater}
 use Rattle.std.specs.Cmp.{IsTotalOrder}
 use Rattle.std.specs.Cmp.Lexicographic.{slice_cmp}
-use Rattle.std.specs.Ordering.{nat_cmp, on, MatchOrdering, ordering_then}
-use Rattle.std.proofs.lemmas.Cmp.{nat_list_cmp_total, on_total, ranked, tied_itself}
-use Rattle.luo_model.specs.Tree.{Tree, Trees, Atom, Inj, Tup, Coll, none, more, size_of, labels_of}
-use Rattle.luo_model.specs.Order.{sorted, then_by, form_of, by_size_and_labels, by_form, by_parts, order_of}
-use Rattle.luo_model.specs.Laws.{OrderIsTotal}
+use Rattle.std.specs.Ordering.{nat_cmp, on, MatchOrdering, ordering_then, ordering_reverse, is_gt}
+use Rattle.std.proofs.lemmas.Cmp.{nat_list_cmp_total, on_total, ranked, tied_itself, upto}
+use Rattle.luo_finite.proofs.Pairwise.{pairwise_from_neighbours}
+use Rattle.luo_model.specs.Tree.{Tree, Trees, Atom, Inj, Tup, Coll, none, more, size_of, labels_of, least_label}
+use Rattle.luo_model.specs.Order.{sorted, then_by, by_size_and_labels, by_form, by_parts, order_of, IsBefore, IsNotBefore}
+use Rattle.luo_model.specs.Laws.{OrderIsTotal, NeighboursStand}
 
 -- the labels with a sign before each and another at the end
 unfoldable ended : List ℕ → List ℕ → List ℕ
@@ -60,30 +61,30 @@ ended_cmp [] [] xs ys = refl
 ended_cmp [] (b ∷ bs) xs ys = refl
 ended_cmp (a ∷ as') [] xs ys = refl
 ended_cmp (a ∷ as') (b ∷ bs) xs ys =
-  number_cmp a b (ended as' xs) (ended bs ys) (then_by (lists as' bs) (lists xs ys)) (ended_cmp as' bs xs ys)
+    number_cmp a b (ended as' xs) (ended bs ys) (then_by (lists as' bs) (lists xs ys)) (ended_cmp as' bs xs ys)
     ∙ then_assoc (nat_cmp a b) (lists as' bs) (lists xs ys)
     ∙ ap (λ o. then_by o (lists xs ys)) (sym (then_same (nat_cmp a b) (lists as' bs)))
 
 headed_cmp : (s t : Tree) (xs ys : List ℕ) → lists (headed s xs) (headed t ys) ≡ then_by (by_size_and_labels s t) (lists xs ys)
 headed_cmp s t xs ys =
-  let size = nat_cmp (size_of s) (size_of t) in
-  let labels = lists (sorted (labels_of s)) (sorted (labels_of t)) in
-  number_cmp (size_of s) (size_of t) (ended (sorted (labels_of s)) xs) (ended (sorted (labels_of t)) ys) (then_by labels (lists xs ys)) (ended_cmp (sorted (labels_of s)) (sorted (labels_of t)) xs ys)
+    let size = nat_cmp (size_of s) (size_of t) in
+    let labels = lists (sorted (labels_of s)) (sorted (labels_of t)) in
+    number_cmp (size_of s) (size_of t) (ended (sorted (labels_of s)) xs) (ended (sorted (labels_of t)) ys) (then_by labels (lists xs ys)) (ended_cmp (sorted (labels_of s)) (sorted (labels_of t)) xs ys)
     ∙ then_assoc size labels (lists xs ys)
 
 -- a structure with its size and labels before it
 whole_cmp : (s t : Tree) (xs ys : List ℕ) → lists (form_code s xs) (form_code t ys) ≡ then_by (by_form s t) (lists xs ys)
-  → lists (headed s (form_code s xs)) (headed t (form_code t ys)) ≡ then_by (then_by (by_size_and_labels s t) (by_form s t)) (lists xs ys)
+    → lists (headed s (form_code s xs)) (headed t (form_code t ys)) ≡ then_by (then_by (by_size_and_labels s t) (by_form s t)) (lists xs ys)
 whole_cmp s t xs ys e =
-  headed_cmp s t (form_code s xs) (form_code t ys) ∙ ap (then_by (by_size_and_labels s t)) e ∙ then_assoc (by_size_and_labels s t) (by_form s t) (lists xs ys)
+    headed_cmp s t (form_code s xs) (form_code t ys) ∙ ap (then_by (by_size_and_labels s t)) e ∙ then_assoc (by_size_and_labels s t) (by_form s t) (lists xs ys)
 
 mutual
   form_cmp : (s t : Tree) (xs ys : List ℕ) → lists (form_code s xs) (form_code t ys) ≡ then_by (by_form s t) (lists xs ys)
   form_cmp (Atom w l) (Atom v k) xs ys =
-    number_cmp w v (l ∷ xs) (k ∷ ys) (then_by (nat_cmp l k) (lists xs ys)) (then_same (nat_cmp l k) (lists xs ys)) ∙ then_assoc (nat_cmp w v) (nat_cmp l k) (lists xs ys)
+      number_cmp w v (l ∷ xs) (k ∷ ys) (then_by (nat_cmp l k) (lists xs ys)) (then_same (nat_cmp l k) (lists xs ys)) ∙ then_assoc (nat_cmp w v) (nat_cmp l k) (lists xs ys)
   form_cmp (Inj i s) (Inj j t) xs ys =
-    let inside = then_by (by_size_and_labels s t) (by_form s t) in
-    number_cmp i j (headed s (form_code s xs)) (headed t (form_code t ys)) (then_by inside (lists xs ys)) (whole_cmp s t xs ys (form_cmp s t xs ys)) ∙ then_assoc (nat_cmp i j) inside (lists xs ys)
+      let inside = then_by (by_size_and_labels s t) (by_form s t) in
+      number_cmp i j (headed s (form_code s xs)) (headed t (form_code t ys)) (then_by inside (lists xs ys)) (whole_cmp s t xs ys (form_cmp s t xs ys)) ∙ then_assoc (nat_cmp i j) inside (lists xs ys)
   form_cmp (Tup ss) (Tup ts) xs ys = parts_cmp ss ts xs ys
   form_cmp (Coll ss) (Coll ts) xs ys = parts_cmp ss ts xs ys
   form_cmp s t xs ys = refl
@@ -93,8 +94,8 @@ mutual
   parts_cmp none (more t ts) xs ys = refl
   parts_cmp (more s ss) none xs ys = refl
   parts_cmp (more s ss) (more t ts) xs ys =
-    let first = then_by (by_size_and_labels s t) (by_form s t) in
-    whole_cmp s t (parts_code ss xs) (parts_code ts ys) (form_cmp s t (parts_code ss xs) (parts_code ts ys))
+      let first = then_by (by_size_and_labels s t) (by_form s t) in
+      whole_cmp s t (parts_code ss xs) (parts_code ts ys) (form_cmp s t (parts_code ss xs) (parts_code ts ys))
       ∙ ap (then_by first) (parts_cmp ss ts xs ys) ∙ then_assoc first (by_parts ss ts) (lists xs ys)
 
 order_is_code : (s t : Tree) → on code (slice_cmp nat_cmp) s t ≡ order_of s t
@@ -121,14 +122,14 @@ second_equal Greater b e = absurd (cc)
 mutual
   form_equal : (s t : Tree) → by_form s t ≡ Equal → s ≡ t
   form_equal (Atom w l) (Atom v k) e =
-    let a : w ≡ v = nat_equal w v (first_equal (nat_cmp w v) (nat_cmp l k) e) in
-    let b : l ≡ k = nat_equal l k (second_equal (nat_cmp w v) (nat_cmp l k) e) in
-    λ i. Atom (a i) (b i)
+      let a : w ≡ v = nat_equal w v (first_equal (nat_cmp w v) (nat_cmp l k) e) in
+      let b : l ≡ k = nat_equal l k (second_equal (nat_cmp w v) (nat_cmp l k) e) in
+      λ i. Atom (a i) (b i)
   form_equal (Inj i s) (Inj j t) e =
-    let rest = then_by (by_size_and_labels s t) (by_form s t) in
-    let a : i ≡ j = nat_equal i j (first_equal (nat_cmp i j) rest e) in
-    let b : s ≡ t = form_equal s t (second_equal (by_size_and_labels s t) (by_form s t) (second_equal (nat_cmp i j) rest e)) in
-    λ k. Inj (a k) (b k)
+      let rest = then_by (by_size_and_labels s t) (by_form s t) in
+      let a : i ≡ j = nat_equal i j (first_equal (nat_cmp i j) rest e) in
+      let b : s ≡ t = form_equal s t (second_equal (by_size_and_labels s t) (by_form s t) (second_equal (nat_cmp i j) rest e)) in
+      λ k. Inj (a k) (b k)
   form_equal (Tup ss) (Tup ts) e = ap Tup (parts_equal ss ts e)
   form_equal (Coll ss) (Coll ts) e = ap Coll (parts_equal ss ts e)
   form_equal s t e = absurd (cc)
@@ -138,10 +139,10 @@ mutual
   parts_equal none (more t ts) e = absurd (cc)
   parts_equal (more s ss) none e = absurd (cc)
   parts_equal (more s ss) (more t ts) e =
-    let first = then_by (by_size_and_labels s t) (by_form s t) in
-    let a : s ≡ t = form_equal s t (second_equal (by_size_and_labels s t) (by_form s t) (first_equal first (by_parts ss ts) e)) in
-    let b : ss ≡ ts = parts_equal ss ts (second_equal first (by_parts ss ts) e) in
-    λ k. more (a k) (b k)
+      let first = then_by (by_size_and_labels s t) (by_form s t) in
+      let a : s ≡ t = form_equal s t (second_equal (by_size_and_labels s t) (by_form s t) (first_equal first (by_parts ss ts) e)) in
+      let b : ss ≡ ts = parts_equal ss ts (second_equal first (by_parts ss ts) e) in
+      λ k. more (a k) (b k)
 
 pub order_equal : (s t : Tree) → order_of s t ≡ Equal → s ≡ t
 unfolding order_of
@@ -152,3 +153,29 @@ order_itself s = tied_itself order_total s
 
 pub order_is_total : OrderIsTotal
 order_is_total = (order_total, order_itself, order_equal)
+
+not_above : (o : Ordering) → (o ≡ Less → ⊥) → is_gt (ordering_reverse o) ≡ false
+not_above Less h = absurd (h refl)
+not_above Equal h = refl
+not_above Greater h = refl
+
+turned_below : (o : Ordering) → o ≡ Less → is_gt (ordering_reverse o) ≡ true
+turned_below o e = ap (λ a. is_gt (ordering_reverse a)) e
+
+never_both : (b : Bool) → b ≡ true → b ≡ false → ⊥
+never_both b e f = absurd (cc)
+
+turned : (s t : Tree) → is_gt (order_of t s) ≡ is_gt (ordering_reverse (order_of s t))
+turned s t = ap is_gt (order_total.antisymm t s)
+
+pub not_before_through : (s t u : Tree) → IsNotBefore s t → IsNotBefore t u → IsNotBefore s u
+not_before_through s t u h k e =
+    never_both (is_gt (order_of u s)) (turned s u ∙ turned_below (order_of s u) e)
+    (upto order_total u t s (turned t u ∙ not_above (order_of t u) k) (turned s t ∙ not_above (order_of s t) h))
+
+pub neighbours_stand : NeighboursStand
+neighbours_stand = (
+  (λ ts h. pairwise_from_neighbours (λ s t. least_label s < least_label t) ts (λ s t u a b. omega (arith, a, b)) h),
+  (λ ts h. pairwise_from_neighbours IsNotBefore ts not_before_through h),
+  (λ ts h. pairwise_from_neighbours (λ s t. IsBefore t s) ts (λ s t u a b. order_total.trans u t s b a) h),
+)

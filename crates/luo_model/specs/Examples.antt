@@ -1,17 +1,16 @@
 -- Small programs and structures, over which known facts are stated.
-use Rattle.std.specs.Prelude.{ℕ, List, [], ◌∷◌, map, Option, Some, None}
-use Rattle.luo_model.specs.declared.body.Bind.{Bind}
-use Rattle.luo_model.specs.declared.body.Bind.TheVariants.{Nothing, Whole, Parts}
+use Rattle.std.specs.Prelude.{ℕ, List, [], ◌∷◌, Option, None}
+use Rattle.luo_model.specs.declared.body.Bind.TheVariants.{Nothing}
 use Rattle.luo_model.specs.declared.program.Universe.{Universe}
-use Rattle.luo_model.specs.declared.program.Universe.TheVariants.{Unlabelled, Labelled}
+use Rattle.luo_model.specs.declared.program.Universe.TheVariants.{Unlabelled}
 use Rattle.luo_model.specs.declared.program.Kind.{Kind}
-use Rattle.luo_model.specs.declared.program.Kind.TheVariants.{Sequence, Set, Cycle, Multiset, Powerset}
+use Rattle.luo_model.specs.declared.program.Kind.TheVariants.{Multiset}
 use Rattle.luo_model.specs.declared.program.Part.{Part}
 use Rattle.luo_model.specs.declared.program.Shape.{Shape}
 use Rattle.luo_model.specs.declared.program.Shape.TheVariants as shape
 use Rattle.luo_model.specs.declared.program.Node.{Node}
-use Rattle.luo_model.specs.Tree.{Tree, Trees, Atom, Inj, Tup, Coll, none, more}
-use Rattle.luo_model.specs.Program.{Program, Procedure, Body, Does, Items, no_items, item, Item, Call, Case, Forall, Arms, no_arms, arm}
+use Rattle.luo_model.specs.Tree.{Tree, Trees, Atom, Inj, Tup, none, more}
+use Rattle.luo_model.specs.Program.{Program, Procedure, Body, Does, no_items, item, Call, Case, Forall, no_arms, arm}
 
 -- a part that is node x
 abbrev pub part : ℕ → Part
@@ -48,10 +47,6 @@ leaf = Inj 1 (Atom 0 0)
 abbrev pub branching : Tree → Tree → Tree
 branching s t = Inj 2 (Tup (three (Atom 1 0) s t))
 
--- z = atom(1); node 1 is z | z
-abbrev pub twice : Program
-twice = program Unlabelled (node (shape.Atom 1) ∷ (node (shape.Union (part 0 ∷ (part 0 ∷ []))) ∷ [])) []
-
 -- e = epsilon; z = atom(1); node 2 is product(e, z)
 abbrev pub beside_nothing : Program
 beside_nothing = program Unlabelled (node (shape.Atom 0) ∷ (node (shape.Atom 1) ∷ (node (shape.Product (part 0 ∷ (part 1 ∷ []))) ∷ []))) []
@@ -78,15 +73,16 @@ atoms universe weight = program universe (node (shape.Atom weight) ∷ []) []
 abbrev pub point : ℕ → Tree
 point label = Atom 1 label
 
--- the union of an atom with itself, and a case that charges 3 in the first branch and 5 in the second
+-- z = atom(1); node 1 is z | z, and a procedure on it charges 3 in the first branch and 5 in the second; site 0 is its case, and site 1 its whole
 abbrev pub choosing : Program
-choosing = program Unlabelled (node (shape.Atom 1) ∷ (node (shape.Union (part 0 ∷ (part 0 ∷ []))) ∷ []))
-  (procedure 1 (Does 0 (item (Case 0 (arm Nothing (Does 3 no_items) (arm Nothing (Does 5 no_items) no_arms)) 0) no_items)) 1 ∷ [])
+choosing = record (program Unlabelled (node (shape.Atom 1) ∷ (node (shape.Union (part 0 ∷ (part 0 ∷ []))) ∷ []))
+    (procedure 1 (Does 0 (item (Case 0 (arm Nothing (Does 3 no_items) (arm Nothing (Does 5 no_items) no_arms)) 0) no_items)) 1 ∷ []))
+    { sites = record { node = 1; caller = 0; place = 0 } ∷ (record { node = 1; caller = 0; place = 1 } ∷ []) }
 
 -- multisets of atoms of weight 1, and a walk that charges 1 at each component
 abbrev pub walking : Program
 walking = program Unlabelled (node (shape.Atom 1) ∷ (node (shape.Coll Multiset (part 0) 0 None) ∷ []))
-  (procedure 1 (Does 0 (item (Forall 0 (Does 1 no_items) 0 1) no_items)) 2 ∷ [])
+    (procedure 1 (Does 0 (item (Forall 0 (Does 1 no_items) 0 1) no_items)) 2 ∷ [])
 
 -- an atom, and a procedure that charges 1 and calls itself on it
 abbrev pub looping : Program

@@ -1,12 +1,14 @@
 -- What holds of charges, of the order, and of counts and totals in every program.
-use Rattle.std.specs.Prelude.{◌≡◌, ℕ, List, map, slice_get, Some}
+use Rattle.std.specs.Prelude.{◌≡◌, ℕ, ◌<◌, List, [], ◌∷◌, map, slice_get, Some}
 use Rattle.std.specs.Cmp.{IsTotalOrder}
-use Rattle.std.specs.declared.cmp.Ordering.TheVariants.{Less, Equal, Greater}
-use Rattle.luo_finite.specs.Listing.{NoDouble}
-use Rattle.luo_model.specs.Tree.{Tree}
-use Rattle.luo_model.specs.Order.{order_of, IsBefore}
+use Rattle.std.specs.declared.cmp.Ordering.TheVariants.{Equal}
+use Rattle.luo_finite.specs.Listing.{NoDouble, Neighbours}
+use Rattle.luo_model.specs.declared.program.Kind.TheVariants.{Set, Multiset, Powerset}
+use Rattle.luo_model.specs.Tree.{Tree, least_label}
+use Rattle.luo_model.specs.Order.{order_of, IsBefore, IsNotBefore}
+use Rattle.luo_model.specs.Member.{StandAs}
 use Rattle.luo_model.specs.Program.{Program, Procedure}
-use Rattle.luo_model.specs.Charges.{Charges, SiteCharges, works_of}
+use Rattle.luo_model.specs.Charges.{BodyCharges, Charges, SiteCharges, works_of}
 use Rattle.luo_model.specs.Tables.{IsCount, IsTotal}
 
 -- no two sites have one number
@@ -21,6 +23,12 @@ ChargesAreSingle = (p : Program) (f : ℕ) (s : Tree) (a b : ℕ) → Charges p 
 abbrev pub SiteChargesAreSingle : Type 0
 SiteChargesAreSingle = (p : Program) → SitesAreApart p → (i : ℕ) (s : Tree) (a b : ℕ) → SiteCharges p i s a → SiteCharges p i s b → a ≡ b
 
+-- a procedure charges what its body does, where what the body calls may go on as deep as it likes
+abbrev pub ProceduresChargeTheirBodies : Type 0
+ProceduresChargeTheirBodies =
+    (p : Program) (f : ℕ) (P : Procedure) (s : Tree) (q : ℕ) → slice_get p.procs f ≡ Some P
+    → (Charges p f s q → BodyCharges (Charges p) P.body (s ∷ []) q) × (BodyCharges (Charges p) P.body (s ∷ []) q → Charges p f s q)
+
 -- the site of a procedure's whole charges what the procedure does
 abbrev pub WholesCharge : Type 0
 WholesCharge = (p : Program) (f : ℕ) (P : Procedure) (s : Tree) (q : ℕ) → slice_get p.procs f ≡ Some P → Charges p f s q → SiteCharges p P.site s q
@@ -28,11 +36,18 @@ WholesCharge = (p : Program) (f : ℕ) (P : Procedure) (s : Tree) (q : ℕ) → 
 -- and nothing else
 abbrev pub WholesChargeNoMore : Type 0
 WholesChargeNoMore =
-  (p : Program) → SitesAreApart p → (f : ℕ) (P : Procedure) (s : Tree) (q : ℕ) → slice_get p.procs f ≡ Some P → SiteCharges p P.site s q → Charges p f s q
+    (p : Program) → SitesAreApart p → (f : ℕ) (P : Procedure) (s : Tree) (q : ℕ) → slice_get p.procs f ≡ Some P → SiteCharges p P.site s q → Charges p f s q
 
 -- the order of structures is total, and finds no difference only between equal ones
 abbrev pub OrderIsTotal : Type 0
 OrderIsTotal = IsTotalOrder order_of × ((s : Tree) → order_of s s ≡ Equal) × ((s t : Tree) → order_of s t ≡ Equal → s ≡ t)
+
+-- components stand as their kind wants them where each neighbour does
+abbrev pub NeighboursStand : Type 0
+NeighboursStand =
+    ((ts : List Tree) → Neighbours (λ s t. least_label s < least_label t) ts → StandAs Set ts)
+    × ((ts : List Tree) → Neighbours IsNotBefore ts → StandAs Multiset ts)
+    × ((ts : List Tree) → Neighbours (λ s t. IsBefore t s) ts → StandAs Powerset ts)
 
 -- a node has one count at a size
 abbrev pub CountsAreSingle : Type 0

@@ -1,5 +1,5 @@
 -- A program as plain data.
-use Rattle.std.specs.Prelude.{ℕ, List, [], ◌∷◌, Option, slice_index_or}
+use Rattle.std.specs.Prelude.{ℕ, List, [], Option, slice_index_or}
 use Rattle.luo_model.specs.declared.program.Universe.{Universe}
 use Rattle.luo_model.specs.declared.program.Part.{Part}
 use Rattle.luo_model.specs.declared.program.Shape.{Shape}

@@ -4,7 +4,10 @@
 mod body;
 pub mod laws;
 mod program;
+mod shared;
 mod table;
+#[cfg(test)]
+mod tests;
 mod value;
 
 pub use body::{Arm, Bind, Body, Item};
