@@ -248,7 +248,7 @@ impl<'t> Cursor<'t> {
 }
 
 /// What the tokens of a text say, all of them, as a first text.
-/// `NoFirst` where they are no first text, and `NoMemory` only where memory was refused.
+/// `NoFirst` where they are no first text, `NoMemory` where memory was refused.
 pub fn read_first(alloc: Global, text: &[u8], tokens: &[Token]) -> Result<FirstSource, NotFirst>
     requires inside { AllInside (length text.now) tokens.now }
     ensures ok { IfOk result (λ s. IsFirst (lexemes text.now tokens.now) s) }
