@@ -1,5 +1,5 @@
 -- The steps of filling the columns, definition by definition, and each from its last node to its first.
-use Rattle.std.proofs.Common.{◌≡◌, ℕ, zero, suc, ◌+◌, ◌≤◌, ◌<◌, ◌⊎◌, inl, inr, ⊎_elim, List, [], length, get_or, set, refl, sym, ◌∙◌, ap, subst, arith, length-set, get_or-set_same, get_or-set_other}
+use Rattle.std.proofs.Common.{◌≡◌, ℕ, suc, ◌+◌, ◌≤◌, ◌<◌, ◌⊎◌, inl, inr, ⊎_elim, List, [], length, get_or, set, sym, ◌∙◌, ap, subst, arith, length-set, get_or-set_same, get_or-set_other}
 use Rattle.luo_model.specs.Program.{Program}
 use Rattle.luo_top.specs.Plain.{IsPlain, IsBelow, owner_of}
 use Rattle.luo_top.specs.Tables.{IsColumn, AreColumns, IsFilled, column_of}
