@@ -25,9 +25,6 @@ node_is p nodes x d q h = get_or_from_slice_get p.nodes x (get_or p.nodes x d) n
 pub shape_is : (p : Program) (nodes : List Node) (x : ℕ) (d : Node) (s : Shape) → nodes ≡ p.nodes → x < length p.nodes → (get_or nodes x d).shape ≡ s → shape_of p x ≡ s
 shape_is p nodes x d s q h e = ap (λ (n : Node). n.shape) (node_is p nodes x d q h) ∙ e
 
-pub owner_is : (p : Program) (nodes : List Node) (x : ℕ) (d : Node) → nodes ≡ p.nodes → x < length p.nodes → owner_of p x ≡ (get_or nodes x d).owner
-owner_is p nodes x d q h = ap (λ (n : Node). n.owner) (node_is p nodes x d q h)
-
 pub plain_shape : (p : Program) (x : ℕ) (s : Shape) → IsPlain p → x < length p.nodes → shape_of p x ≡ s → IsPlainShape p x s
 plain_shape p x s plain h e = subst (IsPlainShape p x) e (plain.shapes x h)
 
