@@ -1,5 +1,5 @@
 -- The column of a node, from those of its parts.
-use Rattle.std.proofs.Common.{◌≡◌, ℕ, zero, suc, ◌+◌, ◌*◌, ◌≤◌, ◌<◌, ◌⊎◌, inl, inr, ⊎_elim, List, [], ◌∷◌, length, get_or, slice_index, map, sum_by, refl, sym, ◌∙◌, ap, subst, arith, Some, slice_get, ◌==◌, if◌then◌else◌}
+use Rattle.std.proofs.Common.{◌≡◌, ℕ, ◌≤◌, ◌<◌, ◌⊎◌, inl, inr, ⊎_elim, List, length, get_or, map, sum_by, sym, ◌∙◌, ap, subst, arith}
 use Rattle.std.proofs.lemmas.Bool.Decides.{nat_tests}
 use Rattle.std.proofs.lemmas.Option.{get_or_from_slice_get, slice_get-get_or}
 use Rattle.luo_num.specs.Mark.{capped}
@@ -8,7 +8,7 @@ use Rattle.luo_finite.specs.Range.{convolve_all}
 use Rattle.luo_model.specs.declared.program.Part.{Part}
 use Rattle.luo_model.specs.declared.program.Node.{Node}
 use Rattle.luo_model.specs.declared.program.Shape.{Shape}
-use Rattle.luo_model.specs.declared.program.Shape.TheVariants.{Atom, Union, Product, Coll}
+use Rattle.luo_model.specs.declared.program.Shape.TheVariants.{Atom, Union, Product}
 use Rattle.luo_model.specs.Program.{Program, shape_of, no_node}
 use Rattle.luo_model.specs.Tree.{size_of}
 use Rattle.luo_model.specs.Member.{Fits}
@@ -24,9 +24,6 @@ node_is p nodes x d q h = get_or_from_slice_get p.nodes x (get_or p.nodes x d) n
 
 pub shape_is : (p : Program) (nodes : List Node) (x : ℕ) (d : Node) (s : Shape) → nodes ≡ p.nodes → x < length p.nodes → (get_or nodes x d).shape ≡ s → shape_of p x ≡ s
 shape_is p nodes x d s q h e = ap (λ (n : Node). n.shape) (node_is p nodes x d q h) ∙ e
-
-pub owner_is : (p : Program) (nodes : List Node) (x : ℕ) (d : Node) → nodes ≡ p.nodes → x < length p.nodes → owner_of p x ≡ (get_or nodes x d).owner
-owner_is p nodes x d q h = ap (λ (n : Node). n.owner) (node_is p nodes x d q h)
 
 pub plain_shape : (p : Program) (x : ℕ) (s : Shape) → IsPlain p → x < length p.nodes → shape_of p x ≡ s → IsPlainShape p x s
 plain_shape p x s plain h e = subst (IsPlainShape p x) e (plain.shapes x h)

@@ -1,5 +1,5 @@
 -- Whether a program's numbers are past the last one, from its columns.
-use Rattle.std.proofs.Common.{◌≡◌, ℕ, zero, suc, ◌+◌, ◌*◌, ◌^◌, ◌≤◌, ◌<◌, ◌⊎◌, inl, inr, ⊎_elim, List, [], ◌∷◌, length, get_or, slice_index, map, refl, sym, ◌∙◌, ap, subst, arith, Some, None, slice_get}
+use Rattle.std.proofs.Common.{◌≡◌, ℕ, zero, suc, ◌+◌, ◌*◌, ◌^◌, ◌≤◌, ◌<◌, ◌⊎◌, inl, inr, ⊎_elim, List, [], ◌∷◌, length, get_or, slice_index, map, refl, sym, ◌∙◌, ap, subst, arith, Some, slice_get}
 use Rattle.std.proofs.lemmas.Option.{get_or_from_slice_get, slice_get-get_or}
 use Rattle.luo_num.specs.declared.TheConstants.{MAX}
 use Rattle.luo_num.specs.Mark.{capped}
@@ -7,13 +7,13 @@ use Rattle.luo_num.proofs.Capped.{capped-mul}
 use Rattle.luo_finite.proofs.Sums.{Counts-unique}
 use Rattle.luo_model.specs.declared.program.Proc.{Proc}
 use Rattle.luo_model.specs.declared.program.Program as coded
-use Rattle.luo_model.specs.Program.{Program, Procedure, Body, Does, no_items}
+use Rattle.luo_model.specs.Program.{Program, Procedure, Does, no_items}
 use Rattle.luo_model.specs.View.{plain_of, procedure_of}
 use Rattle.luo_model.specs.Structures.{IsStructure}
 use Rattle.luo_model.specs.Tables.{IsCount, IsTotal}
 use Rattle.luo_top.specs.Plain.{IsPlain, IsPlainProcedure}
 use Rattle.luo_top.specs.Report.{IsPast}
-use Rattle.luo_top.specs.Tables.{AreColumns, IsColumn, HasPast, HasPastCount, HasPastTotal, column_of}
+use Rattle.luo_top.specs.Tables.{AreColumns, HasPastCount, HasPastTotal, column_of}
 use Rattle.luo_top.proofs.SiteTotals.{total_is, one_total}
 
 -- a procedure of the plain program is one of the code's

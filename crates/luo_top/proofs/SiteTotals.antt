@@ -1,7 +1,7 @@
 -- The totals of a plain program: what a procedure charges itself, once for each structure.
-use Rattle.std.proofs.Common.{◌≡◌, ℕ, zero, suc, ◌+◌, ◌*◌, ◌<◌, ◌⊎◌, inl, inr, ⊎_elim, List, [], ◌∷◌, ◌++◌, length, refl, sym, ◌∙◌, ap, subst, arith, Some, None, slice_get, flat_map}
+use Rattle.std.proofs.Common.{◌≡◌, ℕ, zero, suc, ◌*◌, inl, ⊎_elim, List, [], ◌∷◌, ◌++◌, refl, sym, ◌∙◌, ap, subst, arith, Some, slice_get, flat_map}
 use Rattle.std.proofs.lemmas.List.Concat.{flat_map-cons}
-use Rattle.luo_finite.specs.Listing.{In, Counts, Sums, Totals}
+use Rattle.luo_finite.specs.Listing.{In, Totals}
 use Rattle.luo_finite.proofs.Membership.{In-append_left, In-append_right, In-append_cases}
 use Rattle.luo_finite.proofs.Sums.{Counts-to, Sums-constant}
 use Rattle.luo_finite.proofs.Totals.{Totals-of, Totals-unique}
@@ -10,7 +10,7 @@ use Rattle.luo_model.specs.Program.{Program, Procedure, Body, Does, no_items, si
 use Rattle.luo_model.specs.Charges.{Work, of_body, works_of, works_of_procedure, works_of_body, WorkCharges, SiteCharges, BodyCharges, Charges}
 use Rattle.luo_model.specs.Structures.{IsStructure}
 use Rattle.luo_model.specs.Tables.{IsCount, IsTotal}
-use Rattle.luo_top.specs.Plain.{IsPlain, IsPlainProcedure}
+use Rattle.luo_top.specs.Plain.{IsPlain}
 
 -- the works of a program are those of its procedures
 In-works : (procs : List Procedure) (f : ℕ) (P : Procedure) (v : ℕ × Work) → slice_get procs f ≡ Some P → In v (works_of_procedure P) → In v (flat_map works_of_procedure procs)

@@ -1,4 +1,4 @@
-use Rattle.std.proofs.Common.{IsTrue, true, false, refl}
+use Rattle.std.proofs.Common.{IsTrue, false, refl}
 use Rattle.luo_top.proofs.PastNumbers.{nodes_there, past_is, past_back}
 use Rattle.luo_top.proofs.tables.tables.Goals as goal
 

@@ -1,13 +1,6 @@
-use Rattle.std.proofs.Common.{◌≡◌, ℕ, ◌<◌, List, length, sym, ◌∙◌, ap, subst, IfOk, Result, Ok, Err, map, sum_by}
-use Rattle.luo_finite.specs.Listing.{In}
-use Rattle.luo_finite.specs.Range.{convolve_all}
-use Rattle.luo_model.specs.declared.program.Part.{Part}
-use Rattle.luo_model.specs.declared.program.Shape.{Shape}
-use Rattle.luo_model.specs.declared.program.Shape.TheVariants.{Atom, Union, Product}
-use Rattle.luo_model.specs.Program.{shape_of}
+use Rattle.std.proofs.Common.{sym, ◌∙◌, ap, IfOk, Result, Ok, Err}
+use Rattle.luo_model.specs.declared.program.Shape.TheVariants.{Union, Product}
 use Rattle.luo_model.specs.View.{plain_of}
-use Rattle.luo_top.specs.Plain.{IsPlain, IsBelow, IsPlainShape}
-use Rattle.luo_top.specs.Tables.{column_of, entry_of, AreMarked, HaveColumns, IsColumn, atom_counts}
 use Rattle.luo_top.proofs.NodeColumns.{shape_is, plain_shape, have_columns, atom_column_is, union_column_is, product_column_is}
 use Rattle.luo_top.proofs.tables.fill.column.Goals as goal
 

@@ -1,6 +1,5 @@
-use Rattle.std.proofs.Common.{◌≡◌, ◌∙◌, ◌+◌, ◌<◌, ℕ, arith, ap, sym, subst, List, slice_get, Some, get_or}
+use Rattle.std.proofs.Common.{◌+◌, ℕ, subst, List}
 use Rattle.luo_model.specs.View.{plain_of}
-use Rattle.luo_model.specs.declared.program.Proc.{Proc}
 use Rattle.luo_top.specs.Tables.{AreRowsOf}
 use Rattle.luo_top.proofs.RowTables.{analysed, analysed_there, column_there, long_column, rows_are, tables-step}
 use Rattle.luo_top.proofs.tables.rows.all_rows.Goals as goal
