@@ -71,6 +71,11 @@ AreDefined (d ∷ ds) defs nodes all_defs all_nodes =
 abbrev pub HasValue : List Measures → List ℕ → ℕ → Type 0
 HasValue measures name value = (m : Measures) × In m measures × In name m.names × (value ≡ m.value)
 
+-- no measure has a greater value
+abbrev pub ValuesWithin : ℕ → List Measures → Type 0
+ValuesWithin most [] = Unit {0}
+ValuesWithin most (m ∷ ms) = (m.value ≤ most) × ValuesWithin most ms
+
 -- the program is the core form of the source: no name is defined twice, each use is of an earlier type, or of a thing of its kind, and no limit is passed
 pub record IsFirstCore (s : FirstSource) (p : Program) : Type 0 where
   pub distinct : NoDouble (defined_names s)

@@ -2,3 +2,4 @@ pub mod Words
 pub mod Plain
 pub mod Report
 pub mod FirstCore
+pub mod CoreSteps

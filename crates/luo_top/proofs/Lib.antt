@@ -1,0 +1,4 @@
+pub mod ListFacts
+pub mod NameFacts
+pub mod CoreFacts
+pub mod ExitFacts
