@@ -1,7 +1,6 @@
 -- What stands for a source is one thing at most, and its parts are what stands for the source's parts.
-use Rattle.std.proofs.Common.{◌≡◌, ℕ, zero, suc, ◌+◌, ◌<◌, ◌≤◌, List, [], ◌∷◌, ◌++◌, map, length, get_or, take, drop, Some, None, slice_get, refl, sym, ap, ◌∙◌, subst, arith, append_assoc, length-append}
+use Rattle.std.proofs.Common.{◌≡◌, ℕ, zero, suc, ◌+◌, ◌<◌, ◌≤◌, List, [], ◌∷◌, ◌++◌, map, length, get_or, take, drop, Some, slice_get, refl, sym, ap, ◌∙◌, subst, arith, append_assoc, length-append}
 use Rattle.std.proofs.lemmas.List.{append-nil, map-append, take-append-drop}
-use Rattle.std.specs.List.{AllZip}
 use Rattle.luo_finite.specs.Listing.{In, NoDouble}
 use Rattle.luo_model.specs.declared.program.Part.{Part}
 use Rattle.luo_model.specs.declared.program.Def.{Def}
@@ -148,7 +147,7 @@ def_of : Definition → Part → Def
 def_of d whole = record { name = d.name; whole = whole }
 
 pub defined-push : (ds : List Definition) (defs : List Def) (nodes : List Node) (all : List Def) (all_nodes : List Node) (d : Definition) (whole : Part) (own : List Node)
-  → AreDefined ds defs nodes all all_nodes → IsRightCore (next all all_nodes) d.terms whole own → AreDefined (ds ++ d ∷ []) defs nodes (all ++ record { name = d.name; whole = whole } ∷ []) (all_nodes ++ own)
+    → AreDefined ds defs nodes all all_nodes → IsRightCore (next all all_nodes) d.terms whole own → AreDefined (ds ++ d ∷ []) defs nodes (all ++ record { name = d.name; whole = whole } ∷ []) (all_nodes ++ own)
 defined-push [] defs nodes all all_nodes d whole own a r =
     let P : List Def → List Node → Type 0 = λ l m. IsRightCore (next l m) d.terms whole own in
     let r' : IsRightCore (next defs nodes) d.terms whole own = subst (λ l. P l nodes) a.0 (subst (λ m. P all m) a.1 r) in
@@ -190,7 +189,7 @@ defined-names (d ∷ ds) defs nodes all all_nodes a =
     defined-names ds (defs ++ record { name = d.name; whole = a.0 } ∷ []) (nodes ++ a.1) all all_nodes a.3 ∙ names_on defs (record { name = d.name; whole = a.0 }) (map (λ v. v.name) ds)
 
 pub defined-single : (ds : List Definition) (defs : List Def) (nodes : List Node) (all other : List Def) (all_nodes other_nodes : List Node) → NoDouble (map (λ v. v.name) defs ++ map (λ d. d.name) ds)
-  → AreDefined ds defs nodes all all_nodes → AreDefined ds defs nodes other other_nodes → (all ≡ other) × (all_nodes ≡ other_nodes)
+    → AreDefined ds defs nodes all all_nodes → AreDefined ds defs nodes other other_nodes → (all ≡ other) × (all_nodes ≡ other_nodes)
 unfolding def_of
 defined-single [] defs nodes all other all_nodes other_nodes h a b = (a.0 ∙ sym b.0, a.1 ∙ sym b.1)
 defined-single (d ∷ ds) defs nodes all other all_nodes other_nodes h a b =
@@ -202,7 +201,7 @@ defined-single (d ∷ ds) defs nodes all other all_nodes other_nodes h a b =
 
 -- the step of a loop over branches
 pub branches_more : (at : Spot) (ts : List Term) (i : ℕ) (t : Term) (ps qs : List Part) (ns ms own : List Node) (p : Part) (count : ℕ) → i < length ts → t ≡ get_or ts i t → AreBranches at (take i ts) ps ns → count ≡ length ns
-  → IsTermCore (behind at count) t p own → qs ≡ ps ++ p ∷ [] → ms ≡ ns ++ own → AreBranches at (take (i + 1) ts) qs ms
+    → IsTermCore (behind at count) t p own → qs ≡ ps ++ p ∷ [] → ms ≡ ns ++ own → AreBranches at (take (i + 1) ts) qs ms
 branches_more at ts i t ps qs ns ms own p count h e before long here q m =
     let here' : IsTermCore (behind at (length ns)) t p own = subst (λ n. IsTermCore (behind at n) t p own) long here in
     let all : AreBranches at (take i ts ++ t ∷ []) (ps ++ p ∷ []) (ns ++ own) = branches-push at (take i ts) ps ns t p own before here' in
@@ -211,7 +210,7 @@ branches_more at ts i t ps qs ns ms own p count h e before long here q m =
 
 -- where nothing stands for a branch, nothing stands for them all
 pub branches_stop : (at : Spot) → Distinct at.defs → (ts : List Term) (i : ℕ) (t : Term) (ps : List Part) (ns : List Node) (count : ℕ) → i < length ts → t ≡ get_or ts i t → AreBranches at (take i ts) ps ns → count ≡ length ns
-  → ((p : Part) (own : List Node) → IsTermCore (behind at count) t p own → ⊥) → (qs : List Part) (ms : List Node) → AreBranches at ts qs ms → ⊥
+    → ((p : Part) (own : List Node) → IsTermCore (behind at count) t p own → ⊥) → (qs : List Part) (ms : List Node) → AreBranches at ts qs ms → ⊥
 branches_stop at apart ts i t ps ns count h e before long none qs ms all =
     let all' : AreBranches at (take i ts ++ (t ∷ drop (i + 1) ts)) qs ms = subst (λ l. AreBranches at l qs ms) (split_at ts i t h e) all in
     let b = branches-split at (take i ts) t (drop (i + 1) ts) qs ms all' in
@@ -228,17 +227,17 @@ distinct_front ds i defs nodes h a = subst NoDouble (sym (defined-names (take i 
 
 -- the step of a loop over definitions
 pub defined_more : (ds : List Definition) (i : ℕ) (d : Definition) (defs new_defs : List Def) (nodes new_nodes : List Node) → i < length ds → d ≡ get_or ds i d → AreDefined (take i ds) [] [] defs nodes
-  → Defines defs nodes d new_defs new_nodes → AreDefined (take (i + 1) ds) [] [] new_defs new_nodes
+    → Defines defs nodes d new_defs new_nodes → AreDefined (take (i + 1) ds) [] [] new_defs new_nodes
 defined_more ds i d defs new_defs nodes new_nodes h e before here =
     let l = take i ds ++ d ∷ [] in
     let all : AreDefined l [] [] (defs ++ record { name = d.name; whole = here.0 } ∷ []) (nodes ++ here.1) = defined-push (take i ds) [] [] defs nodes d here.0 here.1 before here.2 in
     let all' : AreDefined l [] [] new_defs new_nodes =
-        subst (λ m. AreDefined l [] [] m new_nodes) (sym here.3) (subst (λ m. AreDefined l [] [] (defs ++ record { name = d.name; whole = here.0 } ∷ []) m) (sym here.4) all) in
+    subst (λ m. AreDefined l [] [] m new_nodes) (sym here.3) (subst (λ m. AreDefined l [] [] (defs ++ record { name = d.name; whole = here.0 } ∷ []) m) (sym here.4) all) in
     subst (λ m. AreDefined m [] [] new_defs new_nodes) (sym (taken ds i d h e)) all'
 
 -- what stands for this definition in any program of them all
 pub defined_here : (ds : List Definition) (i : ℕ) (d : Definition) (defs : List Def) (nodes : List Node) → NoDouble (map (λ v. v.name) ds) → i < length ds → d ≡ get_or ds i d → AreDefined (take i ds) [] [] defs nodes
-  → (all : List Def) (all_nodes : List Node) → AreDefined ds [] [] all all_nodes → (whole : Part) × (own : List Node) × IsRightCore (next defs nodes) d.terms whole own × (length nodes + length own ≤ length all_nodes)
+    → (all : List Def) (all_nodes : List Node) → AreDefined ds [] [] all all_nodes → (whole : Part) × (own : List Node) × IsRightCore (next defs nodes) d.terms whole own × (length nodes + length own ≤ length all_nodes)
 defined_here ds i d defs nodes apart h e before all all_nodes a =
     let a' : AreDefined (take i ds ++ (d ∷ drop (i + 1) ds)) [] [] all all_nodes = subst (λ l. AreDefined l [] [] all all_nodes) (split_at ds i d h e) a in
     let b = defined-split (take i ds) d (drop (i + 1) ds) [] [] all all_nodes a' in
@@ -249,10 +248,16 @@ defined_here ds i d defs nodes apart h e before all all_nodes a =
     (b.whole, b.own, here, omega (arith, b.within, long))
 
 pub defined_too_long : (ds : List Definition) (i : ℕ) (d : Definition) (defs new_defs : List Def) (nodes new_nodes : List Node) (most : ℕ) → NoDouble (map (λ v. v.name) ds) → i < length ds → d ≡ get_or ds i d → AreDefined (take i ds) [] [] defs nodes
-  → Defines defs nodes d new_defs new_nodes → most < length new_nodes → (all : List Def) (all_nodes : List Node) → AreDefined ds [] [] all all_nodes → length all_nodes ≤ most → ⊥
+    → Defines defs nodes d new_defs new_nodes → most < length new_nodes → (all : List Def) (all_nodes : List Node) → AreDefined ds [] [] all all_nodes → length all_nodes ≤ most → ⊥
 defined_too_long ds i d defs new_defs nodes new_nodes most apart h e before made long all all_nodes a few =
     let b = defined_here ds i d defs nodes apart h e before all all_nodes a in
     let same = right-single (next defs nodes) (distinct_front ds i defs nodes apart before) d.terms b.0 made.0 b.1 made.1 b.2 made.2 in
     let count : length new_nodes ≡ length nodes + length made.1 = ap length made.4 ∙ length-append nodes made.1 in
     let own : length b.1 ≡ length made.1 = ap length same.1 in
     omega (arith, b.3, count, own)
+
+-- where nothing stands for the branches, nothing stands for the union
+pub union_stop : (at : Spot) (ts : List Term) → 2 ≤ length ts → ((parts : List Part) (nodes : List Node) → AreBranches (behind at 1) ts parts nodes → ⊥) → (whole : Part) (nodes : List Node) → IsRightCore at ts whole nodes → ⊥
+union_stop at [] several none whole nodes a = a
+union_stop at (t ∷ []) several none whole nodes a = absurd (omega (arith, several))
+union_stop at (t ∷ (u ∷ ts)) several none whole nodes a = none a.2.0 a.2.1 a.2.2

@@ -1,5 +1,5 @@
 -- What the readings of lists say of names.
-use Rattle.std.proofs.Common.{◌≡◌, ℕ, ◌+◌, ◌<◌, ◌≤◌, Bool, true, false, List, length, get_or, Some, slice_get, refl, sym, ap, ◌∙◌, arith, nat_eq, below_more}
+use Rattle.std.proofs.Common.{◌≡◌, ℕ, ◌+◌, ◌<◌, ◌≤◌, true, false, List, length, get_or, Some, slice_get, refl, sym, ap, ◌∙◌, arith, nat_eq, below_more}
 use Rattle.std.proofs.lemmas.Option.{slice_get_read, slice_get_within}
 use Rattle.std.specs.Cmp.Lexicographic.{pointwise, same_text, other_text}
 use Rattle.luo_model.specs.declared.program.Part.{Part}

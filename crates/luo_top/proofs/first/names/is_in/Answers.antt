@@ -15,4 +15,4 @@ returns-then-eq c =
 pub loop-other-preserved : goal.loop-other-preserved
 loop-other-preserved c =
     not_yet c.args.name.now c.args.names.now c.loop-other.other-index c.other-item.result c.loop-other-test.true c.other-item.is c.loop-other.invariant
-      (λ e. other_text _ _ c.if-eq.ensures (c.as_slice.ensures ∙ sym e))
+    (λ e. other_text _ _ c.if-eq.ensures (c.as_slice.ensures ∙ sym e))
