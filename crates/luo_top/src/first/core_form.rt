@@ -75,14 +75,22 @@ fn is_fit(alloc: Global, source: &FirstSource) -> Result<bool, AllocError>
     ensures { IfOk result (λ fit. IsTrue fit ↔ IsFit source.now) }
 {
     let names = names_of(alloc, source)?;
-    Ok(source.definitions.len() <= DEFINITION_LIMIT
-        && source.procedure.charges.len() <= CHARGE_LIMIT
-        && source.analysed.as_slice() == source.procedure.name.as_slice()
-        && are_distinct(names.as_slice()))
+    Ok(
+        source.definitions.len() <= DEFINITION_LIMIT
+            && source.procedure.charges.len() <= CHARGE_LIMIT
+            && source.analysed.as_slice() == source.procedure.name.as_slice()
+            && are_distinct(names.as_slice()),
+    )
 }
 
 /// A program with one procedure, which charges this on this part.
-fn program(alloc: Global, source: &FirstSource, types: Types, on: Part, own: u128) -> Result<Program, AllocError>
+fn program(
+    alloc: Global,
+    source: &FirstSource,
+    types: Types,
+    on: Part,
+    own: u128,
+) -> Result<Program, AllocError>
     ensures { IfOk result (λ p. plain_of p ≡ program_of source.now types.defs types.nodes on own) }
 {
     let mut procs = Items::new(alloc);
@@ -132,7 +140,10 @@ pub fn core_of(alloc: Global, source: &FirstSource) -> Result<Program, NotCore>
     let Some(on) = meaning(types.defs.as_slice(), source.procedure.on.as_slice()) else {
         return Err(NotCore::NoProgram);
     };
-    let Some(own) = charge_of(source.measures.as_slice(), source.procedure.charges.as_slice()) else {
+    let Some(own) = charge_of(
+        source.measures.as_slice(),
+        source.procedure.charges.as_slice(),
+    ) else {
         return Err(NotCore::NoProgram);
     };
     Ok(program(alloc, source, types, on, own)?)

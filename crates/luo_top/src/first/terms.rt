@@ -50,7 +50,13 @@ pub fn meaning(defs: &[Def], name: &[u8]) -> Option<Part>
 }
 
 /// A construct of one node.
-fn made(alloc: Global, defs: &[Def], node: usize, place: u32, shape: Shape) -> Result<Construct, AllocError>
+fn made(
+    alloc: Global,
+    defs: &[Def],
+    node: usize,
+    place: u32,
+    shape: Shape,
+) -> Result<Construct, AllocError>
     ensures { IfOk result (λ c. (c.part ≡ record { node = node; name = None }) × (c.nodes ≡ record { shape = shape; owner = length defs.now; place = place } ∷ [])) }
 {
     let mut nodes = Items::new(alloc);
@@ -91,7 +97,13 @@ fn named(alloc: Global, defs: &[Def], name: &[u8]) -> Result<Construct, NotCore>
 }
 
 /// What stands for a product.
-fn product(alloc: Global, defs: &[Def], node: usize, place: u32, names: &[Text]) -> Result<Construct, NotCore>
+fn product(
+    alloc: Global,
+    defs: &[Def],
+    node: usize,
+    place: u32,
+    names: &[Text],
+) -> Result<Construct, NotCore>
     ensures is { IfOk result (λ c. IsProductCore (record { defs = defs.now; node = node; place = place }) names.now c.part c.nodes) }
     ensures none { IsErrOf result NotCore.NoProgram → (part : Part) (nodes : List Node) → IsProductCore (record { defs = defs.now; node = node; place = place }) names.now part nodes → ⊥ }
 {
@@ -103,7 +115,13 @@ fn product(alloc: Global, defs: &[Def], node: usize, place: u32, names: &[Text])
 }
 
 /// What stands for a term.
-fn term_core(alloc: Global, defs: &[Def], node: usize, place: u32, term: &Term) -> Result<Construct, NotCore>
+fn term_core(
+    alloc: Global,
+    defs: &[Def],
+    node: usize,
+    place: u32,
+    term: &Term,
+) -> Result<Construct, NotCore>
     ensures is { IfOk result (λ c. IsTermCore (record { defs = defs.now; node = node; place = place }) term.now c.part c.nodes) }
     ensures none { IsErrOf result NotCore.NoProgram → (part : Part) (nodes : List Node) → IsTermCore (record { defs = defs.now; node = node; place = place }) term.now part nodes → ⊥ }
 {
@@ -122,7 +140,13 @@ fn term_core(alloc: Global, defs: &[Def], node: usize, place: u32, term: &Term) 
 }
 
 /// What stands for the branches of a union.
-fn branches_core(alloc: Global, defs: &[Def], node: usize, place: u32, terms: &[Term]) -> Result<Branches, NotCore>
+fn branches_core(
+    alloc: Global,
+    defs: &[Def],
+    node: usize,
+    place: u32,
+    terms: &[Term],
+) -> Result<Branches, NotCore>
     requires node_small { node < 2 ^ 32 }
     requires place_small { place ≤ 1 }
     requires few { length terms.now ≤ 64 }
@@ -142,7 +166,12 @@ fn branches_core(alloc: Global, defs: &[Def], node: usize, place: u32, terms: &[
 }
 
 /// What stands for a union of several terms.
-fn union_core(alloc: Global, defs: &[Def], node: usize, terms: &[Term]) -> Result<Construct, NotCore>
+fn union_core(
+    alloc: Global,
+    defs: &[Def],
+    node: usize,
+    terms: &[Term],
+) -> Result<Construct, NotCore>
     requires node_small { node ≤ 2 ^ 16 }
     requires several { 2 ≤ length terms.now }
     requires distinct { NoDouble (map (λ d. d.name) defs.now) }
@@ -162,7 +191,12 @@ fn union_core(alloc: Global, defs: &[Def], node: usize, terms: &[Term]) -> Resul
 }
 
 /// What stands for a right side.
-pub fn right_side(alloc: Global, defs: &[Def], node: usize, terms: &[Term]) -> Result<Construct, NotCore>
+pub fn right_side(
+    alloc: Global,
+    defs: &[Def],
+    node: usize,
+    terms: &[Term],
+) -> Result<Construct, NotCore>
     requires node_small { node ≤ 2 ^ 16 }
     requires distinct { NoDouble (map (λ d. d.name) defs.now) }
     ensures is { IfOk result (λ c. IsRightCore (record { defs = defs.now; node = node; place = 0 }) terms.now c.part c.nodes) }

@@ -33,7 +33,12 @@ impl Types {
         ensures is { OnOk result (Defines self.old.defs self.old.nodes definition.now self.new.defs self.new.nodes) }
         ensures none { IsErrOf result NotCore.NoProgram → (whole : Part) (own : List Node) → IsRightCore (record { defs = self.old.defs; node = length self.old.nodes; place = 0 }) definition.now.terms whole own → ⊥ }
     {
-        let right = right_side(alloc, self.defs.as_slice(), self.nodes.len(), definition.terms.as_slice())?;
+        let right = right_side(
+            alloc,
+            self.defs.as_slice(),
+            self.nodes.len(),
+            definition.terms.as_slice(),
+        )?;
         let name = copy(alloc, &definition.name)?;
         self.defs.push(Def {
             name,
