@@ -14,6 +14,7 @@ pub mod FirstWhole
 pub mod ListFacts
 pub mod MarkedColumns
 pub mod NameFacts
+pub mod NoTokens
 pub mod NodeColumns
 pub mod OneReport
 pub mod PastNumbers

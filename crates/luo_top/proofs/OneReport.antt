@@ -1,4 +1,4 @@
--- A program has at most one report, where each site has at most one total.
+-- A program has at most one report, where each procedure has at most one total.
 use Rattle.std.proofs.Common.{◌≡◌, ℕ, zero, suc, ◌+◌, List, [], ◌∷◌, length, refl, sym, ◌∙◌, ap, subst, arith, Some, slice_get}
 use Rattle.luo_finite.specs.Steps.{IsSingle}
 use Rattle.luo_finite.proofs.Sums.{Counts-unique}
@@ -16,7 +16,7 @@ same_procedure P Q e = cc
 same_row : (r s : Row) → r.n ≡ s.n → r.count ≡ s.count → r.total ≡ s.total → r ≡ s
 same_row r s a b c = λ i. record { n = a i; count = b i; total = c i }
 
-module _ (p : Program) (one_total : (i n a b : ℕ) → IsTotal p i n a → IsTotal p i n b → a ≡ b) where
+module _ (p : Program) (one_total : (f : ℕ) (P : Procedure) → slice_get p.procs f ≡ Some P → (n a b : ℕ) → IsTotal p P.site n a → IsTotal p P.site n b → a ≡ b) where
   row_one : (f : ℕ) (r s : Row) → r.n ≡ s.n → IsRow p f r → IsRow p f s → r ≡ s
   row_one f r s e (P, g, c, t) (Q, h, d, u) =
       let same : Q ≡ P = same_procedure Q P (sym h ∙ g) in
@@ -24,7 +24,7 @@ module _ (p : Program) (one_total : (i n a b : ℕ) → IsTotal p i n a → IsTo
       let T : ℕ → Type 0 = λ n. IsTotal p P.site n s.total in
       let counted : IsCount p P.on.node r.n s.count = subst C (sym e) (subst (λ (X : Procedure). IsCount p X.on.node s.n s.count) same d) in
       let summed : IsTotal p P.site r.n s.total = subst T (sym e) (subst (λ (X : Procedure). IsTotal p X.site s.n s.total) same u) in
-      same_row r s e (Counts-unique (IsStructure p P.on.node r.n) r.count s.count c counted) (one_total P.site r.n r.total s.total t summed)
+      same_row r s e (Counts-unique (IsStructure p P.on.node r.n) r.count s.count c counted) (one_total f P g r.n r.total s.total t summed)
 
   rows_one : (f n : ℕ) (rs ss : List Row) → length rs ≡ length ss → AreRowsFrom p f n rs → AreRowsFrom p f n ss → rs ≡ ss
   rows_one f n [] [] e a b = refl

@@ -5,6 +5,18 @@ use Rattle.luo_scan.specs.Spellings.{value_after}
 use Rattle.luo_finite.specs.Steps.{◌or_else◌, With, IsSingle}
 use Rattle.luo_finite.proofs.Steps.{or_else-single}
 use Rattle.luo_model.specs.Program.{Program}
+use Rattle.luo_scan.specs.Lexemes.{lexemes}
+use Rattle.luo_scan.proofs.Inside.{lexemes_fit}
+use Rattle.luo_scan.proofs.Unique.{one_list}
+use Rattle.luo_top.proofs.CoreForm.{first_core_single}
+use Rattle.luo_top.proofs.CorePlain.{core_is_plain}
+use Rattle.luo_top.proofs.FirstNumbers.{values_within}
+use Rattle.luo_top.proofs.FirstOne.{first_text_one}
+use Rattle.luo_top.proofs.OneReport.{reports_one}
+use Rattle.luo_top.proofs.SiteTotals.{one_total}
+use Rattle.luo_top.specs.FirstCore.{IsFirstCore}
+use Rattle.luo_top.specs.FirstGrammar.{IsFirst}
+use Rattle.luo_top.specs.Plain.{IsPlain}
 use Rattle.luo_top.specs.declared.status.Status.{Status}
 use Rattle.luo_top.specs.declared.status.Status.TheVariants.{Usage, Refused, Limit}
 use Rattle.luo_top.specs.Answer.{Answer, Output, Refusal}
@@ -32,12 +44,23 @@ asks-single words m n (f, (ds, e, p)) (g, (es, h, q)) = one_number ds es m n (sa
     same_digits : (f g ds es : List ℕ) → codes "analyse" ∷ f ∷ ds ∷ [] ≡ codes "analyse" ∷ g ∷ es ∷ [] → ds ≡ es
     same_digits f g ds es e = cc
 
--- a text has at most one program, and it has at most one report
+-- a text has at most one program
 pub first-single : (text : List ℕ) → IsSingle (IsFirstProgram text)
-first-single text p q a b = ?
+first-single text p q (ts, s, t, f, c) (us, r, u, g, d) =
+    let tokens : us ≡ ts = one_list 0 0 text text us ts u t refl refl in
+    let read : IsFirst (lexemes text ts) r = subst (λ l. IsFirst (lexemes text l) r) tokens g in
+    let source : r ≡ s = first_text_one (lexemes text ts) r s read f in
+    first_core_single s p q c (subst (λ z. IsFirstCore z q) source d)
 
+-- the program of a text is plain
+pub first_plain : (text : List ℕ) (p : Program) → IsFirstProgram text p → IsPlain p
+first_plain text p (ts, s, t, f, c) = core_is_plain s p (values_within (lexemes text ts) s (lexemes_fit text ts t) f) c
+
+-- and it has at most one report
 pub reports-single : (text : List ℕ) (p : Program) (last : ℕ) → IsFirstProgram text p → IsSingle (Reports p last)
-reports-single text p last a = ?
+reports-single text p last a =
+    let plain = first_plain text p a in
+    reports_one p (λ f P there n x y k l. let q = plain.procedures f P there in one_total p plain f P there q.own q.body n x y k l) last
 
 pub outcome_single : (words : List (List ℕ)) (text : List ℕ) → IsSingle (Outcome words text)
 unfolding Outcome
