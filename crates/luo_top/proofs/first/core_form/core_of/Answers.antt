@@ -1,4 +1,4 @@
-use Rattle.std.proofs.Common.{refl}
+use Rattle.std.proofs.Common.{refl, arith}
 use Rattle.luo_model.specs.View.{plain_of}
 use Rattle.luo_top.proofs.CoreForm.{type_names_given, no_part, core_given}
 use Rattle.luo_top.proofs.CorePlain.{core_is_plain}
@@ -18,4 +18,4 @@ returns-clause-plain c =
     let p = plain_of c.in_ok-program.field-0 in
     core_is_plain c.args.source.now p c.requires
     (core_given c.args.source.now c.in_ok-is_fit.field-0 _ types.defs _ types.nodes _ c.in-Some.on _ _ c.in-Some-charge_of.own p c.in_ok-is_fit.ensures.0 c.if-not-branch.false
-    c.as_slice.ensures c.as_slice-2.ensures c.as_slice-3.ensures c.as_slice-4.ensures c.as_slice-5.ensures c.in_ok-types.ensures.is c.in_ok-types.ensures.few c.in-Some.ensures.is c.in-Some-charge_of.ensures.is c.in_ok-program.ensures)
+    c.as_slice.ensures c.as_slice-2.ensures c.as_slice-3.ensures c.as_slice-4.ensures c.as_slice-5.ensures c.in_ok-types.ensures.is (omega (arith, c.in_ok-types.ensures.few)) c.in-Some.ensures.is c.in-Some-charge_of.ensures.is c.in_ok-program.ensures)

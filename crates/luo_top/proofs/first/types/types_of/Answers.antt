@@ -1,4 +1,5 @@
 use Rattle.std.proofs.Common.{arith}
+use Rattle.luo_top.specs.declared.first.types.TheConstants.{NODE_LIMIT}
 use Rattle.luo_top.proofs.CoreFacts.{distinct_front, defined_more, defined_here, defined_too_long}
 use Rattle.luo_top.proofs.ExitFacts.{handed_on}
 use Rattle.luo_top.proofs.first.types.types_of.Goals as goal
@@ -19,7 +20,7 @@ pub returns-then-len-gt-NODE_LIMIT-clause-none : goal.returns-then-len-gt-NODE_L
 returns-then-len-gt-NODE_LIMIT-clause-none c =
     let types = c.loop-definition.types in
     let made = c.define.new.self in
-    λ _. defined_too_long c.args.definitions.now c.loop-definition.definition-index c.definition-item.result types.defs made.defs types.nodes made.nodes 128 c.requires c.loop-definition-test.true c.definition-item.is c.loop-definition.invariant.0 c.in_ok-define.ensures.is (omega arith)
+    λ _. defined_too_long c.args.definitions.now c.loop-definition.definition-index c.definition-item.result types.defs made.defs types.nodes made.nodes NODE_LIMIT c.requires c.loop-definition-test.true c.definition-item.is c.loop-definition.invariant.0 c.in_ok-define.ensures.is (omega arith)
 
 pub loop-definition-preserved : goal.loop-definition-preserved
 loop-definition-preserved c =
