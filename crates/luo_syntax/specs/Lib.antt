@@ -1,0 +1,4 @@
+pub mod GrammarTypes
+pub mod GrammarStatements
+pub mod GrammarValues
+pub mod Grammar
