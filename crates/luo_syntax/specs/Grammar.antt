@@ -27,7 +27,7 @@ pub data IsProcBody : List Lexeme → List Lexeme → ProcBody → Type 0 where
 -- proc = "procedure" name "(" name ":" name ")" (";" block | ":" name ";" value) ";"
 pub data IsProc : List Lexeme → List Lexeme → ProcDef → Type 0 where
   proc : {from to : List Lexeme} {b text c param d type e f : List ℕ} {k at l param_at m type_at n o : ℕ} {body : ProcBody} → IsProcBody from (lexeme (kind.Mark Semicolon) f o ∷ to) body
-    → IsProc (lexeme (kind.Word KwProcedure) b k ∷ lexeme kind.Name text at ∷ lexeme (kind.Mark LeftRound) c l ∷ lexeme kind.Name param param_at ∷ lexeme (kind.Mark Colon) d m ∷ lexeme kind.Name type type_at ∷ lexeme (kind.Mark RightRound) e n ∷ from) to
+      → IsProc (lexeme (kind.Word KwProcedure) b k ∷ lexeme kind.Name text at ∷ lexeme (kind.Mark LeftRound) c l ∷ lexeme kind.Name param param_at ∷ lexeme (kind.Mark Colon) d m ∷ lexeme kind.Name type type_at ∷ lexeme (kind.Mark RightRound) e n ∷ from) to
       (record { name = record { text = text; at = at }; param = record { text = param; at = param_at }; on = record { text = type; at = type_at }; body = body })
 
 -- analyze = "analyze" name ";"
@@ -57,11 +57,11 @@ pub data FromTypes : List Lexeme → List Lexeme → List TypeDef → List Measu
 -- program = ["labelled" ";" | "unlabelled" ";"] {typedef} {measure} {proc} analyze {analyze}
 pub data IsProgram : List Lexeme → List Lexeme → Source → Type 0 where
   labelled : {from to : List Lexeme} {b c : List ℕ} {k l : ℕ} {types : List TypeDef} {measures : List MeasureDef} {procs : List ProcDef} {names : List Name} → FromTypes from to types measures procs names
-    → IsProgram (lexeme (kind.Word KwLabelled) b k ∷ lexeme (kind.Mark Semicolon) c l ∷ from) to (record { universe = Labelled; types = types; measures = measures; procs = procs; analyses = names })
+      → IsProgram (lexeme (kind.Word KwLabelled) b k ∷ lexeme (kind.Mark Semicolon) c l ∷ from) to (record { universe = Labelled; types = types; measures = measures; procs = procs; analyses = names })
   unlabelled : {from to : List Lexeme} {b c : List ℕ} {k l : ℕ} {types : List TypeDef} {measures : List MeasureDef} {procs : List ProcDef} {names : List Name} → FromTypes from to types measures procs names
-    → IsProgram (lexeme (kind.Word KwUnlabelled) b k ∷ lexeme (kind.Mark Semicolon) c l ∷ from) to (record { universe = Unlabelled; types = types; measures = measures; procs = procs; analyses = names })
+      → IsProgram (lexeme (kind.Word KwUnlabelled) b k ∷ lexeme (kind.Mark Semicolon) c l ∷ from) to (record { universe = Unlabelled; types = types; measures = measures; procs = procs; analyses = names })
   unlabelled_unsaid : {from to : List Lexeme} {types : List TypeDef} {measures : List MeasureDef} {procs : List ProcDef} {names : List Name} → FromTypes from to types measures procs names
-    → IsProgram from to (record { universe = Unlabelled; types = types; measures = measures; procs = procs; analyses = names })
+      → IsProgram from to (record { universe = Unlabelled; types = types; measures = measures; procs = procs; analyses = names })
 
 -- the tokens of a text are a program, and this is its source
 abbrev pub Derives : List ℕ → List Token → Source → Type 0

@@ -2,3 +2,5 @@ pub mod GrammarTypes
 pub mod GrammarStatements
 pub mod GrammarValues
 pub mod Grammar
+pub mod Next
+pub mod Viable

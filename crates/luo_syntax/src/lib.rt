@@ -1,12 +1,15 @@
 //! Sources of programs, and the grammar that relates them to tokens.
 #![tactic(auto)]
 
+mod error;
+mod fault;
 mod names;
 mod source;
 mod statements;
 mod types;
 mod values;
 
+pub use error::{DEPTH_LIMIT, SyntaxError};
 pub use names::Name;
 pub use source::{ProcBody, ProcDef, Source};
 pub use statements::{Pattern, SourceArm, Stmt};

@@ -36,11 +36,17 @@ pub enum Stmt {
     /// The measure of this name is charged.
     Charge(Name),
     /// A procedure is called on a variable.
-    Call { callee: Name, arg: Name },
+    Call {
+        callee: Name,
+        arg: Name,
+    },
     /// The statements, one after another.
     Block(Items<Stmt>),
     /// The arm of the variable's branch.
-    Case { var: Name, arms: Items<SourceArm> },
+    Case {
+        var: Name,
+        arms: Items<SourceArm>,
+    },
     /// The body, once for each component of the collection `source`.
     Forall {
         var: Name,

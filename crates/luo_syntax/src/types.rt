@@ -30,7 +30,9 @@ pub enum TypeExpr {
     /// The type that this name is defined to be.
     Named(Name),
     /// The empty structure. `at` is the word `epsilon`.
-    Epsilon { at: usize },
+    Epsilon {
+        at: usize,
+    },
     /// An atom. `weight_at` is the number, `at` the word `atom`.
     Atom {
         weight: u128,
@@ -38,9 +40,14 @@ pub enum TypeExpr {
         at: usize,
     },
     /// One of the branches. There are at least two.
-    Union { parts: Items<TypeExpr> },
+    Union {
+        parts: Items<TypeExpr>,
+    },
     /// One of each factor. There are at least two. `at` is the word `product`.
-    Product { parts: Items<TypeExpr>, at: usize },
+    Product {
+        parts: Items<TypeExpr>,
+        at: usize,
+    },
     /// A collection of components. `at` is the word of its kind.
     Coll {
         kind: Kind,

@@ -10,9 +10,15 @@ pub enum SourceValue {
     /// The structure of a variable.
     Given(Name),
     /// What a procedure with a result makes on a variable.
-    Made { callee: Name, arg: Name },
+    Made {
+        callee: Name,
+        arg: Name,
+    },
     /// An atom, and the measure charged at it. `at` is the word `atom`.
-    Atom { charge: Option<Name>, at: usize },
+    Atom {
+        charge: Option<Name>,
+        at: usize,
+    },
     /// A tuple. It has at least two parts. `at` is the word `product`.
     Tuple {
         parts: Items<SourceValue>,

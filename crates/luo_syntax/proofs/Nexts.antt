@@ -1,0 +1,45 @@
+-- What comes next, and what doesn't.
+use Rattle.std.proofs.Common.{◌≡◌, ℕ, List, [], ◌∷◌, ◌<◌, length, refl, ap, sym, subst, ◌∙◌, arith}
+use Rattle.luo_scan.specs.declared.token.TokenKind.{TokenKind}
+use Rattle.luo_scan.specs.declared.token.TokenKind.TheVariants as kind
+use Rattle.luo_scan.specs.Lexemes.{Lexeme, lexeme}
+use Rattle.luo_syntax.specs.declared.names.Name.{Name}
+use Rattle.luo_syntax.specs.Next.{IsNext, next, IsNextAt, next_at, IsName, next_name, No, NoName, NoNumber, Misses, MissesName, MissesNumber}
+use Rattle.luo_syntax.proofs.Fronts.{BeginAlike, empty, begin}
+
+pub is_next : {what : TokenKind} {at : ℕ} {from to : List Lexeme} → IsNextAt what at from to → IsNext what from to
+is_next next_at = next
+
+pub name_is_next : {from to : List Lexeme} {name : Name} → IsName from to name → IsNext kind.Name from to
+name_is_next next_name = next
+
+pub next_one : {what that : TokenKind} {from from' to to' : List Lexeme} → IsNext what from to → IsNext that from' to' → from ≡ from' → (what ≡ that) × (to ≡ to')
+next_one next next e = (cc, cc)
+
+pub next_no : {what : TokenKind} {from from' to : List Lexeme} → IsNext what from to → No what from' → from ≡ from' → ⊥
+next_no next n e = n _ _ _ (sym e)
+
+pub next_shorter : {what : TokenKind} {from to : List Lexeme} → IsNext what from to → length to < length from
+next_shorter next = omega arith
+
+pub next_at_shorter : {what : TokenKind} {at : ℕ} {from to : List Lexeme} → IsNextAt what at from to → length to < length from
+next_at_shorter next_at = omega arith
+
+pub name_shorter : {from to : List Lexeme} {name : Name} → IsName from to name → length to < length from
+name_shorter next_name = omega arith
+
+pub no_at : {what : TokenKind} {from at : List Lexeme} → No what from → at ≡ from → No what at
+no_at {what} n e = subst (No what) (sym e) n
+
+pub no_alike : {what : TokenKind} {a b : List Lexeme} → BeginAlike a b → No what a → No what b
+no_alike empty n bytes at rest e = cc
+no_alike (begin l a b) n bytes at rest e = n bytes at a (cc)
+
+pub no_number_alike : {a b : List Lexeme} → BeginAlike a b → NoNumber a → NoNumber b
+no_number_alike b n k = no_alike b (n k)
+
+pub misses_alike : {what : TokenKind} {from at other : List Lexeme} → Misses what from at → BeginAlike at other → Misses what other other
+misses_alike {what} m b = (refl, no_alike b (subst (No what) (sym m.0) m.1))
+
+pub misses_number_alike : {from at other : List Lexeme} → MissesNumber from at → BeginAlike at other → MissesNumber other other
+misses_number_alike m b = (refl, no_number_alike b (subst NoNumber (sym m.0) m.1))
