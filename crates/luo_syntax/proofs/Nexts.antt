@@ -1,10 +1,10 @@
 -- What comes next, and what doesn't.
-use Rattle.std.proofs.Common.{◌≡◌, ℕ, List, [], ◌∷◌, ◌<◌, length, refl, ap, sym, subst, ◌∙◌, arith}
+use Rattle.std.proofs.Common.{◌≡◌, ℕ, Option, None, Some, List, [], ◌∷◌, ◌<◌, length, refl, ap, sym, subst, ◌∙◌, arith}
 use Rattle.luo_scan.specs.declared.token.TokenKind.{TokenKind}
 use Rattle.luo_scan.specs.declared.token.TokenKind.TheVariants as kind
 use Rattle.luo_scan.specs.Lexemes.{Lexeme, lexeme}
 use Rattle.luo_syntax.specs.declared.names.Name.{Name}
-use Rattle.luo_syntax.specs.Next.{IsNext, next, IsNextAt, next_at, IsName, next_name, No, NoName, NoNumber, Misses, MissesName, MissesNumber}
+use Rattle.luo_syntax.specs.Next.{IsNext, next, IsNextAt, next_at, IsName, next_name, No, NoName, NoNumber, Misses, MissesName, MissesNumber, TakesAt, TakesKind, TakesNumber, TakesAnyNumber}
 use Rattle.luo_syntax.proofs.Fronts.{BeginAlike, empty, begin}
 
 pub is_next : {what : TokenKind} {at : ℕ} {from to : List Lexeme} → IsNextAt what at from to → IsNext what from to
@@ -43,3 +43,22 @@ misses_alike {what} m b = (refl, no_alike b (subst (No what) (sym m.0) m.1))
 
 pub misses_number_alike : {from at other : List Lexeme} → MissesNumber from at → BeginAlike at other → MissesNumber other other
 misses_number_alike m b = (refl, no_number_alike b (subst NoNumber (sym m.0) m.1))
+
+pub next_at_is : {what : TokenKind} {bytes : List ℕ} {at : ℕ} {from to : List Lexeme} → from ≡ lexeme what bytes at ∷ to → IsNextAt what at from to
+next_at_is {what} {at} {to} e = subst (λ z. IsNextAt what at z to) (sym e) next_at
+
+pub next_is : {what : TokenKind} {bytes : List ℕ} {at : ℕ} {from to : List Lexeme} → from ≡ lexeme what bytes at ∷ to → IsNext what from to
+next_is {what} {to} e = subst (λ z. IsNext what z to) (sym e) next
+
+pub name_is : {name : Name} {from to : List Lexeme} → from ≡ lexeme kind.Name name.text name.at ∷ to → IsName from to name
+name_is {name} {to} e = subst (λ z. IsName z to name) (sym e) next_name
+
+pub taken_at : {what : TokenKind} {from to : List Lexeme} (r : Option ℕ) → TakesKind what from to r → TakesAt what from to r
+taken_at (Some at) e = next_at_is e
+taken_at None m = m
+
+pub taken_number : {from to : List Lexeme} (r : Option (ℕ × ℕ)) → TakesAnyNumber from to r → TakesNumber from to r
+taken_number (Some (n, at)) e = next_at_is e
+taken_number None m = m
+
+pub ruleset nexts = (next_at_is, next_is, name_is, taken_at, taken_number)

@@ -61,3 +61,23 @@ TakesAt what from to None = Misses what from to
 abbrev pub Ends : List Lexeme → Bool → Type 0
 Ends ls true = ls ≡ []
 Ends ls false = ls ≡ [] → ⊥
+
+-- a number and its number as a lexeme were taken, or no number comes next
+abbrev pub TakesNumber : List Lexeme → List Lexeme → Option (ℕ × ℕ) → Type 0
+TakesNumber from to (Some (n, at)) = IsNextAt (kind.Number n) at from to
+TakesNumber from to None = MissesNumber from to
+
+-- the bytes of the first lexeme
+abbrev pub first_bytes : List Lexeme → List ℕ
+first_bytes [] = []
+first_bytes (lexeme what bytes at ∷ ls) = bytes
+
+-- what was taken, said by an equation
+abbrev pub TakesKind : TokenKind → List Lexeme → List Lexeme → Option ℕ → Type 0
+TakesKind what from to (Some at) = from ≡ lexeme what (first_bytes from) at ∷ to
+TakesKind what from to None = Misses what from to
+
+-- what number was taken, said by an equation
+abbrev pub TakesAnyNumber : List Lexeme → List Lexeme → Option (ℕ × ℕ) → Type 0
+TakesAnyNumber from to (Some (n, at)) = from ≡ lexeme (kind.Number n) (first_bytes from) at ∷ to
+TakesAnyNumber from to None = MissesNumber from to

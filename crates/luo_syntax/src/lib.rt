@@ -1,6 +1,7 @@
 //! Sources of programs, and the grammar that relates them to tokens.
 #![tactic(auto)]
 
+mod cursor;
 mod error;
 mod fault;
 mod names;
