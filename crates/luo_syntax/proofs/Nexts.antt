@@ -53,12 +53,12 @@ next_is {what} {to} e = subst (λ z. IsNext what z to) (sym e) next
 pub name_is : {name : Name} {from to : List Lexeme} → from ≡ lexeme kind.Name name.text name.at ∷ to → IsName from to name
 name_is {name} {to} e = subst (λ z. IsName z to name) (sym e) next_name
 
-pub taken_at : {what : TokenKind} {from to : List Lexeme} (r : Option ℕ) → TakesKind what from to r → TakesAt what from to r
-taken_at (Some at) e = next_at_is e
-taken_at None m = m
+pub taken_at : (what : TokenKind) (from to : List Lexeme) (r : Option ℕ) → TakesKind what from to r → TakesAt what from to r
+taken_at what from to (Some at) e = next_at_is e
+taken_at what from to None m = m
 
-pub taken_number : {from to : List Lexeme} (r : Option (ℕ × ℕ)) → TakesAnyNumber from to r → TakesNumber from to r
-taken_number (Some (n, at)) e = next_at_is e
-taken_number None m = m
+pub taken_number : (from to : List Lexeme) (r : Option (ℕ × ℕ)) → TakesAnyNumber from to r → TakesNumber from to r
+taken_number from to (Some (n, at)) e = next_at_is e
+taken_number from to None m = m
 
 pub ruleset nexts = (next_at_is, next_is, name_is, taken_at, taken_number)

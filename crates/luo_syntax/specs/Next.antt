@@ -1,5 +1,7 @@
 -- What comes next among lexemes, and what a step of reading does.
 use Rattle.std.specs.Prelude.{◌≡◌, ℕ, List, [], ◌∷◌, Bool, true, false, Option, None, Some, length}
+use Rattle.luo_scan.specs.declared.token.Word.TheVariants.{KwAs, KwAtom}
+use Rattle.luo_scan.specs.declared.token.Mark.TheVariants.{Bar, LeftRound}
 use Rattle.luo_scan.specs.declared.token.TokenKind.{TokenKind}
 use Rattle.luo_scan.specs.declared.token.TokenKind.TheVariants as kind
 use Rattle.luo_scan.specs.Lexemes.{Lexeme, lexeme}
@@ -42,6 +44,22 @@ MissesName from at = Misses kind.Name from at
 -- a number is missed here
 abbrev pub MissesNumber : List Lexeme → List Lexeme → Type 0
 MissesNumber from at = (at ≡ from) × NoNumber from
+
+-- a type expression isn't gone on with here
+abbrev pub EndsExpr : List Lexeme → Type 0
+EndsExpr ls = No (kind.Mark Bar) ls
+
+-- a pattern isn't gone on with here
+abbrev pub EndsPattern : List Lexeme → Type 0
+EndsPattern ls = No (kind.Word KwAs) ls × No (kind.Mark LeftRound) ls
+
+-- a statement isn't gone on with here
+abbrev pub EndsSimple : List Lexeme → Type 0
+EndsSimple ls = No (kind.Mark LeftRound) ls
+
+-- a value isn't gone on with here
+abbrev pub EndsValue : List Lexeme → Type 0
+EndsValue ls = No (kind.Mark LeftRound) ls × No (kind.Word KwAtom) ls
 
 -- if reading stops, then so
 abbrev pub OnStop : Fault → Type 0 → Type 0

@@ -1,5 +1,5 @@
 // A place among tokens, and what comes next there.
-#![tactic(auto, using(crate::proofs::Nexts::nexts))]
+#![tactic(auto)]
 
 ghost use Rattle.std.specs.Prelude.{◌≡◌, ◌∷◌, List, length, IfOk, IfErr, OnOk};
 ghost use Rattle.luo_scan.specs.declared.token.TokenKind.TheVariants as kind;
@@ -107,5 +107,119 @@ impl<'t> Cursor<'t> {
             }
         }
         Err(Fault::Stops)
+    }
+
+    /// Takes this word, if it comes next, and answers its number.
+    #[tactic(auto, using(crate::proofs::Nexts::nexts))]
+    pub fn take_word_at(&mut self, wanted: Word) -> Option<usize>
+        ensures { TakesAt (kind.Word wanted) self.old self.new result }
+    {
+        self.take_kind(TokenKind::Word(wanted))
+    }
+
+    /// Takes this mark, if it comes next, and answers its number.
+    #[tactic(auto, using(crate::proofs::Nexts::nexts))]
+    pub fn take_mark_at(&mut self, wanted: Mark) -> Option<usize>
+        ensures { TakesAt (kind.Mark wanted) self.old self.new result }
+    {
+        self.take_kind(TokenKind::Mark(wanted))
+    }
+
+    /// Takes this word, if it comes next.
+    #[tactic(auto, using(crate::proofs::Nexts::nexts))]
+    pub fn take_word(&mut self, wanted: Word) -> bool
+        ensures { Takes (kind.Word wanted) self.old self.new result }
+    {
+        if let Some(_) = self.take_kind(TokenKind::Word(wanted)) {
+            return true;
+        }
+        false
+    }
+
+    /// Takes this mark, if it comes next.
+    #[tactic(auto, using(crate::proofs::Nexts::nexts))]
+    pub fn take_mark(&mut self, wanted: Mark) -> bool
+        ensures { Takes (kind.Mark wanted) self.old self.new result }
+    {
+        if let Some(_) = self.take_kind(TokenKind::Mark(wanted)) {
+            return true;
+        }
+        false
+    }
+
+    /// Takes this word, which has to come next.
+    pub fn expect_word(&mut self, wanted: Word) -> Result<(), Fault>
+        ensures reads { OnOk result (IsNext (kind.Word wanted) self.old self.new) }
+        ensures stops { IfErr result (λ f. OnStop f (Misses (kind.Word wanted) self.old self.new)) }
+    {
+        if self.take_word(wanted) {
+            Ok(())
+        } else {
+            Err(Fault::Stops)
+        }
+    }
+
+    /// Takes this mark, which has to come next.
+    pub fn expect_mark(&mut self, wanted: Mark) -> Result<(), Fault>
+        ensures reads { OnOk result (IsNext (kind.Mark wanted) self.old self.new) }
+        ensures stops { IfErr result (λ f. OnStop f (Misses (kind.Mark wanted) self.old self.new)) }
+    {
+        if self.take_mark(wanted) {
+            Ok(())
+        } else {
+            Err(Fault::Stops)
+        }
+    }
+
+    /// Takes this word, which has to come next, and answers its number.
+    pub fn expect_word_at(&mut self, wanted: Word) -> Result<usize, Fault>
+        ensures reads { IfOk result (λ at. IsNextAt (kind.Word wanted) at self.old self.new) }
+        ensures stops { IfErr result (λ f. OnStop f (Misses (kind.Word wanted) self.old self.new)) }
+    {
+        if let Some(at) = self.take_word_at(wanted) {
+            return Ok(at);
+        }
+        Err(Fault::Stops)
+    }
+
+    /// Takes a number and its number as a lexeme, if a number comes next.
+    #[tactic(auto, using(crate::proofs::Nexts::nexts))]
+    pub fn take_number(&mut self) -> Option<(u128, usize)>
+        ensures { TakesNumber self.old self.new result }
+    {
+        self.take_any_number()
+    }
+
+    /// Takes a number, which has to come next, and its number as a lexeme.
+    pub fn number_at(&mut self) -> Result<(u128, usize), Fault>
+        ensures reads { IfOk result (λ r. IsNextAt (kind.Number r.0) r.1 self.old self.new) }
+        ensures stops { IfErr result (λ f. OnStop f (MissesNumber self.old self.new)) }
+    {
+        if let Some(taken) = self.take_number() {
+            return Ok(taken);
+        }
+        Err(Fault::Stops)
+    }
+
+    /// Takes a number, which has to come next.
+    #[tactic(auto, using(crate::proofs::Nexts::nexts))]
+    pub fn number(&mut self) -> Result<u128, Fault>
+        ensures reads { IfOk result (λ n. IsNext (kind.Number n) self.old self.new) }
+        ensures stops { IfErr result (λ f. OnStop f (MissesNumber self.old self.new)) }
+    {
+        if let Some((value, _)) = self.take_any_number() {
+            return Ok(value);
+        }
+        Err(Fault::Stops)
+    }
+
+    /// Takes a name, which has to come next.
+    #[tactic(auto, using(crate::proofs::Nexts::nexts))]
+    pub fn name(&mut self, alloc: Global) -> Result<Name, Fault>
+        ensures reads { IfOk result (λ n. IsName self.old self.new n) }
+        ensures stops { IfErr result (λ f. OnStop f (MissesName self.old self.new)) }
+    {
+        let name = self.named(alloc)?;
+        Ok(name)
     }
 }
