@@ -3,3 +3,6 @@ pub mod Nexts
 pub mod Lexemes
 pub mod Spelled
 pub mod OneTypes
+pub mod OneStatements
+pub mod OneValues
+pub mod OneProgram

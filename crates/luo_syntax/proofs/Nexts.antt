@@ -7,6 +7,10 @@ use Rattle.luo_syntax.specs.declared.names.Name.{Name}
 use Rattle.luo_syntax.specs.Next.{IsNext, next, IsNextAt, next_at, IsName, next_name, No, NoName, NoNumber, Misses, MissesName, MissesNumber, TakesAt, TakesKind, TakesNumber, TakesAnyNumber}
 use Rattle.luo_syntax.proofs.Fronts.{BeginAlike, empty, begin}
 
+-- what stands behind the first lexemes of one list
+pub behind : {l k : Lexeme} {a b : List Lexeme} → l ∷ a ≡ k ∷ b → a ≡ b
+behind e = cc
+
 pub is_next : {what : TokenKind} {at : ℕ} {from to : List Lexeme} → IsNextAt what at from to → IsNext what from to
 is_next next_at = next
 

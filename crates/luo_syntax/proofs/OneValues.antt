@@ -5,7 +5,18 @@ use Rattle.luo_syntax.specs.declared.values.SourceValue.{SourceValue}
 use Rattle.luo_syntax.specs.declared.values.SourceValueArm.{SourceValueArm}
 use Rattle.luo_syntax.specs.Next.{No, EndsValue}
 use Rattle.luo_syntax.specs.GrammarValues.{IsValue, branch_value, inner_value, IsBranch, branch, IsInner, given, made, free_atom, charged_atom, bracketed, tuple, case_value, AreParts, last_part, more_parts, AreValueArms, last_value_arm, more_value_arms, IsValueArm, one_value_arm}
+use Rattle.luo_syntax.proofs.Nexts.{behind}
 use Rattle.luo_syntax.proofs.OneStatements.{pattern_one}
+
+-- a branch begins with a number, and what is inside with none
+pub branch_not_inner : {from from' to to' : List Lexeme} {v w : SourceValue} → IsBranch from to v → IsInner from' to' w → from ≡ from' → ⊥
+branch_not_inner (branch p) given e = cc
+branch_not_inner (branch p) made e = cc
+branch_not_inner (branch p) free_atom e = cc
+branch_not_inner (branch p) charged_atom e = cc
+branch_not_inner (branch p) (bracketed q) e = cc
+branch_not_inner (branch p) (tuple q qs) e = cc
+branch_not_inner (branch p) (case_value q) e = cc
 
 mutual
   pub value_one : {from from' to to' : List Lexeme} {v w : SourceValue} → IsValue from to v → IsValue from' to' w → from ≡ from' → EndsValue to → EndsValue to' → (to ≡ to') × (v ≡ w)
@@ -14,26 +25,17 @@ mutual
   value_one (inner_value p) (branch_value q) e m n = absurd (branch_not_inner q p (sym e))
   value_one (inner_value p) (inner_value q) e m n = inner_one p q e m n
 
-  branch_not_inner : {from from' to to' : List Lexeme} {v w : SourceValue} → IsBranch from to v → IsInner from' to' w → from ≡ from' → ⊥
-  branch_not_inner (branch p) given e = cc
-  branch_not_inner (branch p) made e = cc
-  branch_not_inner (branch p) free_atom e = cc
-  branch_not_inner (branch p) charged_atom e = cc
-  branch_not_inner (branch p) (bracketed q) e = cc
-  branch_not_inner (branch p) (tuple q qs) e = cc
-  branch_not_inner (branch p) (case_value q) e = cc
-
   pub branch_one : {from from' to to' : List Lexeme} {v w : SourceValue} → IsBranch from to v → IsBranch from' to' w → from ≡ from' → EndsValue to → EndsValue to' → (to ≡ to') × (v ≡ w)
   branch_one (branch p) (branch q) e m n = let rest = inner_one p q (cc) m n in (rest.0, cc)
 
   pub inner_one : {from from' to to' : List Lexeme} {v w : SourceValue} → IsInner from to v → IsInner from' to' w → from ≡ from' → EndsValue to → EndsValue to' → (to ≡ to') × (v ≡ w)
   inner_one given given e m n = (cc, cc)
-  inner_one given made e m n = absurd (m.0 _ _ _ (cc))
-  inner_one given charged_atom e m n = absurd (m.1 _ _ _ (cc))
-  inner_one made given e m n = absurd (n.0 _ _ _ (cc))
+  inner_one given made e m n = absurd (m.0 _ _ _ (behind e))
+  inner_one given charged_atom e m n = absurd (m.1 _ _ _ (behind e))
+  inner_one made given e m n = absurd (n.0 _ _ _ (sym (behind e)))
   inner_one made made e m n = (cc, cc)
   inner_one free_atom free_atom e m n = (cc, cc)
-  inner_one charged_atom given e m n = absurd (n.1 _ _ _ (cc))
+  inner_one charged_atom given e m n = absurd (n.1 _ _ _ (sym (behind e)))
   inner_one charged_atom charged_atom e m n = (cc, cc)
   inner_one (bracketed p) (bracketed q) e m n =
       let inside = branch_one p q (cc) (λ bytes at rest f. cc, λ bytes at rest f. cc) (λ bytes at rest f. cc, λ bytes at rest f. cc) in (cc, cc)

@@ -4,3 +4,4 @@ pub mod GrammarValues
 pub mod Grammar
 pub mod Next
 pub mod Viable
+pub mod Laws

@@ -4,6 +4,7 @@
 mod cursor;
 mod error;
 mod fault;
+mod laws;
 mod names;
 mod source;
 mod statements;
@@ -11,6 +12,7 @@ mod types;
 mod values;
 
 pub use error::{DEPTH_LIMIT, SyntaxError};
+pub use laws::source_is_unique;
 pub use names::Name;
 pub use source::{ProcBody, ProcDef, Source};
 pub use statements::{Pattern, SourceArm, Stmt};
