@@ -6,3 +6,5 @@ pub mod OneTypes
 pub mod OneStatements
 pub mod OneValues
 pub mod OneProgram
+pub mod NamesSoFar
+pub mod NamesMoves

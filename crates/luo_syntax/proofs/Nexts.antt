@@ -7,6 +7,13 @@ use Rattle.luo_syntax.specs.declared.names.Name.{Name}
 use Rattle.luo_syntax.specs.Next.{IsNext, next, IsNextAt, next_at, IsName, next_name, No, NoName, NoNumber, Misses, MissesName, MissesNumber, TakesAt, TakesKind, TakesNumber, TakesAnyNumber}
 use Rattle.luo_syntax.proofs.Fronts.{BeginAlike, empty, begin}
 
+-- what comes next where another kind was missed
+pub next_past : {what that : TokenKind} {from at to : List Lexeme} → Misses what from at → IsNext that at to → IsNext that from to
+next_past {that} {to} m p = subst (λ z. IsNext that z to) m.0 p
+
+pub misses_past : {what that : TokenKind} {from mid at : List Lexeme} → Misses what from mid → Misses that mid at → Misses that from at
+misses_past {that} m n = (n.0 ∙ m.0, subst (No that) m.0 n.1)
+
 -- what stands behind the first lexemes of one list
 pub behind : {l k : Lexeme} {a b : List Lexeme} → l ∷ a ≡ k ∷ b → a ≡ b
 behind e = cc

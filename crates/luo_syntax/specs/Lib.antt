@@ -5,3 +5,4 @@ pub mod Grammar
 pub mod Next
 pub mod Viable
 pub mod Laws
+pub mod StopsNames

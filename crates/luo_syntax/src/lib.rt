@@ -5,6 +5,7 @@ mod cursor;
 mod error;
 mod fault;
 mod laws;
+mod name_list;
 mod names;
 mod source;
 mod statements;
