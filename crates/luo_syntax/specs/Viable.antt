@@ -1,0 +1,88 @@
+-- Which fronts begin a program, and what an error says.
+use Rattle.std.specs.Prelude.{◌≡◌, ℕ, ◌+◌, ◌≤◌, ◌<◌, List, [], ◌∷◌, ◌++◌, take, length}
+use Rattle.std.specs.List.{AllByRecursion}
+use Rattle.luo_scan.specs.declared.token.Word.TheVariants.{KwBegin, KwCase, KwEnd}
+use Rattle.luo_scan.specs.declared.token.Mark.TheVariants.{LeftRound, RightRound}
+use Rattle.luo_scan.specs.declared.token.TokenKind.{TokenKind}
+use Rattle.luo_scan.specs.declared.token.TokenKind.TheVariants as kind
+use Rattle.luo_scan.specs.Lexemes.{Lexeme, lexeme}
+use Rattle.luo_scan.specs.Laws.{IsFit}
+use Rattle.luo_syntax.specs.declared.error.SyntaxError.{SyntaxError}
+use Rattle.luo_syntax.specs.declared.error.SyntaxError.TheVariants.{Grammar, Depth, NoMemory}
+use Rattle.luo_syntax.specs.declared.source.Source.{Source}
+use Rattle.luo_syntax.specs.Grammar.{IsProgram}
+
+-- each of these lexemes is spelled as the language spells it, within the limits of names and numbers
+abbrev pub AllSpelled : List Lexeme → Type 0
+AllSpelled ls = AllByRecursion IsFit ls
+
+-- no program has these lexemes
+abbrev pub IsNoProgram : List Lexeme → Type 0
+IsNoProgram ls = (s : Source) → IsProgram ls [] s → ⊥
+
+-- these lexemes begin some program
+abbrev pub IsViable : List Lexeme → Type 0
+IsViable front = (more : List Lexeme) × AllSpelled more × (s : Source) × IsProgram (front ++ more) [] s
+
+-- the front of this length is the longest that begins some program
+pub record IsLongestViable (ls : List Lexeme) (k : ℕ) : Type 0 where
+  pub within : k ≤ length ls
+  pub viable : IsViable (take k ls)
+  pub longest : (j : ℕ) → k < j → j ≤ length ls → IsViable (take j ls) → ⊥
+
+-- 1 for `(`, `begin` and `case`
+abbrev pub opens_kind : TokenKind → ℕ
+opens_kind (kind.Mark LeftRound) = 1
+opens_kind (kind.Word KwBegin) = 1
+opens_kind (kind.Word KwCase) = 1
+opens_kind other = 0
+
+-- 1 for `)` and `end`
+abbrev pub closes_kind : TokenKind → ℕ
+closes_kind (kind.Mark RightRound) = 1
+closes_kind (kind.Word KwEnd) = 1
+closes_kind other = 0
+
+abbrev pub opens : Lexeme → ℕ
+opens (lexeme what bytes at) = opens_kind what
+
+abbrev pub closes : Lexeme → ℕ
+closes (lexeme what bytes at) = closes_kind what
+
+-- how many of these lexemes open
+abbrev pub opened : List Lexeme → ℕ
+opened [] = 0
+opened (l ∷ ls) = opens l + opened ls
+
+-- how many of these lexemes close
+abbrev pub closed : List Lexeme → ℕ
+closed [] = 0
+closed (l ∷ ls) = closes l + closed ls
+
+-- behind these lexemes more than 32 are open
+abbrev pub IsDeep : List Lexeme → Type 0
+IsDeep front = closed front + 32 < opened front
+
+-- nowhere among these lexemes more than 32 are open
+abbrev pub IsShallow : List Lexeme → Type 0
+IsShallow ls = (j : ℕ) → j ≤ length ls → IsDeep (take j ls) → ⊥
+
+-- this is the first lexeme with which more than 32 are open
+abbrev pub IsFirstDeep : List Lexeme → ℕ → Type 0
+IsFirstDeep ls k = (k < length ls) × IsDeep (take (k + 1) ls) × ((j : ℕ) → j ≤ k → IsDeep (take j ls) → ⊥)
+
+-- with this lexeme more than 32 are open for the first time, and up to and with it some program begins so
+abbrev pub IsDeepAt : List Lexeme → ℕ → Type 0
+IsDeepAt ls k = IsFirstDeep ls k × IsViable (take (k + 1) ls)
+
+-- why a whole list isn't read, where nothing is too deep
+abbrev pub StopsWhole : List Lexeme → SyntaxError → Type 0
+StopsWhole ls (Grammar k) = IsLongestViable ls k × IsNoProgram ls
+StopsWhole ls (Depth k) = ⊥
+StopsWhole ls NoMemory = Unit {0}
+
+-- an error says where the longest front ends that begins some program, or where too many are open; that memory ran out says nothing of the lexemes
+abbrev pub Explains : List Lexeme → SyntaxError → Type 0
+Explains ls (Grammar k) = IsLongestViable ls k × IsNoProgram ls × ((j : ℕ) → IsDeepAt ls j → ⊥)
+Explains ls (Depth k) = IsDeepAt ls k
+Explains ls NoMemory = Unit {0}

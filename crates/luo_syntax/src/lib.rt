@@ -1,0 +1,21 @@
+//! Sources of programs, and the grammar that relates them to tokens.
+#![tactic(auto)]
+
+mod cursor;
+mod error;
+mod fault;
+mod laws;
+mod name_list;
+mod names;
+mod source;
+mod statements;
+mod types;
+mod values;
+
+pub use error::{DEPTH_LIMIT, SyntaxError};
+pub use laws::source_is_unique;
+pub use names::Name;
+pub use source::{ProcBody, ProcDef, Source};
+pub use statements::{Pattern, SourceArm, Stmt};
+pub use types::{Bound, MeasureDef, Range, TypeDef, TypeExpr};
+pub use values::{SourceValue, SourceValueArm};
