@@ -3,7 +3,7 @@ use Rattle.std.proofs.Common.{◌≡◌, ℕ, List, None, Some, IfSome, inl}
 use Rattle.std.specs.Prelude.{◌↔◌, Option}
 use Rattle.luo_top.specs.declared.status.Status.{Status}
 use Rattle.luo_top.specs.declared.status.Status.TheVariants.{Usage, Refused, Limit, ReadFault}
-use Rattle.luo_top.specs.Answer.{Answer, Output, Refusal}
+use Rattle.luo_top.specs.Answer.{Output, Refusal}
 use Rattle.luo_top.specs.Outcome.{Outcome}
 use Rattle.luo_top.specs.Run.{OutputComes, RefusalComes}
 use Rattle.luo_top.specs.Words.{HasNoForm}

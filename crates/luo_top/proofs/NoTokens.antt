@@ -1,5 +1,5 @@
 -- A text with a fault has no tokens, and one without tokens, a reading or a core form is no first text.
-use Rattle.std.proofs.Common.{◌≡◌, ℕ, List, refl, subst, sym}
+use Rattle.std.proofs.Common.{◌≡◌, ℕ, List, refl, subst}
 use Rattle.luo_scan.specs.declared.error.ScanError.{ScanError}
 use Rattle.luo_scan.specs.declared.error.ScanError.TheVariants.{BadByte, NameLimit, NumberLimit, NoMemory}
 use Rattle.luo_scan.specs.declared.token.Token.{Token}
@@ -10,7 +10,7 @@ use Rattle.luo_scan.proofs.Inside.{lexemes_fit}
 use Rattle.luo_scan.proofs.Unique.{not_both, one_list}
 use Rattle.luo_model.specs.Program.{Program}
 use Rattle.luo_top.specs.declared.first.source.FirstSource.{FirstSource}
-use Rattle.luo_top.specs.First.{IsFirstProgram, IsNoFirstText, HasNoTokens}
+use Rattle.luo_top.specs.First.{IsNoFirstText, HasNoTokens}
 use Rattle.luo_top.specs.FirstCore.{IsFirstCore, ValuesWithin}
 use Rattle.luo_top.specs.FirstGrammar.{IsFirst, IsNoFirst}
 use Rattle.luo_top.proofs.FirstNumbers.{values_within}

@@ -1,14 +1,14 @@
 -- A program has at most one report, where each procedure has at most one total.
-use Rattle.std.proofs.Common.{◌≡◌, ℕ, zero, suc, ◌+◌, List, [], ◌∷◌, length, refl, sym, ◌∙◌, ap, subst, arith, Some, slice_get}
+use Rattle.std.proofs.Common.{◌≡◌, ℕ, ◌+◌, List, [], ◌∷◌, length, refl, sym, ◌∙◌, ap, subst, arith, Some, slice_get}
 use Rattle.luo_finite.specs.Steps.{IsSingle}
 use Rattle.luo_finite.proofs.Sums.{Counts-unique}
 use Rattle.luo_model.specs.declared.table.Row.{Row}
 use Rattle.luo_model.specs.Program.{Program, Procedure}
 use Rattle.luo_model.specs.Structures.{IsStructure}
 use Rattle.luo_model.specs.Tables.{IsCount, IsTotal, IsRow}
-use Rattle.luo_top.specs.Answer.{Answer, Output}
+use Rattle.luo_top.specs.Answer.{Output}
 use Rattle.luo_top.specs.Outcome.{Reports}
-use Rattle.luo_top.specs.Report.{AreRowsFrom, AreRows, AreTables, IsReport, report_text}
+use Rattle.luo_top.specs.Report.{AreRowsFrom, AreTables, report_text}
 
 same_procedure : (P Q : Procedure) → Some P ≡ Some Q → P ≡ Q
 same_procedure P Q e = cc

@@ -1,6 +1,6 @@
 -- The answer over a text that was read, as the outcome over the text that is told.
-use Rattle.std.proofs.Common.{◌≡◌, ℕ, ◌<◌, ◌≤◌, List, length, arith, refl, sym, subst, ap, ◌∙◌, min, inl, inr, IfSome, None, Some}
-use Rattle.std.specs.Prelude.{Option, codes, ◌⊎◌, ◌↔◌}
+use Rattle.std.proofs.Common.{◌≡◌, ℕ, ◌<◌, ◌≤◌, List, length, arith, sym, subst, ◌∙◌, min, inl, inr, IfSome}
+use Rattle.std.specs.Prelude.{Option, codes, ◌↔◌}
 use Rattle.luo_top.specs.declared.status.Status.{Status}
 use Rattle.luo_top.specs.declared.status.Status.TheVariants as way
 use Rattle.luo_top.specs.declared.words.TheConstants.{NUMBER_CAP}
@@ -8,12 +8,10 @@ use Rattle.luo_top.specs.declared.work.Decision.{Decision}
 use Rattle.luo_top.specs.declared.work.Decision.TheVariants.{Output, Refusal, ReadFault, NoMemory}
 use Rattle.luo_top.specs.Answer as answer
 use Rattle.luo_top.specs.Decided.{IsDecision, IsReading}
-use Rattle.luo_top.specs.First.{IsFirstProgram, IsNoFirstText}
 use Rattle.luo_top.specs.Outcome.{Outcome}
 use Rattle.luo_top.specs.Report.{line, IsPast, IsReport}
 use Rattle.luo_top.specs.Run.{IsRefusal, text_of}
 use Rattle.luo_top.specs.Words.{IsAnalyse, HasNoForm}
-use Rattle.luo_model.specs.Program.{Program}
 use Rattle.luo_top.proofs.Complete.{not_usage, limit_other, refused_other}
 use Rattle.luo_top.proofs.Single.{has_form, not_first, too_large, too_great, reported}
 use Rattle.luo_top.proofs.Told.{over_read}

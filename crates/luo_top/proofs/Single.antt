@@ -2,7 +2,7 @@
 use Rattle.std.proofs.Common.{◌≡◌, ℕ, ◌<◌, ◌≤◌, List, [], ◌∷◌, length, refl, sym, ap, ◌∙◌, arith, subst, inl, inr}
 use Rattle.std.specs.Prelude.{codes}
 use Rattle.luo_scan.specs.Spellings.{value_after}
-use Rattle.luo_finite.specs.Steps.{◌or_else◌, With, IsSingle}
+use Rattle.luo_finite.specs.Steps.{With, IsSingle}
 use Rattle.luo_finite.proofs.Steps.{or_else-single}
 use Rattle.luo_model.specs.Program.{Program}
 use Rattle.luo_scan.specs.Lexemes.{lexemes}

@@ -11,3 +11,6 @@ mod work;
 
 pub use status::{Status, code};
 pub use top::luo;
+
+#[cfg(test)]
+mod tests;

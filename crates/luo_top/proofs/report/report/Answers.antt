@@ -1,4 +1,4 @@
-use Rattle.std.proofs.Common.{arith, ◌<◌, length, get_or}
+use Rattle.std.proofs.Common.{arith, ◌<◌, length}
 use Rattle.luo_finite.proofs.Membership.{In-at}
 use Rattle.luo_top.proofs.report.report.Goals as goal
 

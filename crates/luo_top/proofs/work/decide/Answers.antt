@@ -1,4 +1,4 @@
-use Rattle.std.proofs.Common.{◌≡◌, ℕ, ◌<◌, ◌≤◌, List, length, arith, rules, ap, refl, ◌∙◌, Err}
+use Rattle.std.proofs.Common.{ap, refl, ◌∙◌, Err}
 use Rattle.luo_top.proofs.Single.{usage, too_long, has_form}
 use Rattle.luo_top.proofs.Told.{over_told, over_any}
 use Rattle.luo_top.proofs.Complete.{not_usage, limit_other}
