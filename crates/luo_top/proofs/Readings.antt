@@ -1,20 +1,37 @@
 -- The answer over a text that was read, as the outcome over the text that is told.
-use Rattle.std.proofs.Common.{◌≡◌, ℕ, ◌<◌, ◌≤◌, List, length, arith, sym, subst, ◌∙◌, min, inl, inr, IfSome}
-use Rattle.std.specs.Prelude.{Option, codes, ◌↔◌}
+use Rattle.std.proofs.Common.{◌≡◌, ℕ, ◌<◌, ◌≤◌, List, length, arith, refl, sym, subst, ap, ◌∙◌, min, inl, inr, IfSome}
+use Rattle.std.specs.Prelude.{Option, codes, ◌⊎◌, ◌↔◌}
+use Rattle.luo_scan.specs.declared.token.Token.{Token}
+use Rattle.luo_scan.specs.Lexemes.{lexemes}
+use Rattle.luo_scan.specs.Tokens.{Tokens, LexicalFault, bad_byte, long_name, large_number}
+use Rattle.luo_syntax.specs.declared.error.SyntaxError.{SyntaxError}
+use Rattle.luo_syntax.specs.declared.error.SyntaxError.TheVariants as why
+use Rattle.luo_syntax.specs.declared.source.Source.{Source}
+use Rattle.luo_syntax.specs.Grammar.{Derives}
+use Rattle.luo_syntax.specs.Viable.{IsShallow}
 use Rattle.luo_top.specs.declared.status.Status.{Status}
 use Rattle.luo_top.specs.declared.status.Status.TheVariants as way
 use Rattle.luo_top.specs.declared.words.TheConstants.{NUMBER_CAP}
+use Rattle.luo_top.specs.declared.words.Command.{Command}
+use Rattle.luo_top.specs.declared.words.Command.TheVariants as asked
+use Rattle.luo_top.specs.declared.work.Line.{Line}
 use Rattle.luo_top.specs.declared.work.Decision.{Decision}
 use Rattle.luo_top.specs.declared.work.Decision.TheVariants.{Output, Refusal, ReadFault, NoMemory}
 use Rattle.luo_top.specs.Answer as answer
-use Rattle.luo_top.specs.Decided.{IsDecision, IsReading}
-use Rattle.luo_top.specs.Outcome.{Outcome}
-use Rattle.luo_top.specs.Report.{line, IsPast, IsReport}
-use Rattle.luo_top.specs.Run.{IsRefusal, text_of}
-use Rattle.luo_top.specs.Words.{IsAnalyse, HasNoForm}
-use Rattle.luo_top.proofs.Complete.{not_usage, limit_other, refused_other}
-use Rattle.luo_top.proofs.Single.{has_form, not_first, too_large, too_great, reported}
-use Rattle.luo_top.proofs.Told.{over_read}
+use Rattle.luo_top.specs.Commands.{IsCommandOf}
+use Rattle.luo_top.specs.Decided.{IsDecision, IsReading, IsOverFile, RefusesBy, IsAnalysis, IsFormatting, AnswersAs, bytes_of}
+use Rattle.luo_top.specs.First.{IsFirstProgram, IsNotFirst}
+use Rattle.luo_top.specs.Outcome.{Outcome, Answers, Analyses}
+use Rattle.luo_top.specs.Refusals.{line, LexicalRefusal, SyntaxRefusal, refusal_of_fault, refusal_of_error}
+use Rattle.luo_top.specs.Report.{IsPast, IsReport}
+use Rattle.luo_top.specs.Run.{text_of, IsRefusal}
+use Rattle.luo_top.specs.Words as words'
+use Rattle.luo_top.specs.Words.{IsCommandLine, HasNoForm, file_of}
+use Rattle.luo_model.specs.Program.{Program}
+use Rattle.luo_print.specs.Canonical.{canonical}
+use Rattle.luo_top.proofs.Complete.{not_usage, limit_other}
+use Rattle.luo_top.proofs.Single.{has_form, too_long, faulty, misread, answered, not_first, too_large, too_great, reported}
+use Rattle.luo_top.proofs.Told.{over_read, over_told}
 
 -- up to the limit a size is told from the others
 same_size : (n last : ℕ) → last ≡ min n NUMBER_CAP → last ≤ 160 → last ≡ n
@@ -23,38 +40,137 @@ same_size n last e small = omega (arith, e)
 large_size : (n last : ℕ) → last ≡ min n NUMBER_CAP → 160 < last → 160 < n
 large_size n last e large = omega (arith, e)
 
--- a refusal over the text that was read, by a status that isn't that of words of no form
-refuses : (named : List ℕ → Option (List ℕ)) (before now : List ℕ → ℕ) (words : List (List ℕ)) (file text bytes given : List ℕ) (n : ℕ) (status other : Status)
-    → IsAnalyse words file n → IfSome (named file) (λ told. text ≡ told) → (other ≡ way.Usage → ⊥) → IsRefusal other → status ≡ other → given ≡ bytes
-    → Outcome words text (answer.Refusal other bytes)
-    → IsRefusal status × ((status ≡ way.Usage) ↔ HasNoForm words) × (status ≡ way.Usage → given ≡ line (codes "usage"))
-    × IfSome (text_of named words) (λ told. Outcome words told (answer.Refusal status given))
-refuses named before now words file text bytes given n status other a told unlike refusal e h outcome =
-    let apart : status ≡ way.Usage → ⊥ = λ u. unlike (sym e ∙ u) in
-    let P : Status → Type 0 = λ s. Outcome words text (answer.Refusal s given) in
-    let Q : List ℕ → Type 0 = λ b. Outcome words text (answer.Refusal other b) in (
-      subst IsRefusal (sym e) refusal,
-      not_usage words status apart (has_form words file n a),
-      λ u. absurd (apart u),
-      over_read named words file n text (answer.Refusal status given) a (subst P (sym e) (subst Q (sym h) outcome)) told,
-    )
+-- a status of a refusal of a text: not that of words of no form
+abbrev pub IsForText : Status → Type 0
+IsForText way.Refused = Unit {0}
+IsForText way.Limit = Unit {0}
+IsForText other = ⊥
 
-module _ (named : List ℕ → Option (List ℕ)) (before now : List ℕ → ℕ) (words : List (List ℕ)) (file text : List ℕ) (n last : ℕ)
-    (a : IsAnalyse words file n) (e : last ≡ min n NUMBER_CAP) (short : length text ≤ 65536) (told : IfSome (named file) (λ told. text ≡ told)) where
-  pub read_text : (d : Decision) → IsReading text last d → IsDecision named before now words d
-  read_text (Output bytes) (p, f, small, within, report) =
-      let same : last ≡ n = same_size n last e small in
-      let P : ℕ → Type 0 = λ m. IsReport p m bytes.items in
-      let Q : ℕ → Type 0 = λ m. IsPast p m → ⊥ in (
-        has_form words file n a,
-        over_read named words file n text (answer.Output bytes.items) a (reported words text file n a short p f bytes.items (omega arith) (subst Q same within) (subst P same report)) told,
+-- the answer of the decision, if it is one
+abbrev pub AnswersBy : (answer.Answer → Type 0) → Decision → Type 0
+AnswersBy gives (Output bytes) = gives (answer.Output bytes.items)
+AnswersBy gives (Refusal status text_line) = IsForText status × gives (answer.Refusal status (bytes_of text_line))
+AnswersBy gives ReadFault = ⊥
+AnswersBy gives NoMemory = Unit {0}
+
+by_line : (s : Source) (n : ℕ) (status other : Status) (text_line : Line) (bytes : List ℕ) → IsForText other → status ≡ other → bytes_of text_line ≡ bytes
+    → Analyses s n (answer.Refusal other bytes) → IsForText status × Analyses s n (answer.Refusal status (bytes_of text_line))
+by_line s n status other text_line bytes h w b a =
+    let P : Status → Type 0 = λ t. Analyses s n (answer.Refusal t (bytes_of text_line)) in
+    let Q : List ℕ → Type 0 = λ t. Analyses s n (answer.Refusal other t) in
+    (subst IsForText (sym w) h, subst P (sym w) (subst Q (sym b) a))
+
+for_text : (s : Status) → IsForText s → IsRefusal s × (s ≡ way.Usage → ⊥)
+for_text way.Refused h = (tt, λ e. cc)
+for_text way.Limit h = (tt, λ e. cc)
+for_text way.Done h = absurd h
+for_text way.Usage h = absurd h
+for_text way.Overflow h = absurd h
+for_text way.ReadFault h = absurd h
+for_text way.WriteFault h = absurd h
+for_text way.NoMemory h = absurd h
+
+same_refusal : (s t : Status) (a b : List ℕ) → answer.Refusal s a ≡ answer.Refusal t b → s ≡ t
+same_refusal s t a b e = cc
+
+fault_status : (s : Status) (bytes : List ℕ) (text : List ℕ) → LexicalRefusal text (answer.Refusal s bytes) → IsForText s
+fault_status s bytes text (bad_byte, at, p, e) = subst IsForText (sym (same_refusal _ _ _ _ e)) tt
+fault_status s bytes text (long_name, at, p, e) = subst IsForText (sym (same_refusal _ _ _ _ e)) tt
+fault_status s bytes text (large_number, at, p, e) = subst IsForText (sym (same_refusal _ _ _ _ e)) tt
+
+error_status : (s : Status) (bytes : List ℕ) (text : List ℕ) (ts : List Token) → SyntaxRefusal text ts (answer.Refusal s bytes) → IsForText s
+error_status s bytes text ts (why.Grammar k, n, p, e) = subst IsForText (sym (same_refusal _ _ _ _ e)) tt
+error_status s bytes text ts (why.Depth k, n, p, e) = subst IsForText (sym (same_refusal _ _ _ _ e)) tt
+error_status s bytes text ts (why.NoMemory, n, p, e) = absurd (n refl)
+
+module _ (named : List ℕ → Option (List ℕ)) (before now : List ℕ → ℕ) (words : List (List ℕ)) (text : List ℕ) (c : words'.Command) (f : IsCommandLine words c)
+    (short : length text ≤ 65536) (told : IfSome (named (file_of c)) (λ told. text ≡ told)) where
+  -- a refusal of the text by its line
+  refuses : (status : Status) (text_line : Line) → IsForText status → Outcome words text (answer.Refusal status (bytes_of text_line)) → IsDecision named before now words (Refusal status text_line)
+  refuses status text_line h outcome =
+      let both = for_text status h in
+      (both.0, not_usage words status both.1 (has_form words c f), λ u. absurd (both.1 u), over_read named words c text (answer.Refusal status (bytes_of text_line)) f outcome told)
+
+  faulty_text : (d : Decision) → RefusesBy (LexicalRefusal text) d → IsDecision named before now words d
+  faulty_text (Output bytes) r = absurd r
+  faulty_text (Refusal status text_line) r = refuses status text_line (fault_status status (bytes_of text_line) text r) (faulty words text c f short (answer.Refusal status (bytes_of text_line)) r)
+  faulty_text ReadFault r = absurd r
+  faulty_text NoMemory r = has_form words c f
+
+  module _ (ts : List Token) (t : Tokens text ts) where
+    misread_text : (d : Decision) → RefusesBy (SyntaxRefusal text ts) d → IsDecision named before now words d
+    misread_text (Output bytes) r = absurd r
+    misread_text (Refusal status text_line) r = refuses status text_line (error_status status (bytes_of text_line) text ts r) (misread words text c f short ts t (answer.Refusal status (bytes_of text_line)) r)
+    misread_text ReadFault r = absurd r
+    misread_text NoMemory r = has_form words c f
+
+    -- an answer over the source
+    answers_text : (s : Source) → Derives text ts s → IsShallow (lexemes text ts) → (d : Decision) → AnswersBy (Answers s c) d → IsDecision named before now words d
+    answers_text s der shallow (Output bytes) a =
+        (has_form words c f, over_read named words c text (answer.Output bytes.items) f (answered words text c f short ts t s (answer.Output bytes.items) der shallow a) told)
+    answers_text s der shallow (Refusal status text_line) a =
+        refuses status text_line a.0 (answered words text c f short ts t s (answer.Refusal status (bytes_of text_line)) der shallow a.1)
+    answers_text s der shallow ReadFault a = absurd a
+    answers_text s der shallow NoMemory a = has_form words c f
+
+  -- the decision over a text, where what the command answers is what it asks for
+  reads : (given : Command) → ((s : Source) (d : Decision) → AnswersAs s given d → AnswersBy (Answers s c) d) → (d : Decision) → IsReading text given d → IsDecision named before now words d
+  reads given as_asked d (inl r) = faulty_text d r
+  reads given as_asked d (inr (ts, t, inl r)) = misread_text ts t d r
+  reads given as_asked d (inr (ts, t, inr (s, der, shallow, a))) = answers_text ts t s der shallow d (as_asked s d a)
+
+analysed : (s : Source) (n last : ℕ) → last ≡ min n NUMBER_CAP → (d : Decision) → IsAnalysis s last d → AnswersBy (Analyses s n) d
+analysed s n last e (Output bytes) (p, f, small, within, report) =
+    let same : last ≡ n = same_size n last e small in
+    let P : ℕ → Type 0 = λ m. IsReport p m bytes.items in
+    let Q : ℕ → Type 0 = λ m. IsPast p m → ⊥ in
+    reported s n p f bytes.items (omega arith) (subst Q same within) (subst P same report)
+analysed s n last e (Refusal status text_line) (inl (none, w, b)) = by_line s n status way.Refused text_line (line (codes "refused: F0")) tt w b (not_first s n none)
+analysed s n last e (Refusal status text_line) (inr (inl (p, f, large, w, b))) = by_line s n status way.Limit text_line (line (codes "limit: size 160")) tt w b (too_large s n p f (large_size n last e large))
+analysed s n last e (Refusal status text_line) (inr (inr (p, f, small, past, w, b))) =
+    let same : last ≡ n = same_size n last e small in
+    by_line s n status way.Refused text_line (line (codes "refused: F0")) tt w b (too_great s n p f (omega arith) (subst (IsPast p) same past))
+analysed s n last e ReadFault a = absurd a
+analysed s n last e NoMemory a = tt
+
+formatted : (s : Source) (d : Decision) → IsFormatting s d → AnswersBy (λ a. a ≡ answer.Output (canonical s)) d
+formatted s (Output bytes) a = ap answer.Output a
+formatted s (Refusal status text_line) a = absurd a
+formatted s ReadFault a = absurd a
+formatted s NoMemory a = tt
+
+-- the decision over the file of a command
+module _ (named : List ℕ → Option (List ℕ)) (before now : List ℕ → ℕ) (words : List (List ℕ)) where
+  over_file : (c : words'.Command) (given : Command) → IsCommandLine words c → ((s : Source) (d : Decision) → AnswersAs s given d → AnswersBy (Answers s c) d) → (d : Decision)
+      → IsOverFile (named (file_of c)) (before (file_of c)) (now (file_of c)) given d → IsDecision named before now words d
+  over_file c given f as_asked (Output bytes) (inl r) = absurd r.0
+  over_file c given f as_asked (Refusal status text_line) (inl r) = absurd r.0
+  over_file c given f as_asked ReadFault (inl r) = (file_of c, (c, f, refl), r.1)
+  over_file c given f as_asked NoMemory (inl r) = absurd r.0
+  over_file c given f as_asked (Output bytes) (inr (inl r)) = absurd r
+  over_file c given f as_asked (Refusal status text_line) (inr (inl r)) = absurd r
+  over_file c given f as_asked ReadFault (inr (inl r)) = absurd r
+  over_file c given f as_asked NoMemory (inr (inl r)) = has_form words c f
+  over_file c given f as_asked (Output bytes) (inr (inr (inl r))) = absurd r.0
+  over_file c given f as_asked (Refusal status text_line) (inr (inr (inl ((w, b), long)))) =
+      let P : Status → Type 0 = λ s. (text : List ℕ) → 65536 < length text → Outcome words text (answer.Refusal s (bytes_of text_line)) in
+      let Q : List ℕ → Type 0 = λ b. (text : List ℕ) → 65536 < length text → Outcome words text (answer.Refusal way.Limit b) in
+      let limit : status ≡ way.Usage → ⊥ = λ u. limit_other (sym w ∙ u) in (
+        subst IsRefusal (sym w) tt,
+        not_usage words status limit (has_form words c f),
+        λ u. absurd (limit u),
+        over_told named words c (λ text. 65536 < length text) (λ text. Outcome words text (answer.Refusal status (bytes_of text_line))) f
+            (subst P (sym w) (subst Q (sym b) (λ text h. too_long words text c f h))) long,
       )
-  read_text (Refusal status bytes) (inl (none, s, b)) =
-      refuses named before now words file text (line (codes "refused: F0")) bytes.now n status way.Refused a told refused_other tt s b (not_first words text file n a short none)
-  read_text (Refusal status bytes) (inr (inl (p, f, large, s, b))) =
-      refuses named before now words file text (line (codes "limit: size 160")) bytes.now n status way.Limit a told limit_other tt s b (too_large words text file n a short p f (large_size n last e large))
-  read_text (Refusal status bytes) (inr (inr (p, f, small, past, s, b))) =
-      let same : last ≡ n = same_size n last e small in
-      refuses named before now words file text (line (codes "refused: F0")) bytes.now n status way.Refused a told refused_other tt s b (too_great words text file n a short p f (omega arith) (subst (IsPast p) same past))
-  read_text ReadFault r = absurd r
-  read_text NoMemory r = has_form words file n a
+  over_file c given f as_asked ReadFault (inr (inr (inl r))) = absurd r.0
+  over_file c given f as_asked NoMemory (inr (inr (inl r))) = absurd r.0
+  over_file c given f as_asked d (inr (inr (inr (text, short, told, r)))) = reads named before now words text c f short told given as_asked d r
+
+  -- as the code's commands name their file
+  pub analysis_decided : (file : List ℕ) (n last : ℕ) (given : Command) → IsCommandLine words (words'.Analyse file n) → last ≡ min n NUMBER_CAP
+      → ((s : Source) (d : Decision) → AnswersAs s given d → IsAnalysis s last d) → (d : Decision) → IsOverFile (named file) (before file) (now file) given d → IsDecision named before now words d
+  analysis_decided file n last given f e as_given d = over_file (words'.Analyse file n) given f (λ s d a. analysed s n last e d (as_given s d a)) d
+
+  pub format_decided : (file : List ℕ) (given : Command) → IsCommandLine words (words'.Format file)
+      → ((s : Source) (d : Decision) → AnswersAs s given d → IsFormatting s d) → (d : Decision) → IsOverFile (named file) (before file) (now file) given d → IsDecision named before now words d
+  format_decided file given f as_given d = over_file (words'.Format file) given f (λ s d a. formatted s d (as_given s d a)) d

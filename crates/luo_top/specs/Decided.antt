@@ -1,31 +1,92 @@
 -- What goes to the sinks is the outcome.
-use Rattle.std.specs.Prelude.{◌≡◌, ◌⊎◌, ◌↔◌, ℕ, ◌≤◌, ◌<◌, List, IfSome, Option, codes}
+use Rattle.std.specs.Prelude.{◌≡◌, ◌⊎◌, ◌↔◌, ℕ, ◌≤◌, ◌<◌, List, length, IfSome, Option, codes}
 use Rattle.luo_model.specs.Program.{Program}
+use Rattle.luo_print.specs.Canonical.{canonical}
+use Rattle.luo_scan.specs.declared.token.Token.{Token}
+use Rattle.luo_scan.specs.Lexemes.{lexemes}
+use Rattle.luo_scan.specs.Tokens.{Tokens}
+use Rattle.luo_syntax.specs.declared.source.Source.{Source}
+use Rattle.luo_syntax.specs.Grammar.{Derives}
+use Rattle.luo_syntax.specs.Viable.{IsShallow}
 use Rattle.luo_top.specs.declared.status.Status.TheVariants as way
+use Rattle.luo_top.specs.declared.words.Command.{Command}
+use Rattle.luo_top.specs.declared.words.Command.TheVariants.{Analyse, Format}
+use Rattle.luo_top.specs.declared.work.Line.{Line}
+use Rattle.luo_top.specs.declared.work.Line.TheVariants.{Fixed, Made}
 use Rattle.luo_top.specs.declared.work.Decision.{Decision}
 use Rattle.luo_top.specs.declared.work.Decision.TheVariants.{Output, Refusal, ReadFault, NoMemory}
+use Rattle.luo_outside.specs.Causes.{Rose}
 use Rattle.luo_top.specs.Answer as answer
-use Rattle.luo_top.specs.First.{IsFirstProgram, IsNoFirstText}
+use Rattle.luo_top.specs.First.{IsFirstProgram, IsNotFirst}
 use Rattle.luo_top.specs.Outcome.{Outcome}
-use Rattle.luo_top.specs.Report.{line, IsPast, IsReport}
+use Rattle.luo_top.specs.Refusals.{line, LexicalRefusal, SyntaxRefusal}
+use Rattle.luo_top.specs.Report.{IsPast, IsReport}
 use Rattle.luo_top.specs.Run.{text_of, IsRefusal, FileFault}
 use Rattle.luo_top.specs.Words.{HasNoForm}
+
+abbrev pub bytes_of : Line → List ℕ
+bytes_of (Fixed bytes) = bytes.now
+bytes_of (Made bytes) = bytes.items
 
 -- the decision over these words, by what the source tells and counts
 abbrev pub IsDecision : (List ℕ → Option (List ℕ)) → (List ℕ → ℕ) → (List ℕ → ℕ) → List (List ℕ) → Decision → Type 0
 IsDecision named before now words (Output bytes) = (HasNoForm words → ⊥) × IfSome (text_of named words) (λ text. Outcome words text (answer.Output bytes.items))
-IsDecision named before now words (Refusal status bytes) =
-    IsRefusal status × ((status ≡ way.Usage) ↔ HasNoForm words) × (status ≡ way.Usage → bytes.now ≡ line (codes "usage"))
-    × IfSome (text_of named words) (λ text. Outcome words text (answer.Refusal status bytes.now))
+IsDecision named before now words (Refusal status text_line) =
+    IsRefusal status × ((status ≡ way.Usage) ↔ HasNoForm words) × (status ≡ way.Usage → bytes_of text_line ≡ line (codes "usage"))
+    × IfSome (text_of named words) (λ text. Outcome words text (answer.Refusal status (bytes_of text_line)))
 IsDecision named before now words ReadFault = FileFault before now words
 IsDecision named before now words NoMemory = HasNoForm words → ⊥
 
--- the decision over a text that was read, for the sizes up to this one
-abbrev pub IsReading : List ℕ → ℕ → Decision → Type 0
-IsReading text last (Output bytes) = (p : Program) × IsFirstProgram text p × (last ≤ 160) × (IsPast p last → ⊥) × IsReport p last bytes.items
-IsReading text last (Refusal s bytes) =
-    (IsNoFirstText text × (s ≡ way.Refused) × (bytes.now ≡ line (codes "refused: F0")))
-    ⊎ ((p : Program) × IsFirstProgram text p × (160 < last) × (s ≡ way.Limit) × (bytes.now ≡ line (codes "limit: size 160")))
-    ⊎ ((p : Program) × IsFirstProgram text p × (last ≤ 160) × IsPast p last × (s ≡ way.Refused) × (bytes.now ≡ line (codes "refused: F0")))
-IsReading text last ReadFault = ⊥
-IsReading text last NoMemory = Unit {0}
+-- the decision refuses so, or memory was refused
+abbrev pub RefusesBy : (answer.Answer → Type 0) → Decision → Type 0
+RefusesBy refusal (Output bytes) = ⊥
+RefusesBy refusal (Refusal status text_line) = refusal (answer.Refusal status (bytes_of text_line))
+RefusesBy refusal ReadFault = ⊥
+RefusesBy refusal NoMemory = Unit {0}
+
+-- the decision of `analyse` over a source, for the sizes up to this one
+abbrev pub IsAnalysis : Source → ℕ → Decision → Type 0
+IsAnalysis source last (Output bytes) = (p : Program) × IsFirstProgram source p × (last ≤ 160) × (IsPast p last → ⊥) × IsReport p last bytes.items
+IsAnalysis source last (Refusal s text_line) =
+    (IsNotFirst source × (s ≡ way.Refused) × (bytes_of text_line ≡ line (codes "refused: F0")))
+    ⊎ ((p : Program) × IsFirstProgram source p × (160 < last) × (s ≡ way.Limit) × (bytes_of text_line ≡ line (codes "limit: size 160")))
+    ⊎ ((p : Program) × IsFirstProgram source p × (last ≤ 160) × IsPast p last × (s ≡ way.Refused) × (bytes_of text_line ≡ line (codes "refused: F0")))
+IsAnalysis source last ReadFault = ⊥
+IsAnalysis source last NoMemory = Unit {0}
+
+-- the decision of `format` over a source
+abbrev pub IsFormatting : Source → Decision → Type 0
+IsFormatting source (Output bytes) = bytes.items ≡ canonical source
+IsFormatting source (Refusal s text_line) = ⊥
+IsFormatting source ReadFault = ⊥
+IsFormatting source NoMemory = Unit {0}
+
+-- the decision of a command over a source
+abbrev pub AnswersAs : Source → Command → Decision → Type 0
+AnswersAs source (Analyse file last) d = IsAnalysis source last d
+AnswersAs source (Format file) d = IsFormatting source d
+
+-- the decision over a text that was read: its first lexical fault, why its tokens are no program, or what the command answers over its source
+abbrev pub IsReading : List ℕ → Command → Decision → Type 0
+IsReading text asked d =
+    RefusesBy (LexicalRefusal text) d
+    ⊎ ((tokens : List Token) × Tokens text tokens × (RefusesBy (SyntaxRefusal text tokens) d
+    ⊎ ((source : Source) × Derives text tokens source × IsShallow (lexemes text tokens) × AnswersAs source asked d)))
+
+abbrev pub IsReadFault : Decision → Type 0
+IsReadFault ReadFault = Unit {0}
+IsReadFault other = ⊥
+
+abbrev pub IsNoMemory : Decision → Type 0
+IsNoMemory NoMemory = Unit {0}
+IsNoMemory other = ⊥
+
+abbrev pub IsTooLong : Decision → Type 0
+IsTooLong (Refusal status text_line) = (status ≡ way.Limit) × (bytes_of text_line ≡ line (codes "limit: bytes 65536"))
+IsTooLong other = ⊥
+
+-- the decision over a file, by what is told of it and the count of its faults
+abbrev pub IsOverFile : Option (List ℕ) → ℕ → ℕ → Command → Decision → Type 0
+IsOverFile told before now asked d =
+    (IsReadFault d × Rose before now) ⊎ IsNoMemory d ⊎ (IsTooLong d × IfSome told (λ text. 65536 < length text))
+    ⊎ ((text : List ℕ) × (length text ≤ 65536) × IfSome told (λ t. text ≡ t) × IsReading text asked d)

@@ -1,21 +1,14 @@
--- First texts and their programs.
-use Rattle.std.specs.Prelude.{ℕ, List}
-use Rattle.luo_scan.specs.declared.token.Token.{Token}
-use Rattle.luo_scan.specs.Tokens.{Tokens}
-use Rattle.luo_scan.specs.Lexemes.{lexemes}
+-- First texts by their sources, and their programs.
 use Rattle.luo_model.specs.Program.{Program}
+use Rattle.luo_syntax.specs.declared.source.Source.{Source}
 use Rattle.luo_top.specs.declared.first.source.FirstSource.{FirstSource}
-use Rattle.luo_top.specs.FirstGrammar.{IsFirst}
+use Rattle.luo_top.specs.FirstForm.{IsFirstForm}
 use Rattle.luo_top.specs.FirstCore.{IsFirstCore}
 
--- the text is a first text, and this is its program
-abbrev pub IsFirstProgram : List ℕ → Program → Type 0
-IsFirstProgram text p = (tokens : List Token) × (source : FirstSource) × Tokens text tokens × IsFirst (lexemes text tokens) source × IsFirstCore source p
+-- the source is that of a first text, and this is its program
+abbrev pub IsFirstProgram : Source → Program → Type 0
+IsFirstProgram source p = (first : FirstSource) × IsFirstForm source first × IsFirstCore first p
 
--- the text is no first text
-abbrev pub IsNoFirstText : List ℕ → Type 0
-IsNoFirstText text = (p : Program) → IsFirstProgram text p → ⊥
-
--- the text has a lexical fault
-abbrev pub HasNoTokens : List ℕ → Type 0
-HasNoTokens text = (tokens : List Token) → Tokens text tokens → ⊥
+-- the source is that of no first text
+abbrev pub IsNotFirst : Source → Type 0
+IsNotFirst source = (p : Program) → IsFirstProgram source p → ⊥

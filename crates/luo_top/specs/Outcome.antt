@@ -2,31 +2,45 @@
 use Rattle.std.specs.Prelude.{◌≡◌, ℕ, ◌<◌, List, length, codes}
 use Rattle.luo_finite.specs.Steps.{◌or_else◌, With}
 use Rattle.luo_model.specs.Program.{Program}
+use Rattle.luo_scan.specs.declared.token.Token.{Token}
+use Rattle.luo_scan.specs.Tokens.{Tokens}
+use Rattle.luo_syntax.specs.declared.source.Source.{Source}
+use Rattle.luo_syntax.specs.Grammar.{Derives}
+use Rattle.luo_print.specs.Canonical.{canonical}
 use Rattle.luo_top.specs.declared.status.Status.{Status}
 use Rattle.luo_top.specs.declared.status.Status.TheVariants.{Usage, Refused, Limit}
 use Rattle.luo_top.specs.Answer.{Answer, Output, Refusal}
-use Rattle.luo_top.specs.First.{IsFirstProgram, IsNoFirstText}
-use Rattle.luo_top.specs.Report.{line, IsPast, IsReport}
-use Rattle.luo_top.specs.Words.{IsAnalyse, HasNoForm}
+use Rattle.luo_top.specs.First.{IsFirstProgram, IsNotFirst}
+use Rattle.luo_top.specs.Refusals.{line, LexicalRefusal, SyntaxRefusal}
+use Rattle.luo_top.specs.Report.{IsPast, IsReport}
+use Rattle.luo_top.specs.Words.{Command, Analyse, Format, IsCommandLine, HasNoForm}
 
 -- this refusal, where a fact holds
 abbrev pub RefusedWhere : Type 0 → Status → List ℕ → Answer → Type 0
 RefusedWhere fact status bytes answer = fact × (answer ≡ Refusal status bytes)
 
--- the words ask for the sizes up to this one
-abbrev pub AsksFor : List (List ℕ) → ℕ → Type 0
-AsksFor words last = (file : List ℕ) × IsAnalyse words file last
-
 -- the report of the program for the sizes up to this one
 abbrev pub Reports : Program → ℕ → Answer → Type 0
 Reports p last answer = (bytes : List ℕ) × IsReport p last bytes × (answer ≡ Output bytes)
 
--- in this order: words of no form, a text that is too long, a text that is no first text, a size past the limit, a number that is too large, and else the report
+-- in this order: a source of no first text, a size past the limit, a number that is too large, and else the report
+abbrev pub Analyses : Source → ℕ → Answer → Type 0
+Analyses source last =
+    RefusedWhere (IsNotFirst source) Refused (line (codes "refused: F0"))
+    or_else RefusedWhere (160 < last) Limit (line (codes "limit: size 160"))
+    or_else With (IsFirstProgram source) (λ p. RefusedWhere (IsPast p last) Refused (line (codes "refused: F0"))
+    or_else Reports p last)
+
+-- what a command answers over a source
+abbrev pub Answers : Source → Command → Answer → Type 0
+Answers source (Analyse file last) answer = Analyses source last answer
+Answers source (Format file) answer = answer ≡ Output (canonical source)
+
+-- in this order: words of no form, a text that is too long, a lexical fault, tokens that are no program or open too much, and else what the command answers over the source
 unfoldable pub Outcome : List (List ℕ) → List ℕ → Answer → Type 0
 Outcome words text =
     RefusedWhere (HasNoForm words) Usage (line (codes "usage"))
     or_else RefusedWhere (65536 < length text) Limit (line (codes "limit: bytes 65536"))
-    or_else RefusedWhere (IsNoFirstText text) Refused (line (codes "refused: F0"))
-    or_else With (AsksFor words) (λ last. RefusedWhere (160 < last) Limit (line (codes "limit: size 160"))
-    or_else With (IsFirstProgram text) (λ p. RefusedWhere (IsPast p last) Refused (line (codes "refused: F0"))
-    or_else Reports p last))
+    or_else LexicalRefusal text
+    or_else With (Tokens text) (λ tokens. SyntaxRefusal text tokens
+    or_else With (Derives text tokens) (λ source. With (IsCommandLine words) (λ command. Answers source command)))

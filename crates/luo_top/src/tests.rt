@@ -40,7 +40,7 @@ fn run<R: Threads + Sync + Abort>(rt: &R, alloc: Global, case: &Case<'_>) -> Res
     let mut files = MemFiles::new(list, case.piece, Items::from_slice(alloc, case.reads_fail)?);
     assert!(rt; case.most > 0);
     let writes_fail = Items::from_slice(alloc, case.writes_fail)?;
-    let mut out = MemSink::new(alloc, case.most, writes_fail, 100)?;
+    let mut out = MemSink::new(alloc, case.most, writes_fail, 200)?;
     let mut err = MemSink::new(alloc, 100, Items::from_slice(alloc, case.lines_fail)?, 100)?;
     let status = luo(rt, alloc, &words, &mut files, &mut out, &mut err, &OpenGate);
     assert_eq!(rt; status, case.status);
@@ -63,10 +63,14 @@ fn runs_end_as_they_have_to(rt: HostRuntime) -> Result<(), Fail> {
         out: PAIRS_REPORT,
         err: b"",
     };
-    let no_text = Case {
+    let refused = Case {
         status: Status::Refused,
         out: b"",
         err: b"refused: F0\n",
+        ..pairs
+    };
+    let formatted = Case {
+        words: &["format", "a.adl"],
         ..pairs
     };
     let cases = [
@@ -96,21 +100,37 @@ fn runs_end_as_they_have_to(rt: HostRuntime) -> Result<(), Fail> {
         },
         Case {
             text: b"type t = product(y, y); procedure p(x : t); begin end; analyze p;",
-            ..no_text
+            ..refused
         },
         Case {
             text: b"labelled; type a = atom(1); procedure p(x : a); begin end; analyze p;",
-            ..no_text
+            ..refused
         },
         Case {
             text: b"",
-            ..no_text
+            err: b"refused: G2 at token 0, byte 0\n",
+            ..refused
+        },
+        Case {
+            text: b"type e < epsilon;",
+            err: b"refused: G1 at byte 7\n",
+            ..refused
         },
         Case {
             text: b"",
             lines_fail: &[0],
             err: b"",
-            ..no_text
+            ..refused
+        },
+        Case {
+            text: b"type e=epsilon;procedure p(x:e);begin end;analyze p; % end",
+            out: b"unlabelled;\ntype e = epsilon;\nprocedure p(x : e);\nbegin\nend;\nanalyze p;\n",
+            ..formatted
+        },
+        Case {
+            text: b"type z=atom(1);procedure f(x:z):z;x;analyze f;",
+            out: b"unlabelled;\ntype z = atom(1);\nprocedure f(x : z) : z;\nx;\nanalyze f;\n",
+            ..formatted
         },
     ];
     for case in &cases {

@@ -5,7 +5,7 @@ ghost use Rattle.luo_outside.specs.Bytes.{TookFront};
 ghost use Rattle.luo_outside.specs.Causes.{Rose};
 ghost use Rattle.luo_top.specs.Answer.{Output, Refusal};
 ghost use Rattle.luo_top.specs.Outcome.{Outcome};
-ghost use Rattle.luo_top.specs.Report.{line};
+ghost use Rattle.luo_top.specs.Refusals.{line};
 ghost use Rattle.luo_top.specs.Run.{text_of, TookLine, IsRefusal, FileFault, OutputComes, RefusalComes};
 ghost use Rattle.luo_top.specs.Words.{texts, HasNoForm};
 
@@ -70,8 +70,8 @@ pub fn luo<R: Threads + Sync, F: Files, O: Sink, E: Sink, G: Gate>(
                 Status::WriteFault
             }
         },
-        Decision::Refusal(status, bytes) => {
-            let _ = send(err, bytes);
+        Decision::Refusal(status, text_line) => {
+            let _ = send(err, text_line.as_slice());
             status
         }
         Decision::ReadFault => {

@@ -1,5 +1,27 @@
 // What a first text says.
+ghost use Rattle.std.specs.Prelude.{◌≡◌};
+
 use luo_num::{Items, Text};
+use std::alloc::AllocError;
+
+/// Why no first text was read.
+#[derive(Clone, Copy, Debug, PartialEq, Eq)]
+pub enum NotFirst {
+    /// The tokens are no first text.
+    NoFirst,
+    /// Memory was refused.
+    NoMemory,
+}
+
+impl From<AllocError> for NotFirst {
+    ghost use Rattle.luo_top.specs.declared.first.source.NotFirst.TheVariants.{NoMemory};
+
+    ghost from_gives = { λ _ e. e ≡ NoMemory };
+
+    fn from(_: AllocError) -> Self {
+        NotFirst::NoMemory
+    }
+}
 
 /// A term of a definition.
 #[derive(Debug, Drop)]

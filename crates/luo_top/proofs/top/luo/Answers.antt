@@ -15,4 +15,4 @@ pub returns-in-Refusal-clause-refusal_comes : goal.returns-in-Refusal-clause-ref
 returns-in-Refusal-clause-refusal_comes g c = refusal_alone _ _ _ _ _ c.in-Refusal.ensures.decided.3
 
 pub returns-in-ReadFault-clause-usage : goal.returns-in-ReadFault-clause-usage
-returns-in-ReadFault-clause-usage g c = let d = c.in-ReadFault.ensures.decided in not_usage _ _ read_fault_other (has_form _ _ _ d.1.1)
+returns-in-ReadFault-clause-usage g c = let d = c.in-ReadFault.ensures.decided in not_usage _ _ read_fault_other (has_form _ _ d.1.1)
