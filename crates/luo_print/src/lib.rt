@@ -1,0 +1,11 @@
+//! The canonical text of a source.
+#![tactic(auto)]
+
+mod patterns;
+mod pieces;
+mod source;
+mod statements;
+mod types;
+mod values;
+
+pub use source::print_source;
