@@ -9,3 +9,6 @@ mod types;
 mod values;
 
 pub use source::print_source;
+
+#[cfg(test)]
+mod tests;
