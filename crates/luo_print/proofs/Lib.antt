@@ -1,0 +1,4 @@
+pub mod Joins
+pub mod TypeTexts
+pub mod StatementTexts
+pub mod ValueTexts

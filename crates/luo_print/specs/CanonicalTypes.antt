@@ -1,0 +1,56 @@
+-- The canonical text of type expressions, and of the lines of definitions and measures.
+use Rattle.std.specs.Prelude.{ℕ, List, [], ◌∷◌, ◌++◌, codes, decimal, Option, None, Some}
+use Rattle.luo_model.specs.declared.program.Kind.{Kind}
+use Rattle.luo_model.specs.declared.program.Kind.TheVariants.{Sequence, Set, Cycle, Multiset, Powerset}
+use Rattle.luo_syntax.specs.declared.types.Range.{Range}
+use Rattle.luo_syntax.specs.declared.types.Range.TheVariants.{Exactly, AtMost, AtLeast, Between}
+use Rattle.luo_syntax.specs.declared.types.Bound.{Bound}
+use Rattle.luo_syntax.specs.declared.types.TypeExpr.{TypeExpr, Named, Epsilon, Atom, Union', Product', Coll', Row_of-TypeExpr, end_of-TypeExpr, more_of-TypeExpr}
+use Rattle.luo_syntax.specs.declared.types.TypeDef.{TypeDef}
+use Rattle.luo_syntax.specs.declared.types.MeasureDef.{MeasureDef}
+use Rattle.luo_print.specs.Layout.{joined, name_list}
+
+abbrev pub kind_text : Kind → List ℕ
+kind_text Sequence = codes "sequence"
+kind_text Set = codes "set"
+kind_text Cycle = codes "cycle"
+kind_text Multiset = codes "multiset"
+kind_text Powerset = codes "powerset"
+
+abbrev pub range_text : Range → List ℕ
+range_text (Exactly n) = codes "= " ++ decimal n
+range_text (AtMost n) = codes "<= " ++ decimal n
+range_text (AtLeast n) = codes ">= " ++ decimal n
+range_text (Between low high) = codes "in " ++ decimal low ++ codes ".." ++ decimal high
+
+-- a bound behind the component of a collection
+abbrev pub bound_text : Option Bound → List ℕ
+bound_text None = []
+bound_text (Some bound) = codes ", card " ++ range_text bound.range
+
+abbrev mutual
+  pub expr_text : TypeExpr → List ℕ
+  expr_text (Named name) = name.text
+  expr_text (Epsilon at) = codes "epsilon"
+  expr_text (Atom weight weight_at at) = codes "atom(" ++ decimal weight ++ codes ")"
+  expr_text (Union' shape parts) = joined (codes " | ") (expr_texts parts)
+  expr_text (Product' shape parts at) = codes "product(" ++ joined (codes ", ") (expr_texts parts) ++ codes ")"
+  expr_text (Coll' kind shape part bound at) = kind_text kind ++ codes "(" ++ boxed_expr_text part ++ bound_text bound ++ codes ")"
+
+  -- the texts of a list
+  pub expr_texts : {n : _} → Row_of-TypeExpr n → List (List ℕ)
+  expr_texts end_of-TypeExpr = []
+  expr_texts (more_of-TypeExpr e rest) = expr_text e ∷ expr_texts rest
+
+  -- the text of what a box holds
+  pub boxed_expr_text : {n : _} → Row_of-TypeExpr n → List ℕ
+  boxed_expr_text end_of-TypeExpr = []
+  boxed_expr_text (more_of-TypeExpr e rest) = expr_text e
+
+-- the line of a definition
+abbrev pub type_def_line : TypeDef → List ℕ
+type_def_line def = codes "type " ++ name_list def.names ++ codes " = " ++ expr_text def.body ++ codes ";\n"
+
+-- the line of measures
+abbrev pub measure_line : MeasureDef → List ℕ
+measure_line def = codes "measure " ++ name_list def.names ++ codes " : " ++ decimal def.value ++ codes ";\n"

@@ -1,0 +1,5 @@
+pub mod Layout
+pub mod CanonicalTypes
+pub mod CanonicalStatements
+pub mod CanonicalValues
+pub mod Canonical

@@ -1,0 +1,14 @@
+//! The canonical text of a source.
+#![tactic(auto)]
+
+mod patterns;
+mod pieces;
+mod source;
+mod statements;
+mod types;
+mod values;
+
+pub use source::print_source;
+
+#[cfg(test)]
+mod tests;
