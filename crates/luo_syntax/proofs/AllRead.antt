@@ -1,7 +1,7 @@
 -- A whole list of lexemes: what an error says of it, with nothing too deep, and with a lexeme that is.
 use Rattle.std.proofs.Common.{◌≡◌, ℕ, List, [], ◌∷◌, ◌++◌, ◌-◌, ◌+◌, ◌≤◌, ◌<◌, refl, sym, subst, ap, ◌∙◌, length, take, arith}
 use Rattle.std.proofs.Math.Seq.{take-length}
-use Rattle.std.proofs.lemmas.List.{length-take}
+use Rattle.std.proofs.lemmas.List.{append-nil, length-take}
 use Rattle.luo_scan.specs.Lexemes.{Lexeme}
 use Rattle.luo_syntax.specs.declared.source.Source.{Source}
 use Rattle.luo_syntax.specs.declared.error.SyntaxError.{SyntaxError}
@@ -10,12 +10,8 @@ use Rattle.luo_syntax.specs.Grammar.{IsProgram}
 use Rattle.luo_syntax.specs.Viable.{AllSpelled, IsNoProgram, IsViable, IsLongestViable, IsFirstDeep, IsShallow, StopsWhole, Explains}
 use Rattle.luo_syntax.proofs.Final.{longest_within, take_take}
 
-append_nothing : (ls : List Lexeme) → ls ++ [] ≡ ls
-append_nothing [] = refl
-append_nothing (l ∷ ls) = ap (λ z. l ∷ z) (append_nothing ls)
-
 whole_viable : (ls : List Lexeme) (s : Source) → IsProgram ls [] s → IsViable ls
-whole_viable ls s p = ([], tt, s, subst (λ z. IsProgram z [] s) (sym (append_nothing ls)) p)
+whole_viable ls s p = ([], tt, s, subst (λ z. IsProgram z [] s) (sym (append-nil ls)) p)
 
 none_of : (ls : List Lexeme) (k : ℕ) → IsLongestViable ls k → k < length ls → IsNoProgram ls
 none_of ls k v a s p = v.longest (length ls) a (omega arith) (subst IsViable (sym (take-length ls)) (whole_viable ls s p))

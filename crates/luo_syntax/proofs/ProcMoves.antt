@@ -13,7 +13,7 @@ use Rattle.luo_syntax.specs.StopsProgram.{IsParam, one_param}
 use Rattle.luo_syntax.proofs.Fronts.{Front, nothing, put, both, Moves}
 use Rattle.luo_syntax.proofs.Stubs.{block_moves, value_moves}
 
-body_moves : {from to : List Lexeme} {body : ProcBody} → IsProcBody from to body → Moves (λ a b. IsProcBody a b body) from to
+pub body_moves : {from to : List Lexeme} {body : ProcBody} → IsProcBody from to body → Moves (λ a b. IsProcBody a b body) from to
 body_moves (statements_body {b} {k} p) = let m = block_moves p in record {
   front = put (lexeme (kind.Mark Semicolon) b k) m.front;
   cut = ap (λ z. lexeme (kind.Mark Semicolon) b k ∷ z) m.cut;
