@@ -25,11 +25,14 @@ explained ls NoMemory none s = tt
 -- this lexeme is the first that is too deep, and reading stops before it or at it
 pub stops_first : (ls : List Lexeme) (m k : ℕ) → AllSpelled ls → IsFirstDeep ls m → StopsWhole (take (m + 1) ls) (Grammar k) → k ≤ m → Explains ls (Grammar k)
 stops_first ls m k spelled (c, deep, first) (v, n) a =
-    let w = longest_within ls (m + 1) k spelled (omega (arith, a)) (omega (arith, c)) v in
-    (w, none_of ls k w (omega (arith, a, c)), λ j d.
-      let not_above : m < j → ⊥ = λ b. d.0.2 (m + 1) (omega (arith, b)) deep in
-      let not_below : j < m → ⊥ = λ b. first (j + 1) (omega (arith, b)) d.0.1 in
-      w.longest (j + 1) (omega (arith, a, not_above, not_below)) (omega (arith, d.0.0)) d.1)
+    let w = longest_within ls (m + 1) k spelled (omega (arith, a)) (omega (arith, c)) v in (
+      w,
+      none_of ls k w (omega (arith, a, c)),
+      λ j d.
+          let not_above : m < j → ⊥ = λ b. d.0.2 (m + 1) (omega (arith, b)) deep in
+          let not_below : j < m → ⊥ = λ b. first (j + 1) (omega (arith, b)) d.0.1 in
+          w.longest (j + 1) (omega (arith, a, not_above, not_below)) (omega (arith, d.0.0)) d.1,
+    )
 
 -- this lexeme is the first that is too deep, and reading stops behind it
 pub deep_first : (ls : List Lexeme) (m k : ℕ) → IsFirstDeep ls m → StopsWhole (take (m + 1) ls) (Grammar k) → m < k → Explains ls (Depth m)

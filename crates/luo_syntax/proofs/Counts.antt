@@ -66,6 +66,8 @@ pub shallow_text : (ts : List Token) → IsShallowTo (length ts) ts → (text : 
 shallow_text ts s text j a d = s j (omega (arith, a, as_many 0 text ts)) (omega (arith, d, opened_front text ts j, closed_front text ts j))
 
 pub first_deep : (ts : List Token) (i : ℕ) → i < length ts → kinds_closed (take (i + 1) ts) + 32 < kinds_opened (take (i + 1) ts) → IsShallowTo i ts → (text : List ℕ) → IsFirstDeep (lexemes text ts) i
-first_deep ts i a deep s text =
-    (omega (arith, a, as_many 0 text ts), omega (arith, deep, opened_front text ts (i + 1), closed_front text ts (i + 1)),
-     λ j b d. s j b (omega (arith, d, opened_front text ts j, closed_front text ts j)))
+first_deep ts i a deep s text = (
+  omega (arith, a, as_many 0 text ts),
+  omega (arith, deep, opened_front text ts (i + 1), closed_front text ts (i + 1)),
+  λ j b d. s j b (omega (arith, d, opened_front text ts j, closed_front text ts j)),
+)

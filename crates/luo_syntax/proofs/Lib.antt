@@ -8,3 +8,13 @@ pub mod OneValues
 pub mod OneProgram
 pub mod NamesSoFar
 pub mod NamesMoves
+pub mod Begins
+pub mod ProcMoves
+pub mod ProcStuck
+pub mod ProgramStuck
+pub mod Final
+pub mod AllRead
+pub mod Counts
+pub mod ProcSteps
+pub mod ProgramSteps
+pub mod Texts

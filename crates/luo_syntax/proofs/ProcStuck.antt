@@ -143,22 +143,30 @@ proc_stuck (no_procedure m) = record {
   front = nothing;
   cut = sym m.0;
   alike = λ o t. no_procedure (misses_alike m t);
-  goes_on = λ to s. (a_word KwProcedure ∷ a_name ∷ a_mark LeftRound ∷ a_name ∷ a_mark Colon ∷ a_name ∷ a_mark RightRound ∷ a_mark Semicolon ∷ a_word KwBegin ∷ a_word KwEnd ∷ a_mark Semicolon ∷ to,
-    (word_fit KwProcedure, (name_fit, (mark_fit LeftRound, (name_fit, (mark_fit Colon, (name_fit, (mark_fit RightRound, (mark_fit Semicolon, (word_fit KwBegin, (word_fit KwEnd, (mark_fit Semicolon, s))))))))))), _, proc (statements_body empty_block));
+  goes_on = λ to s. (
+    a_word KwProcedure ∷ a_name ∷ a_mark LeftRound ∷ a_name ∷ a_mark Colon ∷ a_name ∷ a_mark RightRound ∷ a_mark Semicolon ∷ a_word KwBegin ∷ a_word KwEnd ∷ a_mark Semicolon ∷ to,
+    (word_fit KwProcedure, (name_fit, (mark_fit LeftRound, (name_fit, (mark_fit Colon, (name_fit, (mark_fit RightRound, (mark_fit Semicolon, (word_fit KwBegin, (word_fit KwEnd, (mark_fit Semicolon, s))))))))))),
+    _,
+    proc (statements_body empty_block),
+  );
 }
 proc_stuck (no_proc_name (next {bytes = b} {at = k}) m) = record {
   front = put (lexeme (kind.Word KwProcedure) b k) nothing;
   cut = ap (λ z. lexeme (kind.Word KwProcedure) b k ∷ z) (sym m.0);
   alike = λ o t. no_proc_name next (misses_alike m t);
-  goes_on = λ to s. (a_name ∷ a_mark LeftRound ∷ a_name ∷ a_mark Colon ∷ a_name ∷ a_mark RightRound ∷ a_mark Semicolon ∷ a_word KwBegin ∷ a_word KwEnd ∷ a_mark Semicolon ∷ to,
-    (name_fit, (mark_fit LeftRound, (name_fit, (mark_fit Colon, (name_fit, (mark_fit RightRound, (mark_fit Semicolon, (word_fit KwBegin, (word_fit KwEnd, (mark_fit Semicolon, s)))))))))), _, proc (statements_body empty_block));
+  goes_on = λ to s. (
+    a_name ∷ a_mark LeftRound ∷ a_name ∷ a_mark Colon ∷ a_name ∷ a_mark RightRound ∷ a_mark Semicolon ∷ a_word KwBegin ∷ a_word KwEnd ∷ a_mark Semicolon ∷ to,
+    (name_fit, (mark_fit LeftRound, (name_fit, (mark_fit Colon, (name_fit, (mark_fit RightRound, (mark_fit Semicolon, (word_fit KwBegin, (word_fit KwEnd, (mark_fit Semicolon, s)))))))))),
+    _,
+    proc (statements_body empty_block),
+  );
 }
 proc_stuck (in_param (next {bytes = b} {at = k}) (next_name {text} {at}) s) = let v = param_stuck s in record {
   front = put (lexeme (kind.Word KwProcedure) b k) (put (lexeme kind.Name text at) v.front);
   cut = ap (λ z. lexeme (kind.Word KwProcedure) b k ∷ lexeme kind.Name text at ∷ z) v.cut;
   alike = λ o t. in_param next next_name (v.alike o t);
   goes_on = λ to f. let g = v.goes_on (a_mark Semicolon ∷ a_word KwBegin ∷ a_word KwEnd ∷ a_mark Semicolon ∷ to) (mark_fit Semicolon, (word_fit KwBegin, (word_fit KwEnd, (mark_fit Semicolon, f)))) in
-    (g.0, g.1, _, reads_proc next next_name g.3 (whole_statements next empty_block next));
+      (g.0, g.1, _, reads_proc next next_name g.3 (whole_statements next empty_block next));
 }
 proc_stuck (in_body (next {bytes = b} {at = k}) (next_name {text} {at}) p s) = let m = param_moves p in let v = body_stuck s in record {
   front = put (lexeme (kind.Word KwProcedure) b k) (put (lexeme kind.Name text at) (both m.front v.front));

@@ -12,7 +12,8 @@ loop-i-preserved c =
       closed = omega (arith, k, p.closed, c.closes-closed.ensures.count);
       most = omega (arith, p.most, c.opens-opened.ensures.most);
       least = omega (arith, p.least, c.closes-closed.ensures.most);
-      shallow = shallow_more c.args.tokens.now c.loop-i.i p.shallow (λ d. omega (arith, d, o, k, p.opened, p.closed, c.opens-opened.ensures.count, c.closes-closed.ensures.count, c.if-opened-closed.false)) }
+      shallow = shallow_more c.args.tokens.now c.loop-i.i p.shallow (λ d. omega (arith, d, o, k, p.opened, p.closed, c.opens-opened.ensures.count, c.closes-closed.ensures.count, c.if-opened-closed.false));
+    }
 
 pub returns-then-opened-closed : goal.returns-then-opened-closed
 returns-then-opened-closed c =

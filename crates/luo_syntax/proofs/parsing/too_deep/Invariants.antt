@@ -8,5 +8,5 @@ invariant-loop-i l = record {
   closed : l.closed ≡ kinds_closed (take l.i l.tokens);
   most : l.opened ≤ l.i;
   least : l.closed ≤ l.i;
-  shallow : IsShallowTo l.i l.tokens
+  shallow : IsShallowTo l.i l.tokens;
 }
