@@ -8,3 +8,4 @@ pub mod OneValues
 pub mod OneProgram
 pub mod NamesSoFar
 pub mod NamesMoves
+pub mod TypesMoves
