@@ -9,3 +9,4 @@ pub mod OneProgram
 pub mod NamesSoFar
 pub mod NamesMoves
 pub mod TypesMoves
+pub mod TypesStuck
