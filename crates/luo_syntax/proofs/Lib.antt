@@ -10,3 +10,4 @@ pub mod NamesSoFar
 pub mod NamesMoves
 pub mod TypesMoves
 pub mod TypesStuck
+pub mod TypesNo
