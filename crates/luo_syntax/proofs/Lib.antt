@@ -11,3 +11,4 @@ pub mod NamesMoves
 pub mod TypesMoves
 pub mod TypesStuck
 pub mod TypesNo
+pub mod TypesSteps

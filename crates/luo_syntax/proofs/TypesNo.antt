@@ -11,11 +11,11 @@ use Rattle.luo_syntax.specs.declared.types.TypeDef.{TypeDef}
 use Rattle.luo_syntax.specs.declared.types.MeasureDef.{MeasureDef}
 use Rattle.luo_syntax.specs.Next.{IsNext, next, next_at, No, Misses, EndsExpr}
 use Rattle.luo_syntax.specs.GrammarTypes.{IsRange, exactly, at_most, at_least, between, EndsCollection, unbounded, bounded, IsExpr, one_term, union, AreTerms, last_term, more_terms, IsTerm, named, epsilon, atom, product, collection, AreFactors, last_factor, more_factors, IsTypeDef, type_def, IsMeasure, measure_def}
-use Rattle.luo_syntax.specs.StopsTypes.{collection_next, BetweenStops, low_number, between_dots, high_number, RangeStops, no_range, exactly_number, at_most_number, at_least_number, in_between, BoundStops, bound_card, bound_range, bound_right, EndStops, no_end, in_bound, AtomStops, atom_left, atom_number, atom_right, TermsStop, in_term, past_bar, TermStops, no_term, in_atom, in_product, in_collection, ProductStops, product_left, product_first, product_comma, product_more, FactorsStop, in_factor, past_factor, past_comma, CollectionStops, collection_left, collection_part, collection_end, TypeDefStops, no_type, type_names, type_body, type_end, MeasureStops, no_measure, measure_names, measure_number, measure_end}
+use Rattle.luo_syntax.specs.TypeParts.{collection_next, IsBetween, limits, IsBound, a_bound, IsWeight, weight}
+use Rattle.luo_syntax.specs.StopsTypes.{BetweenStops, low_number, between_dots, high_number, RangeStops, no_range, exactly_number, at_most_number, at_least_number, in_between, BoundStops, bound_card, bound_range, bound_right, EndStops, no_end, in_bound, AtomStops, atom_left, atom_number, atom_right, TermsStop, in_term, past_bar, TermStops, no_term, in_atom, in_product, in_collection, ProductStops, product_left, product_first, product_comma, product_more, FactorsStop, in_factor, past_factor, past_comma, CollectionStops, collection_left, collection_part, collection_end, TypeDefStops, no_type, type_names, type_body, type_end, MeasureStops, no_measure, measure_names, measure_number, measure_end}
 use Rattle.luo_syntax.proofs.Nexts.{behind}
 use Rattle.luo_syntax.proofs.NamesMoves.{names_no}
 use Rattle.luo_syntax.proofs.OneTypes.{names_one, range_one, collection_only, ends_no_bar, expr_one, term_one}
-use Rattle.luo_syntax.proofs.TypesStuck.{IsBetween, limits, IsBound, a_bound, IsWeight, weight}
 
 between_no : {from from' at to : List Lexeme} {r : Range} → BetweenStops from at → IsBetween from' to r → from ≡ from' → ⊥
 between_no (low_number m) limits e = m.1 _ _ _ _ e
@@ -47,7 +47,7 @@ end_no (no_end c r) (bounded q) e = c.1 _ _ _ e
 end_no (in_bound next s) unbounded e = cc
 end_no (in_bound next s) (bounded q) e = bound_no s (a_bound q) (behind e)
 
-atom_no : {from from' at to : List Lexeme} {n : ℕ} → AtomStops from at → IsWeight from' to n → from ≡ from' → ⊥
+atom_no : {from from' at to : List Lexeme} {w : ℕ × ℕ} → AtomStops from at → IsWeight from' to w → from ≡ from' → ⊥
 atom_no (atom_left m) weight e = m.1 _ _ _ e
 atom_no (atom_number next m) weight e = m.1 _ _ _ _ (behind e)
 atom_no (atom_right next next m) weight e = m.1 _ _ _ (behind (behind e))

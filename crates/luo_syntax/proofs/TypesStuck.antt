@@ -7,39 +7,19 @@ use Rattle.luo_scan.specs.declared.token.TokenKind.TheVariants as kind
 use Rattle.luo_scan.specs.Lexemes.{Lexeme, lexeme}
 use Rattle.luo_model.specs.declared.program.Kind.{Kind}
 use Rattle.luo_syntax.specs.declared.types.Range.{Range}
-use Rattle.luo_syntax.specs.declared.types.Range.TheVariants.{Between}
 use Rattle.luo_syntax.specs.declared.types.Bound.{Bound}
 use Rattle.luo_syntax.specs.declared.types.TypeExpr.{TypeExpr}
 use Rattle.luo_syntax.specs.declared.types.TypeDef.{TypeDef}
 use Rattle.luo_syntax.specs.declared.types.MeasureDef.{MeasureDef}
 use Rattle.luo_syntax.specs.Next.{IsNext, next, next_at, No, Misses, EndsExpr}
 use Rattle.luo_syntax.specs.GrammarTypes.{IsRange, exactly, at_most, at_least, between, IsCollection, EndsCollection, unbounded, bounded, IsExpr, one_term, union, AreTerms, last_term, more_terms, IsTerm, named, epsilon, atom, product, collection, AreFactors, last_factor, more_factors, IsTypeDef, type_def, IsMeasure, measure_def, last_name}
-use Rattle.luo_syntax.specs.StopsTypes.{MissesCollection, IsCollectionNext, collection_next, BetweenStops, low_number, between_dots, high_number, RangeStops, no_range, exactly_number, at_most_number, at_least_number, in_between, BoundStops, bound_card, bound_range, bound_right, EndStops, no_end, in_bound, AtomStops, atom_left, atom_number, atom_right, TermsStop, in_term, past_bar, TermStops, no_term, in_atom, in_product, in_collection, ProductStops, product_left, product_first, product_comma, product_more, FactorsStop, in_factor, past_factor, past_comma, CollectionStops, collection_left, collection_part, collection_end, TypeDefStops, no_type, type_names, type_body, type_end, MeasureStops, no_measure, measure_names, measure_number, measure_end}
+use Rattle.luo_syntax.specs.TypeParts.{MissesCollection, IsCollectionNext, collection_next, IsBetween, limits, IsBound, a_bound, IsWeight, weight, AreParts, parts, IsInside, inside}
+use Rattle.luo_syntax.specs.StopsTypes.{BetweenStops, low_number, between_dots, high_number, RangeStops, no_range, exactly_number, at_most_number, at_least_number, in_between, BoundStops, bound_card, bound_range, bound_right, EndStops, no_end, in_bound, AtomStops, atom_left, atom_number, atom_right, TermsStop, in_term, past_bar, TermStops, no_term, in_atom, in_product, in_collection, ProductStops, product_left, product_first, product_comma, product_more, FactorsStop, in_factor, past_factor, past_comma, CollectionStops, collection_left, collection_part, collection_end, TypeDefStops, no_type, type_names, type_body, type_end, MeasureStops, no_measure, measure_names, measure_number, measure_end}
 use Rattle.luo_syntax.proofs.Fronts.{Front, nothing, put, both, Moves, BeginAlike, Stuck}
 use Rattle.luo_syntax.proofs.Nexts.{no_alike, misses_alike, misses_number_alike}
 use Rattle.luo_syntax.proofs.Spelled.{a_word, a_mark, a_name, a_number, word_fit, mark_fit, name_fit, number_fit}
 use Rattle.luo_syntax.proofs.NamesMoves.{names_moves, names_stuck}
 use Rattle.luo_syntax.proofs.TypesMoves.{range_moves, expr_moves, term_moves}
-
--- num ".." num
-pub data IsBetween : List Lexeme → List Lexeme → Range → Type 0 where
-  limits : {to : List Lexeme} {c d e : List ℕ} {l m o low high : ℕ} → IsBetween (lexeme (kind.Number low) c l ∷ lexeme (kind.Mark Dots) d m ∷ lexeme (kind.Number high) e o ∷ to) to (Between low high)
-
--- "card" bound ")"
-pub data IsBound : List Lexeme → List Lexeme → Bound → Type 0 where
-  a_bound : {from to : List Lexeme} {c d : List ℕ} {at l : ℕ} {range : Range} → IsRange from (lexeme (kind.Mark RightRound) d l ∷ to) range → IsBound (lexeme (kind.Word KwCard) c at ∷ from) to (record { range = range; at = at })
-
--- "(" num ")"
-pub data IsWeight : List Lexeme → List Lexeme → ℕ → Type 0 where
-  weight : {to : List Lexeme} {c d e : List ℕ} {k at l n : ℕ} → IsWeight (lexeme (kind.Mark LeftRound) c k ∷ lexeme (kind.Number n) d at ∷ lexeme (kind.Mark RightRound) e l ∷ to) to n
-
--- "(" texpr "," texpr {"," texpr} ")"
-pub data AreParts : List Lexeme → List Lexeme → List TypeExpr → Type 0 where
-  parts : {from mid to : List Lexeme} {c d : List ℕ} {k l : ℕ} {t : TypeExpr} {ts : List TypeExpr} → IsExpr from (lexeme (kind.Mark Comma) d l ∷ mid) t → AreFactors mid to ts → AreParts (lexeme (kind.Mark LeftRound) c k ∷ from) to (t ∷ ts)
-
--- "(" texpr ["," "card" bound] ")"
-pub data IsInside : List Lexeme → List Lexeme → TypeExpr → Type 0 where
-  inside : {from mid to : List Lexeme} {c : List ℕ} {k : ℕ} {t : TypeExpr} {b : Option Bound} → IsExpr from mid t → EndsCollection mid to b → IsInside (lexeme (kind.Mark LeftRound) c k ∷ from) to t
 
 ranges : {from to : List Lexeme} {b : List ℕ} {k : ℕ} {r : Range} → IsBetween from to r → IsRange (lexeme (kind.Word KwIn) b k ∷ from) to r
 ranges limits = between
@@ -47,14 +27,14 @@ ranges limits = between
 bounds : {from to : List Lexeme} {b : List ℕ} {k : ℕ} {r : Bound} → IsBound from to r → EndsCollection (lexeme (kind.Mark Comma) b k ∷ from) to (Some r)
 bounds (a_bound p) = bounded p
 
-weighs : {from to : List Lexeme} {b : List ℕ} {k n : ℕ} → IsWeight from to n → (t : TypeExpr) × IsTerm (lexeme (kind.Word KwAtom) b k ∷ from) to t
+weighs : {from to : List Lexeme} {b : List ℕ} {k : ℕ} {w : ℕ × ℕ} → IsWeight from to w → (t : TypeExpr) × IsTerm (lexeme (kind.Word KwAtom) b k ∷ from) to t
 weighs weight = (_, atom)
 
 multiplies : {from to : List Lexeme} {b : List ℕ} {k : ℕ} {ts : List TypeExpr} → AreParts from to ts → (t : TypeExpr) × IsTerm (lexeme (kind.Word KwProduct) b k ∷ from) to t
 multiplies (parts p ps) = (_, product p ps)
 
-collects : {word : Word} {of : Kind} {from to : List Lexeme} {b : List ℕ} {k : ℕ} {t : TypeExpr} → IsCollection word of → IsInside from to t → (u : TypeExpr) × IsTerm (lexeme (kind.Word word) b k ∷ from) to u
-collects w (inside p x) = (_, collection w p x)
+collects : {word : Word} {of : Kind} {from to : List Lexeme} {b : List ℕ} {k : ℕ} {t : TypeExpr} → IsCollection word of → IsInside of k from to t → IsTerm (lexeme (kind.Word word) b k ∷ from) to t
+collects w (inside p x) = collection w p x
 
 pub terms_expr : {from to : List Lexeme} {ts : List TypeExpr} → AreTerms from to ts → (t : TypeExpr) × IsExpr from to t
 terms_expr (last_term p) = (_, one_term p)
@@ -147,7 +127,7 @@ end_stuck n (in_bound (next {bytes = c} {at = k}) s) = let m = bound_stuck s in 
   goes_on = λ to s. let g = m.goes_on to s in (g.0, g.1, _, bounds g.3);
 }
 
-atom_stuck : {from at : List Lexeme} → AtomStops from at → Stuck ℕ AtomStops IsWeight from at
+atom_stuck : {from at : List Lexeme} → AtomStops from at → Stuck (ℕ × ℕ) AtomStops IsWeight from at
 atom_stuck (atom_left m) = record {
   front = nothing;
   cut = sym m.0;
@@ -204,11 +184,11 @@ mutual
     alike = λ o b. in_product next (m.alike o b);
     goes_on = λ to s. let g = m.goes_on to s in let t = multiplies g.3 in (g.0, g.1, t.0, t.1);
   }
-  term_stuck (in_collection (collection_next {word} w (next_at {bytes = c} {at = k})) s) = let m = collection_stuck s in record {
+  term_stuck (in_collection (collection_next {word} {of} w (next_at {bytes = c} {at = k})) s) = let m = collection_stuck of k s in record {
     front = put (lexeme (kind.Word word) c k) m.front;
     cut = ap (λ z. lexeme (kind.Word word) c k ∷ z) m.cut;
     alike = λ o b. in_collection (collection_next w next_at) (m.alike o b);
-    goes_on = λ to s. let g = m.goes_on to s in let t = collects w g.3 in (g.0, g.1, t.0, t.1);
+    goes_on = λ to s. let g = m.goes_on to s in (g.0, g.1, _, collects w g.3);
   }
 
   product_stuck : {from at : List Lexeme} → ProductStops from at → Stuck (List TypeExpr) ProductStops AreParts from at
@@ -257,20 +237,20 @@ mutual
     goes_on = λ to s. let g = n.goes_on to s in (g.0, g.1, _, more_factors (m.moves _) g.3);
   }
 
-  collection_stuck : {from at : List Lexeme} → CollectionStops from at → Stuck TypeExpr CollectionStops IsInside from at
-  collection_stuck (collection_left m) = record {
+  collection_stuck : {from at : List Lexeme} (of : Kind) (number : ℕ) → CollectionStops from at → Stuck TypeExpr CollectionStops (IsInside of number) from at
+  collection_stuck of number (collection_left m) = record {
     front = nothing;
     cut = sym m.0;
     alike = λ o b. collection_left (misses_alike m b);
     goes_on = λ to s. (a_mark LeftRound ∷ a_word KwEpsilon ∷ a_mark RightRound ∷ to, (mark_fit LeftRound, (word_fit KwEpsilon, (mark_fit RightRound, s))), _, inside (one_term epsilon) unbounded);
   }
-  collection_stuck (collection_part (next {bytes = c} {at = k}) s) = let m = terms_stuck s in record {
+  collection_stuck of number (collection_part (next {bytes = c} {at = k}) s) = let m = terms_stuck s in record {
     front = put (lexeme (kind.Mark LeftRound) c k) m.front;
     cut = ap (λ z. lexeme (kind.Mark LeftRound) c k ∷ z) m.cut;
     alike = λ o b. collection_part next (m.alike o b);
     goes_on = λ to s. let g = m.goes_on (a_mark RightRound ∷ to) (mark_fit RightRound, s) in (g.0, g.1, _, inside (terms_expr g.3).1 unbounded);
   }
-  collection_stuck (collection_end (next {bytes = c} {at = k}) p n s) = let m = expr_moves p in let x = end_stuck n s in record {
+  collection_stuck of number (collection_end (next {bytes = c} {at = k}) p n s) = let m = expr_moves p in let x = end_stuck n s in record {
     front = put (lexeme (kind.Mark LeftRound) c k) (both m.front x.front);
     cut = ap (λ z. lexeme (kind.Mark LeftRound) c k ∷ z) (m.cut ∙ ap m.front.before x.cut);
     alike = λ o b. let a = x.alike o b in collection_end next (m.moves (x.front.before o)) a.0 a.1;

@@ -6,4 +6,5 @@ pub mod Next
 pub mod Viable
 pub mod Laws
 pub mod StopsNames
+pub mod TypeParts
 pub mod StopsTypes

@@ -1,6 +1,5 @@
 -- Where reading bounds, type expressions and definitions stops.
-use Rattle.std.specs.Prelude.{◌≡◌, ℕ, List, Option, None, Some}
-use Rattle.luo_scan.specs.declared.token.Word.{Word}
+use Rattle.std.specs.Prelude.{ℕ, List}
 use Rattle.luo_scan.specs.declared.token.Word.TheVariants.{KwEpsilon, KwAtom, KwProduct, KwCard, KwIn, KwType, KwMeasure}
 use Rattle.luo_scan.specs.declared.token.Mark.TheVariants.{Semicolon, Comma, Equals, Bar, LeftRound, RightRound, LessEqual, GreaterEqual, Dots, Colon}
 use Rattle.luo_scan.specs.declared.token.TokenKind.TheVariants as kind
@@ -9,26 +8,10 @@ use Rattle.luo_model.specs.declared.program.Kind.{Kind}
 use Rattle.luo_syntax.specs.declared.names.Name.{Name}
 use Rattle.luo_syntax.specs.declared.types.Range.{Range}
 use Rattle.luo_syntax.specs.declared.types.TypeExpr.{TypeExpr}
-use Rattle.luo_syntax.specs.Next.{IsNext, IsNextAt, No, Misses, MissesName, MissesNumber, EndsExpr}
-use Rattle.luo_syntax.specs.GrammarTypes.{AreNames, IsRange, IsCollection, IsExpr, IsTerm}
+use Rattle.luo_syntax.specs.Next.{IsNext, No, Misses, MissesName, MissesNumber, EndsExpr}
+use Rattle.luo_syntax.specs.GrammarTypes.{AreNames, IsRange, IsExpr, IsTerm}
+use Rattle.luo_syntax.specs.TypeParts.{IsCollectionNext, MissesCollection}
 use Rattle.luo_syntax.specs.StopsNames.{NamesStop}
-
--- the word of no collection comes next
-abbrev pub NoCollection : List Lexeme → Type 0
-NoCollection ls = (word : Word) (of : Kind) → IsCollection word of → No (kind.Word word) ls
-
--- the word of a collection is missed here
-abbrev pub MissesCollection : List Lexeme → List Lexeme → Type 0
-MissesCollection from at = (at ≡ from) × NoCollection from
-
--- the word of this collection, of this number, comes next, and these are behind it
-pub data IsCollectionNext : Kind → ℕ → List Lexeme → List Lexeme → Type 0 where
-  collection_next : {word : Word} {of : Kind} {at : ℕ} {from to : List Lexeme} → IsCollection word of → IsNextAt (kind.Word word) at from to → IsCollectionNext of at from to
-
--- the word of a collection was taken, or none comes next
-abbrev pub TakesCollection : List Lexeme → List Lexeme → Option (Kind × ℕ) → Type 0
-TakesCollection from to (Some (of, at)) = IsCollectionNext of at from to
-TakesCollection from to None = MissesCollection from to
 
 -- num ".." num is being read from these lexemes, and can't go on at those; so in each relation that follows
 pub data BetweenStops : List Lexeme → List Lexeme → Type 0 where

@@ -10,6 +10,7 @@ mod names;
 mod source;
 mod statements;
 mod types;
+mod types_reader_bounds;
 mod values;
 
 pub use error::{DEPTH_LIMIT, SyntaxError};
