@@ -12,3 +12,5 @@ pub mod TypesMoves
 pub mod TypesStuck
 pub mod TypesNo
 pub mod TypesSteps
+pub mod TermSteps
+pub mod DefinitionSteps

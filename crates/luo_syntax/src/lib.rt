@@ -10,7 +10,9 @@ mod names;
 mod source;
 mod statements;
 mod types;
+mod types_reader;
 mod types_reader_bounds;
+mod types_reader_definitions;
 mod values;
 
 pub use error::{DEPTH_LIMIT, SyntaxError};
