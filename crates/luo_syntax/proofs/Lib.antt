@@ -18,3 +18,9 @@ pub mod Counts
 pub mod ProcSteps
 pub mod ProgramSteps
 pub mod Texts
+pub mod TypesMoves
+pub mod TypesStuck
+pub mod TypesNo
+pub mod TypesSteps
+pub mod TermSteps
+pub mod DefinitionSteps

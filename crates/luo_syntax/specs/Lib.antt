@@ -7,3 +7,5 @@ pub mod Viable
 pub mod Laws
 pub mod StopsNames
 pub mod StopsProgram
+pub mod TypeParts
+pub mod StopsTypes

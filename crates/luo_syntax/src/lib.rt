@@ -13,6 +13,9 @@ mod program_reader;
 mod source;
 mod statements;
 mod types;
+mod types_reader;
+mod types_reader_bounds;
+mod types_reader_definitions;
 mod values;
 
 pub use error::{DEPTH_LIMIT, SyntaxError};
