@@ -8,3 +8,9 @@ pub mod OneValues
 pub mod OneProgram
 pub mod NamesSoFar
 pub mod NamesMoves
+pub mod PatternMoves
+pub mod PatternSteps
+pub mod StatementsMoves
+pub mod StatementsNo
+pub mod StatementsSteps
+pub mod StatementsStuck

@@ -6,3 +6,5 @@ pub mod Next
 pub mod Viable
 pub mod Laws
 pub mod StopsNames
+pub mod StopsPatterns
+pub mod StopsStatements
