@@ -8,3 +8,5 @@ pub mod OneValues
 pub mod OneProgram
 pub mod NamesSoFar
 pub mod NamesMoves
+pub mod PatternMoves
+pub mod PatternSteps

@@ -6,3 +6,4 @@ pub mod Next
 pub mod Viable
 pub mod Laws
 pub mod StopsNames
+pub mod StopsPatterns
