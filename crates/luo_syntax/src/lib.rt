@@ -7,6 +7,7 @@ mod fault;
 mod laws;
 mod name_list;
 mod names;
+mod patterns_reader;
 mod source;
 mod statements;
 mod types;
