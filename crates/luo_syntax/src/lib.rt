@@ -10,6 +10,7 @@ mod names;
 mod patterns_reader;
 mod source;
 mod statements;
+mod statements_reader;
 mod types;
 mod values;
 
