@@ -24,3 +24,9 @@ pub mod TypesNo
 pub mod TypesSteps
 pub mod TermSteps
 pub mod DefinitionSteps
+pub mod PatternMoves
+pub mod PatternSteps
+pub mod StatementsMoves
+pub mod StatementsNo
+pub mod StatementsSteps
+pub mod StatementsStuck

@@ -9,3 +9,5 @@ pub mod StopsNames
 pub mod StopsProgram
 pub mod TypeParts
 pub mod StopsTypes
+pub mod StopsPatterns
+pub mod StopsStatements
