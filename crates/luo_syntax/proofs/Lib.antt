@@ -10,3 +10,6 @@ pub mod NamesSoFar
 pub mod NamesMoves
 pub mod PatternMoves
 pub mod PatternSteps
+pub mod ValueMoves
+pub mod ValueStuck
+pub mod ValueSteps

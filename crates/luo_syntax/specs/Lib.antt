@@ -7,3 +7,4 @@ pub mod Viable
 pub mod Laws
 pub mod StopsNames
 pub mod StopsPatterns
+pub mod StopsValues
