@@ -13,3 +13,4 @@ pub mod PatternSteps
 pub mod ValueMoves
 pub mod ValueStuck
 pub mod ValueSteps
+pub mod ValueNo
