@@ -14,3 +14,4 @@ pub mod ValueMoves
 pub mod ValueStuck
 pub mod ValueSteps
 pub mod ValueNo
+pub mod ValuesSoFar

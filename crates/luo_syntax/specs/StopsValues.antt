@@ -44,6 +44,10 @@ pub data WholeValue : List Lexeme → List Lexeme → SourceValue → Type 0 whe
   whole_branch : {from mid to : List Lexeme} {n k : ℕ} {v : SourceValue} → IsNextAt (kind.Number n) k from mid → IsNumbered mid to v → InnerEnds v to → WholeValue from to (Branch n k v)
   whole_inner : {from to : List Lexeme} {v : SourceValue} → IsInner from to v → InnerEnds v to → WholeValue from to v
 
+-- behind the number of a branch the rest of it is read from these lexemes to those, and isn't gone on with there
+pub data WholeNumbered (n k : ℕ) : List Lexeme → List Lexeme → SourceValue → Type 0 where
+  whole_numbered : {from to : List Lexeme} {v : SourceValue} → IsNumbered from to v → InnerEnds v to → WholeNumbered n k from to (Branch n k v)
+
 -- an arm is read from these lexemes to those, and isn't gone on with there
 pub data WholeArm : List Lexeme → List Lexeme → SourceValueArm → Type 0 where
   whole_arm : {from mid next to : List Lexeme} {p : Pattern} {v : SourceValue} → IsPattern from mid p → IsNext (kind.Mark Colon) mid next → WholeValue next to v → WholeArm from to (record { pattern = p; body = v })
