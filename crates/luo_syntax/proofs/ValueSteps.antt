@@ -15,7 +15,8 @@ use Rattle.luo_syntax.specs.GrammarStatements.{IsPattern}
 use Rattle.luo_syntax.specs.GrammarValues.{IsValue, branch_value, inner_value, IsBranch, branch, IsInner, given, made, free_atom, charged_atom, bracketed, tuple, case_value, AreParts, last_part, more_parts, AreValueArms, last_value_arm, more_value_arms, IsValueArm, one_value_arm}
 use Rattle.luo_syntax.specs.StopsPatterns.{behind_name, PatternEnds, PatternStops}
 use Rattle.luo_syntax.specs.StopsValues.{IsNumbered, numbered, IsBracketed, in_round, IsTuple, parts, IsValueCase, arms_of, IsMade, made_on, InnerEnds, WholeValue, whole_branch, whole_inner, WholeNumbered, whole_numbered, WholeArm, whole_arm, NoInner, ReadsParts, MadeStops, made_name, made_right, ValueStops, no_value, in_number, in_inner, NumberedStops, numbered_colon, numbered_inner, InnerStops, no_inner, begun_inner, BegunStops, inner_bracketed, inner_tuple, inner_case, inner_made, BracketedStops, bracketed_number, bracketed_numbered, bracketed_right, TupleStops, tuple_left, tuple_first, tuple_comma, tuple_more, PartsStop, in_part, past_part, past_parts, ValueCaseStops, value_case_name, value_case_of, value_case_arms, ValueArmsStop, in_value_arm, past_value_arm, past_value_arms, ValueArmStops, arm_pattern, arm_colon, arm_value}
-use Rattle.luo_syntax.proofs.PatternSteps.{pattern_shorter}
+use Rattle.luo_syntax.proofs.Nexts.{next_past}
+use Rattle.luo_syntax.proofs.PatternSteps.{pattern_shorter, next_at_past}
 
 pub branch_of : {from to : List Lexeme} {b : List ℕ} {n k : ℕ} {v : SourceValue} → IsNumbered from to v → IsBranch (lexeme (kind.Number n) b k ∷ from) to (Branch n k v)
 branch_of (numbered p) = branch p
@@ -146,3 +147,18 @@ reads_tuple {from} {to} next p next (us, e, q) = subst (λ z. IsTuple from to z)
 -- a case
 pub reads_value_case : {from mid next to : List Lexeme} {name : Name} {arms : List SourceValueArm} → IsName from mid name → IsNext (kind.Word KwOf) mid next → AreValueArms next to arms → IsValueCase from to (Case name arms)
 reads_value_case next_name next p = arms_of p
+
+-- a numbered value is what its number says
+pub whole_boxed : {from to : List Lexeme} {n k : ℕ} {v w : SourceValue} → IsNumbered from to v → InnerEnds v to → w ≡ v → WholeNumbered n k from to (Branch n k w)
+whole_boxed {from} {to} {n} {k} p e f = subst (λ z. WholeNumbered n k from to (Branch n k z)) (sym f) (whole_numbered p e)
+
+pub numbered_shorter : {n k : ℕ} {from to : List Lexeme} {v : SourceValue} → WholeNumbered n k from to v → length to < length from
+numbered_shorter (whole_numbered (numbered p) e) = omega (arith, inner_shorter p)
+
+pub whole_shorter : {from to : List Lexeme} {v : SourceValue} → WholeValue from to v → length to < length from
+whole_shorter p = value_shorter (whole_is p)
+
+pub whole_arm_shorter : {from to : List Lexeme} {arm : SourceValueArm} → WholeArm from to arm → length to < length from
+whole_arm_shorter p = value_arm_shorter (whole_arm_is p)
+
+pub ruleset value_steps = (whole_is, whole_of_number, whole_past_number, stops_past_number, reads_numbered, reads_bracketed, stops_bracketed, reads_inner_bracketed, reads_inner_tuple, reads_inner_case, reads_atom, ends_bracketed, ends_case, inner_misses, reads_from_name, stops_from_name, reads_given, reads_charged, reads_made, stops_made, ends_given, reads_argument, reads_tuple, reads_value_case, whole_boxed, in_number, numbered_colon, numbered_inner, begun_inner, inner_bracketed, inner_tuple, inner_case, bracketed_number, bracketed_numbered, tuple_left, tuple_first, tuple_comma, tuple_more, value_case_name, value_case_of, value_case_arms, arm_pattern, arm_colon, arm_value, whole_arm, made_name, made_right, next_past, next_at_past)

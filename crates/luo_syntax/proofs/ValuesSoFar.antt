@@ -74,3 +74,6 @@ arms_stop_in {to} so s = so.stops to (in_value_arm s)
 
 pub arms_stop : {start at next past to : List Lexeme} {arm : SourceValueArm} {arms : List SourceValueArm} → ArmsSoFar start at arms → WholeArm at next arm → Misses (kind.Word KwEnd) next past → Misses (kind.Mark Semicolon) past to → ValueArmsStop start to
 arms_stop {to} so p m n = so.stops to (past_value_arm p m.1 (misses_past m n))
+
+pub arms_smaller : {at next past mid : List Lexeme} {arm : SourceValueArm} → WholeArm at next arm → Misses (kind.Word KwEnd) next past → IsNext (kind.Mark Semicolon) past mid → length mid < length at
+arms_smaller p m n = omega (arith, value_arm_shorter (whole_arm_is p), next_shorter (next_past m n))

@@ -12,6 +12,7 @@ mod source;
 mod statements;
 mod types;
 mod values;
+mod values_reader;
 
 pub use error::{DEPTH_LIMIT, SyntaxError};
 pub use laws::source_is_unique;
