@@ -30,3 +30,8 @@ pub mod StatementsMoves
 pub mod StatementsNo
 pub mod StatementsSteps
 pub mod StatementsStuck
+pub mod ValueMoves
+pub mod ValueStuck
+pub mod ValueSteps
+pub mod ValueNo
+pub mod ValuesSoFar

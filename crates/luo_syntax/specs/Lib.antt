@@ -11,3 +11,4 @@ pub mod TypeParts
 pub mod StopsTypes
 pub mod StopsPatterns
 pub mod StopsStatements
+pub mod StopsValues

@@ -19,6 +19,7 @@ mod types_reader;
 mod types_reader_bounds;
 mod types_reader_definitions;
 mod values;
+mod values_reader;
 
 pub use error::{DEPTH_LIMIT, SyntaxError};
 pub use laws::source_is_unique;
