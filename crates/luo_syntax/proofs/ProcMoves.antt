@@ -11,7 +11,8 @@ use Rattle.luo_syntax.specs.Next.{next, next_at, next_name}
 use Rattle.luo_syntax.specs.Grammar.{IsProcBody, statements_body, value_body, IsProc, proc, IsAnalyze, analyze}
 use Rattle.luo_syntax.specs.StopsProgram.{IsParam, one_param}
 use Rattle.luo_syntax.proofs.Fronts.{Front, nothing, put, both, Moves}
-use Rattle.luo_syntax.proofs.Stubs.{block_moves, value_moves}
+use Rattle.luo_syntax.proofs.StatementsMoves.{block_moves}
+use Rattle.luo_syntax.proofs.ValueMoves.{value_moves}
 
 pub body_moves : {from to : List Lexeme} {body : ProcBody} → IsProcBody from to body → Moves (λ a b. IsProcBody a b body) from to
 body_moves (statements_body {b} {k} p) = let m = block_moves p in record {

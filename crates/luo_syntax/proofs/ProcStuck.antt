@@ -1,6 +1,6 @@
 -- Procedures and analyses that stop do so before other lists too, and can be gone on with up to there.
 use Rattle.std.proofs.Common.{◌≡◌, ℕ, List, [], ◌∷◌, refl, ap, sym, subst, ◌∙◌}
-use Rattle.luo_scan.specs.declared.token.Word.TheVariants.{KwProcedure, KwAnalyze, KwAtom, KwBegin, KwEnd}
+use Rattle.luo_scan.specs.declared.token.Word.TheVariants.{KwProcedure, KwAnalyze, KwBegin, KwEnd}
 use Rattle.luo_scan.specs.declared.token.Mark.TheVariants.{Semicolon, Colon, LeftRound, RightRound}
 use Rattle.luo_scan.specs.declared.token.TokenKind.TheVariants as kind
 use Rattle.luo_scan.specs.Lexemes.{Lexeme, lexeme}
@@ -8,7 +8,7 @@ use Rattle.luo_syntax.specs.declared.names.Name.{Name}
 use Rattle.luo_syntax.specs.declared.values.SourceValue.{SourceValue}
 use Rattle.luo_syntax.specs.declared.source.ProcBody.{ProcBody}
 use Rattle.luo_syntax.specs.declared.source.ProcDef.{ProcDef}
-use Rattle.luo_syntax.specs.Next.{IsNext, next, next_at, IsName, next_name, No, EndsValue}
+use Rattle.luo_syntax.specs.Next.{IsNext, next, next_at, IsName, next_name, No}
 use Rattle.luo_syntax.specs.Grammar.{IsProcBody, statements_body, value_body, IsProc, proc, IsAnalyze, analyze}
 use Rattle.luo_syntax.specs.GrammarStatements.{empty_block}
 use Rattle.luo_syntax.specs.GrammarValues.{inner_value, given}
@@ -17,9 +17,13 @@ use Rattle.luo_syntax.proofs.Fronts.{Front, nothing, put, both, Moves, BeginAlik
 use Rattle.luo_syntax.proofs.Nexts.{no_alike, misses_alike, behind}
 use Rattle.luo_syntax.proofs.Spelled.{a_name, a_mark, a_word, name_fit, mark_fit, word_fit}
 use Rattle.luo_syntax.proofs.OneStatements.{block_one}
-use Rattle.luo_syntax.proofs.OneValues.{value_one}
 use Rattle.luo_syntax.proofs.ProcMoves.{param_moves}
-use Rattle.luo_syntax.proofs.Stubs.{block_moves, block_stuck, block_no, value_moves, value_stuck, value_no}
+use Rattle.luo_syntax.proofs.StatementsMoves.{block_moves}
+use Rattle.luo_syntax.proofs.StatementsStuck.{block_stuck}
+use Rattle.luo_syntax.proofs.StatementsNo.{block_no}
+use Rattle.luo_syntax.proofs.ValueMoves.{whole_moves}
+use Rattle.luo_syntax.proofs.ValueStuck.{value_stuck}
+use Rattle.luo_syntax.proofs.ValueNo.{value_no, value_meets}
 
 pub param_stuck : {from at : List Lexeme} → ParamStops from at → Stuck (Name × Name) ParamStops IsParam from at
 param_stuck (no_left m) = record {
@@ -79,18 +83,18 @@ result_stuck (in_value (next_name {text} {at}) (next {bytes = b} {at = k}) s) = 
   alike = λ o t. in_value next_name next (v.alike o t);
   goes_on = λ to f. let g = v.goes_on (a_mark Semicolon ∷ to) (mark_fit Semicolon, f) in (g.0, g.1, _, one_result next_name next g.3 next);
 }
-result_stuck (past_value (next_name {text} {at}) (next {bytes = b} {at = k}) p n m) = let v = value_moves p in record {
+result_stuck (past_value (next_name {text} {at}) (next {bytes = b} {at = k}) p m) = let v = whole_moves p in record {
   front = put (lexeme kind.Name text at) (put (lexeme (kind.Mark Semicolon) b k) v.front);
   cut = ap (λ z. lexeme kind.Name text at ∷ lexeme (kind.Mark Semicolon) b k ∷ z) (v.cut ∙ ap v.front.before (sym m.0));
-  alike = λ o t. past_value next_name next (v.moves o) (no_alike t (subst (No (kind.Mark LeftRound)) (sym m.0) n.0), no_alike t (subst (No (kind.Word KwAtom)) (sym m.0) n.1)) (misses_alike m t);
-  goes_on = λ to f. (a_mark Semicolon ∷ to, (mark_fit Semicolon, f), _, one_result next_name next (v.moves _) next);
+  alike = λ o t. past_value next_name next (v.moves o (subst (λ z. BeginAlike z o) m.0 t)) (misses_alike m t);
+  goes_on = λ to f. (a_mark Semicolon ∷ to, (mark_fit Semicolon, f), _, one_result next_name next (v.reads _) next);
 }
 
 pub result_no : {from from' at to : List Lexeme} {r : Name × SourceValue} → ResultStops from at → IsResult from' to r → from ≡ from' → ⊥
 result_no (no_result m) (one_result next_name next q next) e = m.1 _ _ _ e
 result_no (past_result next_name m) (one_result next_name next q next) e = m.1 _ _ _ (behind e)
 result_no (in_value next_name next s) (one_result next_name next q next) e = value_no s q (behind (behind e)) (λ bytes at rest f. cc, λ bytes at rest f. cc)
-result_no (past_value next_name next p n m) (one_result next_name next q next) e = m.1 _ _ _ (value_one p q (behind (behind e)) n (λ bytes at rest f. cc, λ bytes at rest f. cc)).0
+result_no (past_value next_name next p m) (one_result next_name next q next) e = m.1 _ _ _ (value_meets p q (λ bytes at rest f. cc, λ bytes at rest f. cc) (behind (behind e))).0
 
 pub body_stuck : {from at : List Lexeme} → BodyStops from at → Stuck ProcBody BodyStops IsWholeBody from at
 body_stuck (no_body m n) = record {

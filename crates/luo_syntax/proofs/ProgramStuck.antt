@@ -25,7 +25,9 @@ use Rattle.luo_syntax.proofs.OneTypes.{type_def_one, measure_one}
 use Rattle.luo_syntax.proofs.OneProgram.{proc_one, analyze_one, analyses_begin, procs_begin, measures_begin, types_begin}
 use Rattle.luo_syntax.proofs.ProcMoves.{proc_moves, analyze_moves}
 use Rattle.luo_syntax.proofs.ProcStuck.{proc_stuck, proc_no, analyze_stuck, analyze_no}
-use Rattle.luo_syntax.proofs.Stubs.{type_def_moves, type_def_stuck, type_def_no, measure_moves, measure_stuck, measure_no}
+use Rattle.luo_syntax.proofs.TypesMoves.{type_def_moves, measure_moves}
+use Rattle.luo_syntax.proofs.TypesStuck.{type_def_stuck, measure_stuck}
+use Rattle.luo_syntax.proofs.TypesNo.{type_def_no, measure_no}
 
 -- one analysis, with which a program may end
 abbrev an_analysis : List Lexeme → List Lexeme

@@ -14,14 +14,14 @@ use Rattle.luo_syntax.specs.declared.values.SourceValue.{SourceValue}
 use Rattle.luo_syntax.specs.declared.source.ProcBody.{ProcBody}
 use Rattle.luo_syntax.specs.declared.source.ProcBody.TheVariants.{Statements, Value}
 use Rattle.luo_syntax.specs.declared.source.ProcDef.{ProcDef}
-use Rattle.luo_syntax.specs.Next.{IsNext, IsNextAt, IsName, No, Misses, MissesName, EndsValue}
+use Rattle.luo_syntax.specs.Next.{IsNext, IsNextAt, IsName, No, Misses, MissesName}
 use Rattle.luo_syntax.specs.GrammarTypes.{IsTypeDef, IsMeasure}
 use Rattle.luo_syntax.specs.GrammarStatements.{IsBlock}
 use Rattle.luo_syntax.specs.GrammarValues.{IsValue}
 use Rattle.luo_syntax.specs.Grammar.{IsProc, IsAnalyze, FromProcs, FromMeasures, FromTypes, AreAnalyses}
 use Rattle.luo_syntax.specs.StopsTypes.{TypeDefStops, MeasureStops}
 use Rattle.luo_syntax.specs.StopsStatements.{BlockStops}
-use Rattle.luo_syntax.specs.StopsValues.{ValueStops}
+use Rattle.luo_syntax.specs.StopsValues.{ValueStops, WholeValue}
 
 -- "(" name ":" name ")"
 pub data IsParam : List Lexeme → List Lexeme → Name × Name → Type 0 where
@@ -44,7 +44,7 @@ pub data ResultStops : List Lexeme → List Lexeme → Type 0 where
   no_result : {from at : List Lexeme} → MissesName from at → ResultStops from at
   past_result : {from a at : List Lexeme} {name : Name} → IsName from a name → Misses (kind.Mark Semicolon) a at → ResultStops from at
   in_value : {from a b at : List Lexeme} {name : Name} → IsName from a name → IsNext (kind.Mark Semicolon) a b → ValueStops b at → ResultStops from at
-  past_value : {from a b c at : List Lexeme} {name : Name} {v : SourceValue} → IsName from a name → IsNext (kind.Mark Semicolon) a b → IsValue b c v → EndsValue c → Misses (kind.Mark Semicolon) c at → ResultStops from at
+  past_value : {from a b c at : List Lexeme} {name : Name} {v : SourceValue} → IsName from a name → IsNext (kind.Mark Semicolon) a b → WholeValue b c v → Misses (kind.Mark Semicolon) c at → ResultStops from at
 
 -- (";" block | ":" name ";" value) ";"
 pub data IsWholeBody : List Lexeme → List Lexeme → ProcBody → Type 0 where
