@@ -1,9 +1,9 @@
 -- How definitions are put together from what is read.
-use Rattle.std.proofs.Common.{◌≡◌, ℕ, ◌<◌, List, [], ◌∷◌, length, refl, ap, sym, subst, ◌∙◌, arith}
+use Rattle.std.proofs.Common.{ℕ, ◌<◌, List, length, arith}
 use Rattle.luo_scan.specs.declared.token.Word.TheVariants.{KwType, KwMeasure}
 use Rattle.luo_scan.specs.declared.token.Mark.TheVariants.{Equals, Semicolon, Colon}
 use Rattle.luo_scan.specs.declared.token.TokenKind.TheVariants as kind
-use Rattle.luo_scan.specs.Lexemes.{Lexeme, lexeme}
+use Rattle.luo_scan.specs.Lexemes.{Lexeme}
 use Rattle.luo_syntax.specs.declared.names.Name.{Name}
 use Rattle.luo_syntax.specs.declared.types.TypeExpr.{TypeExpr}
 use Rattle.luo_syntax.specs.declared.types.TypeDef.{TypeDef}

@@ -1,26 +1,22 @@
 -- How terms and definitions are put together from what is read.
-use Rattle.std.proofs.Common.{◌≡◌, ℕ, ◌<◌, ◌≤◌, ◌+◌, Option, None, Some, List, [], ◌∷◌, ◌++◌, length, append_assoc, refl, ap, sym, subst, ◌∙◌, arith}
-use Rattle.luo_scan.specs.declared.token.Word.{Word}
-use Rattle.luo_scan.specs.declared.token.Word.TheVariants.{KwEpsilon, KwAtom, KwProduct, KwType, KwMeasure}
-use Rattle.luo_scan.specs.declared.token.Mark.TheVariants.{Comma, Equals, Bar, LeftRound, RightRound, Semicolon, Colon}
+use Rattle.std.proofs.Common.{◌≡◌, ℕ, ◌<◌, ◌≤◌, Option, List, [], ◌∷◌, ◌++◌, length, append_assoc, ap, sym, subst, ◌∙◌, arith}
+use Rattle.luo_scan.specs.declared.token.Word.TheVariants.{KwEpsilon, KwAtom, KwProduct}
+use Rattle.luo_scan.specs.declared.token.Mark.TheVariants.{Comma, Bar, LeftRound, RightRound}
 use Rattle.luo_scan.specs.declared.token.TokenKind.{TokenKind}
 use Rattle.luo_scan.specs.declared.token.TokenKind.TheVariants as kind
-use Rattle.luo_scan.specs.Lexemes.{Lexeme, lexeme}
+use Rattle.luo_scan.specs.Lexemes.{Lexeme}
 use Rattle.luo_model.specs.declared.program.Kind.{Kind}
 use Rattle.luo_syntax.specs.declared.names.Name.{Name}
 use Rattle.luo_syntax.specs.declared.types.Range.{Range}
 use Rattle.luo_syntax.specs.declared.types.Bound.{Bound}
 use Rattle.luo_syntax.specs.declared.types.TypeExpr.{TypeExpr}
 use Rattle.luo_syntax.specs.declared.types.TypeExpr.TheVariants.{Named, Epsilon, Atom, Union, Product, Coll}
-use Rattle.luo_syntax.specs.declared.types.TypeDef.{TypeDef}
-use Rattle.luo_syntax.specs.declared.types.MeasureDef.{MeasureDef}
-use Rattle.luo_syntax.specs.Next.{IsNext, next, IsNextAt, next_at, IsName, next_name, No, Misses, MissesName, MissesNumber, EndsExpr}
-use Rattle.luo_syntax.specs.GrammarTypes.{AreNames, IsRange, exactly, at_most, at_least, between, EndsCollection, unbounded, bounded, IsExpr, one_term, union, AreTerms, last_term, more_terms, IsTerm, named, epsilon, atom, product, collection, AreFactors, last_factor, more_factors, IsTypeDef, type_def, IsMeasure, measure_def}
+use Rattle.luo_syntax.specs.Next.{IsNext, next, IsNextAt, next_at, IsName, next_name, No, Misses, MissesName, EndsExpr}
+use Rattle.luo_syntax.specs.GrammarTypes.{IsRange, exactly, at_most, at_least, between, EndsCollection, unbounded, bounded, IsExpr, one_term, union, AreTerms, last_term, more_terms, IsTerm, named, epsilon, atom, product, collection, AreFactors, last_factor, more_factors}
 use Rattle.luo_syntax.specs.TypeParts.{IsCollectionNext, collection_next, MissesCollection, IsWeight, weight, AreParts, parts, IsInside, inside, ReadsTerms, ReadsFactors}
 use Rattle.luo_syntax.specs.StopsTypes.{AtomStops, EndStops, TermsStop, in_term, past_bar, TermStops, no_term, in_atom, in_product, in_collection, ProductStops, product_left, product_first, product_comma, product_more, FactorsStop, in_factor, past_factor, past_comma, CollectionStops, collection_left, collection_part, collection_end}
 use Rattle.luo_syntax.proofs.Nexts.{next_past, misses_past, is_next, no_at, next_shorter, next_at_shorter, name_shorter}
-use Rattle.luo_syntax.proofs.NamesSoFar.{names_shorter}
-use Rattle.luo_syntax.proofs.TypesSteps.{next_at_past, missed}
+use Rattle.luo_syntax.proofs.TypesSteps.{next_at_past}
 
 -- what is read is shorter behind
 
@@ -117,11 +113,8 @@ reads_first next p next ps = parts p ps
 pub reads_factors : {from mid rest last to : List Lexeme} {t : TypeExpr} {ts : List TypeExpr} → IsNext (kind.Mark LeftRound) from mid → IsExpr mid rest t → IsNext (kind.Mark Comma) rest last → ReadsFactors last to t ts → AreParts from to ts
 reads_factors {from} {to} p q r (us, e, ps) = subst (AreParts from to) (sym e) (reads_first p q r ps)
 
-reads_end : {of : Kind} {k : ℕ} {from mid rest to : List Lexeme} {t : TypeExpr} {b : Option Bound} → IsNext (kind.Mark LeftRound) from mid → IsExpr mid rest t → EndsCollection rest to b → IsInside of k from to (Coll of t b k)
-reads_end next p x = inside p x
-
 pub reads_brackets : {of : Kind} {k : ℕ} {from mid rest to : List Lexeme} {t : TypeExpr} {b : Option Bound} → IsNext (kind.Mark LeftRound) from mid → IsExpr mid rest t → EndsCollection rest to b → IsInside of k from to (Coll of t b k)
-reads_brackets p q x = reads_end p q x
+reads_brackets next p x = inside p x
 
 -- unions
 
@@ -209,4 +202,4 @@ factors_more {start} {first} {t} {parts} {parts'} so p n e = record {
 pub past_factor_end : {from mid rest at : List Lexeme} {t : TypeExpr} → IsExpr from mid t → EndsExpr mid → Misses (kind.Mark RightRound) mid rest → Misses (kind.Mark Comma) rest at → FactorsStop from at
 past_factor_end p n r m = past_factor p n r.1 (misses_past r m)
 
-pub ruleset term_steps = (end_shorter, weight_shorter, expr_shorter, terms_shorter, term_shorter, collection_word_shorter, reads_epsilon, reads_atom, reads_product, reads_collection, reads_name, stops_atom, stops_product, stops_collection, stops_term, reads_factors, product_left, product_first, product_comma, product_more, reads_brackets, collection_left, collection_part, collection_end, reads_union, reads_one, ends_expr, in_term, past_bar, in_factor, past_comma, past_factor_end, terms_read_shorter, factors_read_shorter, parts_shorter, inside_shorter, terms_begin, factors_begin, terms_end, factors_end, next_shorter, next_at_shorter, name_shorter)
+pub ruleset term_steps = (end_shorter, weight_shorter, expr_shorter, terms_shorter, term_shorter, collection_word_shorter, reads_epsilon, reads_atom, reads_product, reads_collection, reads_name, stops_atom, stops_product, stops_collection, stops_term, reads_factors, product_left, product_first, product_comma, product_more, reads_brackets, collection_left, collection_part, collection_end, reads_union, reads_one, ends_expr, in_term, past_bar, in_factor, past_comma, past_factor_end, terms_read_shorter, factors_read_shorter, parts_shorter, inside_shorter, terms_begin, factors_begin, next_shorter, next_at_shorter, name_shorter)

@@ -1,7 +1,7 @@
 -- Type expressions and definitions that are read are read before other lists too.
-use Rattle.std.proofs.Common.{◌≡◌, ℕ, Option, List, [], ◌∷◌, refl, ap, sym, subst, ◌∙◌}
+use Rattle.std.proofs.Common.{Option, List, ◌∷◌, refl, ap, ◌∙◌}
 use Rattle.luo_scan.specs.declared.token.Word.TheVariants.{KwEpsilon, KwAtom, KwProduct, KwCard, KwIn, KwType, KwMeasure}
-use Rattle.luo_scan.specs.declared.token.Mark.TheVariants.{Semicolon, Comma, Equals, Bar, LeftRound, RightRound, LessEqual, GreaterEqual, Dots, Colon}
+use Rattle.luo_scan.specs.declared.token.Mark.TheVariants.{Semicolon, Comma, Equals, Bar, LeftRound, RightRound, LessEqual, GreaterEqual, Dots}
 use Rattle.luo_scan.specs.declared.token.TokenKind.TheVariants as kind
 use Rattle.luo_scan.specs.Lexemes.{Lexeme, lexeme}
 use Rattle.luo_syntax.specs.declared.types.Range.{Range}
@@ -9,8 +9,8 @@ use Rattle.luo_syntax.specs.declared.types.Bound.{Bound}
 use Rattle.luo_syntax.specs.declared.types.TypeExpr.{TypeExpr}
 use Rattle.luo_syntax.specs.declared.types.TypeDef.{TypeDef}
 use Rattle.luo_syntax.specs.declared.types.MeasureDef.{MeasureDef}
-use Rattle.luo_syntax.specs.GrammarTypes.{AreNames, IsRange, exactly, at_most, at_least, between, EndsCollection, unbounded, bounded, IsExpr, one_term, union, AreTerms, last_term, more_terms, IsTerm, named, epsilon, atom, product, collection, AreFactors, last_factor, more_factors, IsTypeDef, type_def, IsMeasure, measure_def}
-use Rattle.luo_syntax.proofs.Fronts.{Front, nothing, put, both, Moves}
+use Rattle.luo_syntax.specs.GrammarTypes.{IsRange, exactly, at_most, at_least, between, EndsCollection, unbounded, bounded, IsExpr, one_term, union, AreTerms, last_term, more_terms, IsTerm, named, epsilon, atom, product, collection, AreFactors, last_factor, more_factors, IsTypeDef, type_def, IsMeasure, measure_def}
+use Rattle.luo_syntax.proofs.Fronts.{nothing, put, both, Moves}
 use Rattle.luo_syntax.proofs.NamesMoves.{names_moves}
 
 pub range_moves : {from to : List Lexeme} {r : Range} → IsRange from to r → Moves (λ a b. IsRange a b r) from to

@@ -1,11 +1,11 @@
 -- How type expressions are put together from what comes next.
-use Rattle.std.proofs.Common.{◌≡◌, ℕ, ◌<◌, ◌≤◌, Option, None, Some, List, [], ◌∷◌, length, refl, ap, sym, subst, ◌∙◌, arith}
+use Rattle.std.proofs.Common.{◌≡◌, ℕ, None, Some, List, subst, ◌∙◌}
 use Rattle.luo_scan.specs.declared.token.Word.{Word}
-use Rattle.luo_scan.specs.declared.token.Word.TheVariants.{KwEpsilon, KwAtom, KwProduct, KwCard, KwIn, KwSequence, KwSet, KwCycle, KwMultiset, KwPowerset}
-use Rattle.luo_scan.specs.declared.token.Mark.TheVariants.{Comma, Equals, Bar, LeftRound, RightRound, LessEqual, GreaterEqual, Dots}
+use Rattle.luo_scan.specs.declared.token.Word.TheVariants.{KwCard, KwIn, KwSequence, KwSet, KwCycle, KwMultiset, KwPowerset}
+use Rattle.luo_scan.specs.declared.token.Mark.TheVariants.{Comma, Equals, LeftRound, RightRound, LessEqual, GreaterEqual, Dots}
 use Rattle.luo_scan.specs.declared.token.TokenKind.{TokenKind}
 use Rattle.luo_scan.specs.declared.token.TokenKind.TheVariants as kind
-use Rattle.luo_scan.specs.Lexemes.{Lexeme, lexeme}
+use Rattle.luo_scan.specs.Lexemes.{Lexeme}
 use Rattle.luo_model.specs.declared.program.Kind.{Kind}
 use Rattle.luo_model.specs.declared.program.Kind.TheVariants.{Sequence, Set, Cycle, Multiset, Powerset}
 use Rattle.luo_syntax.specs.declared.types.Range.{Range}

@@ -1,4 +1,4 @@
-use Rattle.std.proofs.Common.{ℕ, ◌+◌, ◌*◌, length}
+use Rattle.std.proofs.Common.{◌+◌, ◌*◌, length}
 use Rattle.luo_syntax.proofs.TermSteps.{TermsSoFar, FactorsSoFar}
 use Rattle.luo_syntax.proofs.cursor.Cursor.+types.Given as goal
 
