@@ -1,18 +1,15 @@
 -- What stops isn't read.
-use Rattle.std.proofs.Common.{◌≡◌, ℕ, List, [], ◌∷◌, refl, ap, sym, subst, ◌∙◌}
-use Rattle.luo_scan.specs.declared.token.Word.TheVariants.{KwBegin, KwEnd, KwCase, KwOf, KwForall, KwIn, KwDo, KwSkip}
-use Rattle.luo_scan.specs.declared.token.Mark.TheVariants.{Semicolon, LeftRound, RightRound, Colon}
-use Rattle.luo_scan.specs.declared.token.TokenKind.{TokenKind}
+use Rattle.std.proofs.Common.{◌≡◌, ℕ, List, ◌∷◌, refl, sym}
+use Rattle.luo_scan.specs.declared.token.Word.TheVariants.{KwBegin}
 use Rattle.luo_scan.specs.declared.token.TokenKind.TheVariants as kind
 use Rattle.luo_scan.specs.Lexemes.{Lexeme, lexeme}
 use Rattle.luo_syntax.specs.declared.names.Name.{Name}
 use Rattle.luo_syntax.specs.declared.statements.SourceArm.{SourceArm}
 use Rattle.luo_syntax.specs.declared.statements.Stmt.{Stmt}
-use Rattle.luo_syntax.specs.declared.statements.Stmt.TheVariants.{Skip, Charge, Call, Block, Case, Forall}
-use Rattle.luo_syntax.specs.Next.{IsNext, next, IsName, next_name, No, Misses, MissesName, EndsSimple, EndsPattern}
-use Rattle.luo_syntax.specs.GrammarStatements.{IsPattern, IsBlock, empty_block, full_block, AreStmts, last_stmt, more_stmts, IsStmt, simple_stmt, case_stmt, forall_stmt, IsSimple, block_stmt, skip_stmt, charge_stmt, call_stmt, AreArms, last_arm, more_arms, IsArm, one_arm}
-use Rattle.luo_syntax.specs.StopsPatterns.{PatternEnds, PatternStops}
-use Rattle.luo_syntax.specs.StopsStatements.{EndsStmt, no_call, ends_skip, ends_call, ends_block, ends_case, ends_forall, IsArg, arg, IsOver, over, ArgStops, no_arg, past_arg, OverStops, no_var, no_in, no_source, InsideStops, in_inside, StmtsStop, in_stmt, past_stmt, past_stmts, StmtStops, in_simple, in_case, in_forall, CaseStops, case_name, case_of, case_arms, ForallStops, forall_over, forall_do, forall_body, SimpleStops, no_simple, simple_inside, simple_arg, ArmsStop, in_arm, past_arm, past_arms, ArmStops, arm_pattern, arm_colon, arm_body, BlockStops, no_begin, in_block}
+use Rattle.luo_syntax.specs.declared.statements.Stmt.TheVariants.{Charge, Forall}
+use Rattle.luo_syntax.specs.Next.{next, next_name, EndsSimple}
+use Rattle.luo_syntax.specs.GrammarStatements.{IsBlock, empty_block, full_block, AreStmts, last_stmt, more_stmts, IsStmt, simple_stmt, case_stmt, forall_stmt, IsSimple, block_stmt, skip_stmt, charge_stmt, call_stmt, AreArms, last_arm, more_arms, IsArm, one_arm}
+use Rattle.luo_syntax.specs.StopsStatements.{EndsStmt, no_call, ends_skip, ends_call, ends_block, ends_case, ends_forall, IsArg, arg, IsOver, over, ArgStops, no_arg, past_arg, OverStops, no_var, no_in, no_source, InsideStops, in_inside, StmtsStop, in_stmt, past_stmt, past_stmts, StmtStops, in_simple, in_case, in_forall, case_name, case_of, case_arms, forall_over, forall_do, forall_body, SimpleStops, no_simple, simple_inside, simple_arg, ArmsStop, in_arm, past_arm, past_arms, ArmStops, arm_pattern, arm_colon, arm_body, BlockStops, no_begin, in_block}
 use Rattle.luo_syntax.proofs.Nexts.{behind}
 use Rattle.luo_syntax.proofs.PatternMoves.{pattern_no, pattern_meets}
 use Rattle.luo_syntax.proofs.OneStatements.{block_begins, simple_begins, block_one, simple_one, arms_one, pattern_one}

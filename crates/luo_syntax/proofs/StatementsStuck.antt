@@ -1,5 +1,5 @@
 -- Where statements and blocks stop, the front before can be gone on with.
-use Rattle.std.proofs.Common.{◌≡◌, ℕ, List, [], ◌∷◌, ◌++◌, refl, ap, sym, subst, ◌∙◌}
+use Rattle.std.proofs.Common.{List, [], ◌∷◌, ◌++◌, refl, ap, sym, subst, ◌∙◌}
 use Rattle.luo_scan.specs.declared.token.Word.TheVariants.{KwBegin, KwEnd, KwCase, KwOf, KwForall, KwIn, KwDo, KwSkip}
 use Rattle.luo_scan.specs.declared.token.Mark.TheVariants.{Semicolon, LeftRound, RightRound, Colon}
 use Rattle.luo_scan.specs.declared.token.TokenKind.TheVariants as kind
@@ -7,17 +7,16 @@ use Rattle.luo_scan.specs.Lexemes.{Lexeme, lexeme}
 use Rattle.luo_syntax.specs.declared.names.Name.{Name}
 use Rattle.luo_syntax.specs.declared.statements.SourceArm.{SourceArm}
 use Rattle.luo_syntax.specs.declared.statements.Stmt.{Stmt}
-use Rattle.luo_syntax.specs.declared.statements.Stmt.TheVariants.{Skip, Charge, Call, Block, Case, Forall}
-use Rattle.luo_syntax.specs.Next.{IsNext, next, IsName, next_name, No, Misses, MissesName}
+use Rattle.luo_syntax.specs.Next.{next, next_name, No}
 use Rattle.luo_syntax.specs.Viable.{AllSpelled}
-use Rattle.luo_syntax.specs.GrammarStatements.{IsPattern, pattern_named, IsBlock, empty_block, full_block, AreStmts, last_stmt, more_stmts, IsStmt, simple_stmt, case_stmt, forall_stmt, IsSimple, block_stmt, skip_stmt, charge_stmt, call_stmt, AreArms, last_arm, more_arms, IsArm, one_arm}
-use Rattle.luo_syntax.specs.StopsPatterns.{PatternEnds, PatternStops}
-use Rattle.luo_syntax.specs.StopsStatements.{EndsStmt, no_call, ends_skip, ends_call, ends_block, ends_case, ends_forall, IsInside, nothing_inside, stmts_inside, IsBehind, IsArg, arg, IsOver, over, ArgStops, no_arg, past_arg, OverStops, no_var, no_in, no_source, InsideStops, in_inside, StmtsStop, in_stmt, past_stmt, past_stmts, StmtStops, in_simple, in_case, in_forall, CaseStops, case_name, case_of, case_arms, ForallStops, forall_over, forall_do, forall_body, SimpleStops, no_simple, simple_inside, simple_arg, ArmsStop, in_arm, past_arm, past_arms, ArmStops, arm_pattern, arm_colon, arm_body, BlockStops, no_begin, in_block}
-use Rattle.luo_syntax.proofs.Fronts.{Front, nothing, put, both, Moves, BeginAlike, empty, begin, Stuck}
+use Rattle.luo_syntax.specs.GrammarStatements.{pattern_named, IsBlock, empty_block, AreStmts, last_stmt, more_stmts, IsStmt, simple_stmt, case_stmt, IsSimple, block_stmt, skip_stmt, AreArms, last_arm, more_arms, IsArm, one_arm}
+use Rattle.luo_syntax.specs.StopsPatterns.{PatternEnds}
+use Rattle.luo_syntax.specs.StopsStatements.{EndsStmt, no_call, ends_skip, ends_call, ends_block, ends_case, ends_forall, IsInside, stmts_inside, IsBehind, IsArg, arg, IsOver, over, ArgStops, no_arg, past_arg, OverStops, no_var, no_in, no_source, InsideStops, in_inside, StmtsStop, in_stmt, past_stmt, past_stmts, StmtStops, in_simple, in_case, in_forall, CaseStops, case_name, case_of, case_arms, ForallStops, forall_over, forall_do, forall_body, SimpleStops, no_simple, simple_inside, simple_arg, ArmsStop, in_arm, past_arm, past_arms, ArmStops, arm_pattern, arm_colon, arm_body, BlockStops, no_begin, in_block}
+use Rattle.luo_syntax.proofs.Fronts.{Front, nothing, put, both, Moves, BeginAlike, begin, Stuck}
 use Rattle.luo_syntax.proofs.Nexts.{no_at, no_alike, misses_alike}
 use Rattle.luo_syntax.proofs.Spelled.{a_name, a_mark, a_word, name_fit, mark_fit, word_fit}
 use Rattle.luo_syntax.proofs.PatternMoves.{pattern_moves, pattern_stuck, pattern_ends_alike}
-use Rattle.luo_syntax.proofs.StatementsMoves.{block_moves, stmts_moves, stmt_moves, simple_moves, arms_moves, arm_moves}
+use Rattle.luo_syntax.proofs.StatementsMoves.{stmt_moves, arm_moves}
 use Rattle.luo_syntax.proofs.StatementsSteps.{block_of, call_of, forall_of}
 
 list_alike : (f : List Lexeme) {a b : List Lexeme} → BeginAlike a b → BeginAlike (f ++ a) (f ++ b)
