@@ -4,7 +4,7 @@ use Rattle.luo_scan.specs.declared.token.TokenKind.{TokenKind}
 use Rattle.luo_scan.specs.declared.token.TokenKind.TheVariants as kind
 use Rattle.luo_scan.specs.Lexemes.{Lexeme, lexeme}
 use Rattle.luo_syntax.specs.declared.names.Name.{Name}
-use Rattle.luo_syntax.specs.Next.{IsNext, next, IsNextAt, next_at, IsName, next_name, No, NoName, NoNumber, Misses, MissesName, MissesNumber, TakesAt, TakesKind, TakesNumber, TakesAnyNumber}
+use Rattle.luo_syntax.specs.Next.{IsNext, next, IsNextAt, next_at, IsName, next_name, No, NoName, NoNumber, Misses, MissesName, MissesNumber, TakesAt, TakesKind, TakesNumber, TakesAnyNumber, first_kind}
 use Rattle.luo_syntax.proofs.Fronts.{BeginAlike, empty, begin}
 
 -- what comes next where another kind was missed
@@ -72,4 +72,8 @@ pub taken_number : (from to : List Lexeme) (r : Option (ℕ × ℕ)) → TakesAn
 taken_number from to (Some (n, at)) e = next_at_is e
 taken_number from to None m = m
 
-pub ruleset nexts = (next_at_is, next_is, name_is, taken_at, taken_number)
+pub seen : {what : TokenKind} (ls : List Lexeme) → first_kind ls ≡ Some what → (rest : List Lexeme) × IsNext what ls rest
+seen [] e = cc
+seen {what} (lexeme that bytes at ∷ ls) e = let f : that ≡ what = cc in (ls, subst (λ z. IsNext z (lexeme that bytes at ∷ ls) ls) f next)
+
+pub ruleset nexts = (next_at_is, next_is, name_is, taken_at, taken_number, seen)

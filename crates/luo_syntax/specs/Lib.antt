@@ -6,3 +6,9 @@ pub mod Next
 pub mod Viable
 pub mod Laws
 pub mod StopsNames
+pub mod StopsProgram
+pub mod TypeParts
+pub mod StopsTypes
+pub mod StopsPatterns
+pub mod StopsStatements
+pub mod StopsValues

@@ -75,6 +75,11 @@ abbrev pub TakesAt : TokenKind → List Lexeme → List Lexeme → Option ℕ �
 TakesAt what from to (Some at) = IsNextAt what at from to
 TakesAt what from to None = Misses what from to
 
+-- a lexeme of this kind comes next, or doesn't
+abbrev pub Sees : TokenKind → List Lexeme → Bool → Type 0
+Sees what ls true = (rest : List Lexeme) × IsNext what ls rest
+Sees what ls false = No what ls
+
 -- nothing is left, or something is
 abbrev pub Ends : List Lexeme → Bool → Type 0
 Ends ls true = ls ≡ []
@@ -99,3 +104,13 @@ TakesKind what from to None = Misses what from to
 abbrev pub TakesAnyNumber : List Lexeme → List Lexeme → Option (ℕ × ℕ) → Type 0
 TakesAnyNumber from to (Some (n, at)) = from ≡ lexeme (kind.Number n) (first_bytes from) at ∷ to
 TakesAnyNumber from to None = MissesNumber from to
+
+-- what the first lexeme is
+abbrev pub first_kind : List Lexeme → Option TokenKind
+first_kind [] = None
+first_kind (lexeme what bytes at ∷ ls) = Some what
+
+-- what comes next, said by an equation
+abbrev pub SeesKind : TokenKind → List Lexeme → Bool → Type 0
+SeesKind what ls true = first_kind ls ≡ Some what
+SeesKind what ls false = No what ls

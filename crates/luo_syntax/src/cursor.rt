@@ -5,7 +5,7 @@ ghost use Rattle.std.specs.Prelude.{◌≡◌, ◌∷◌, List, length, IfOk, If
 ghost use Rattle.luo_scan.specs.declared.token.TokenKind.TheVariants as kind;
 ghost use Rattle.luo_scan.specs.Faults.{AllInside};
 ghost use Rattle.luo_scan.specs.Lexemes.{Lexeme, lexeme, lexemes};
-ghost use Rattle.luo_syntax.specs.Next.{IsNext, IsNextAt, IsName, Misses, MissesName, MissesNumber, OnStop, Takes, TakesAt, TakesNumber, TakesKind, TakesAnyNumber, Ends};
+ghost use Rattle.luo_syntax.specs.Next.{IsNext, IsNextAt, IsName, Misses, MissesName, MissesNumber, OnStop, Takes, TakesAt, TakesNumber, TakesKind, TakesAnyNumber, Sees, SeesKind, Ends};
 
 use crate::fault::Fault;
 use crate::names::Name;
@@ -64,6 +64,18 @@ impl<'t> Cursor<'t> {
         self.left.len()
     }
 
+    /// A lexeme of this kind comes next.
+    fn sees_kind(&self, wanted: TokenKind) -> bool
+        ensures { SeesKind wanted self.now result }
+    {
+        if let [first, ..] = self.left {
+            if first.kind == wanted {
+                return true;
+            }
+        }
+        false
+    }
+
     /// Takes a lexeme of this kind, if one comes next, and answers its number.
     fn take_kind(&mut self, wanted: TokenKind) -> Option<usize>
         ensures { TakesKind wanted self.old self.new result }
@@ -107,6 +119,17 @@ impl<'t> Cursor<'t> {
             }
         }
         Err(Fault::Stops)
+    }
+
+    /// This word comes next.
+    #[tactic(auto, using(crate::proofs::Nexts::nexts))]
+    pub fn sees_word(&self, wanted: Word) -> bool
+        ensures { Sees (kind.Word wanted) self.now result }
+    {
+        if self.sees_kind(TokenKind::Word(wanted)) {
+            return true;
+        }
+        false
     }
 
     /// Takes this word, if it comes next, and answers its number.
