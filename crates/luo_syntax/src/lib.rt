@@ -8,9 +8,9 @@ mod laws;
 mod name_list;
 mod names;
 mod parsing;
+mod patterns_reader;
 mod procedures;
 mod program_reader;
-mod patterns_reader;
 mod source;
 mod statements;
 mod statements_reader;
@@ -29,3 +29,6 @@ pub use source::{ProcBody, ProcDef, Source};
 pub use statements::{Pattern, SourceArm, Stmt};
 pub use types::{Bound, MeasureDef, Range, TypeDef, TypeExpr};
 pub use values::{SourceValue, SourceValueArm};
+
+#[cfg(test)]
+mod tests;
