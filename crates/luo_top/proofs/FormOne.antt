@@ -2,7 +2,6 @@
 use Rattle.std.proofs.Common.{◌≡◌, ℕ, List, [], ◌∷◌, ◌∙◌, sym, ap, refl, subst}
 use Rattle.std.specs.List.{AllZip}
 use mathlib.Core.Former.{Count}
-use Rattle.luo_syntax.specs.declared.names.Name.{Name}
 use Rattle.luo_syntax.specs.declared.types.TypeExpr.{TypeExpr, Union', Product', Row_of-TypeExpr, end_of-TypeExpr, items-the_row-TypeExpr, items_hidden-the_row-TypeExpr-0}
 use Rattle.luo_syntax.specs.declared.types.TypeExpr.TheVariants as expr
 use Rattle.luo_syntax.specs.declared.types.TypeDef.{TypeDef}

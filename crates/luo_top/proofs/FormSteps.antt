@@ -1,5 +1,5 @@
 -- Steps of finding what a source says as that of a first text.
-use Rattle.std.proofs.Common.{◌≡◌, ℕ, ◌+◌, ◌<◌, ◌≤◌, List, [], ◌∷◌, length, get_or, take, Result, Ok, Err, IfOk, IfErr, IsErrAnd, refl, sym, ap, ◌∙◌, subst, arith}
+use Rattle.std.proofs.Common.{◌≡◌, ℕ, ◌<◌, ◌≤◌, List, [], ◌∷◌, length, get_or, Result, Ok, Err, IfOk, IfErr, IsErrAnd, refl, sym, ap, ◌∙◌, subst, arith}
 use Rattle.std.proofs.lemmas.Result.{err_from_is_err_and}
 use Rattle.std.specs.List.{AllZip}
 use Rattle.luo_syntax.specs.declared.types.TypeExpr.{TypeExpr}
@@ -10,7 +10,7 @@ use Rattle.luo_top.specs.declared.first.source.NotFirst.{NotFirst}
 use Rattle.luo_top.specs.declared.first.source.Term.{Term}
 use Rattle.luo_top.specs.declared.first.source.Term.TheVariants.{Product}
 use Rattle.luo_top.specs.declared.first.source.Procedure.{Procedure}
-use Rattle.luo_top.specs.FirstForm.{IsNameForm, IsTermForm, a_product, IsRightForm, one_term, a_union, IsProcedureForm, IsFirstForm, HasNoFirstForm}
+use Rattle.luo_top.specs.FirstForm.{IsNameForm, IsTermForm, a_product, IsRightForm, one_term, a_union, IsProcedureForm, HasNoFirstForm}
 use Rattle.luo_top.specs.FirstSteps.{OnNoFirst}
 use Rattle.luo_top.proofs.ListFacts.{zip_stop}
 

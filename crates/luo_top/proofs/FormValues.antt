@@ -1,5 +1,5 @@
 -- The values of measures of a source, as those of a first text, and within the limit of numbers.
-use Rattle.std.proofs.Common.{◌≡◌, ℕ, ◌≤◌, ◌^◌, Option, List, [], ◌∷◌, sym, subst}
+use Rattle.std.proofs.Common.{ℕ, ◌≤◌, ◌^◌, Option, List, [], ◌∷◌, sym, subst}
 use Rattle.std.specs.List.{AllZip, AllByRecursion}
 use Rattle.luo_scan.specs.declared.token.Token.{Token}
 use Rattle.luo_scan.specs.declared.token.Mark.{Mark}

@@ -1,4 +1,4 @@
-use Rattle.luo_top.specs.FirstForm.{a_name, an_epsilon, an_atom, a_product}
+use Rattle.luo_top.specs.FirstForm.{a_name, an_epsilon, an_atom}
 use Rattle.luo_top.proofs.FormSteps.{product_is}
 use Rattle.luo_top.proofs.first.form.term.Goals as goal
 
