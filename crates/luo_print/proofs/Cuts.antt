@@ -1,6 +1,5 @@
 -- Texts that are put together, cut into the lexemes of their parts.
-use Rattle.std.proofs.Common.{◌≡◌, ◌≤◌, ◌<◌, ◌+◌, ◌-◌, ◌^◌, ℕ, zero, suc, List, [], ◌∷◌, ◌++◌, length, take, drop, refl, ap, sym, ◌∙◌, subst, inl, inr, arith, append_assoc, Option, None, Some, codes}
-use Rattle.std.specs.List.{AllByRecursion}
+use Rattle.std.proofs.Common.{◌≡◌, ◌+◌, ◌-◌, ℕ, zero, suc, List, [], ◌∷◌, ◌++◌, length, take, drop, refl, ap, sym, ◌∙◌, subst, inl, inr, arith, append_assoc, Option, None, Some}
 use Rattle.std.proofs.Math.Seq.{take-append_seam, drop-append_seam}
 use Rattle.std.proofs.lemmas.List.{drop-drop}
 use Rattle.luo_scan.specs.declared.token.Word.{Word}
@@ -36,18 +35,21 @@ cut_end = record { cut = λ at. ([], at_end, λ whole k e. refl) }
 pub cut_gap : (b : ℕ) (rest : List ℕ) (from : ℕ → List Lexeme) → IsSeparator b → Cut rest from → Cut (b ∷ rest) from
 cut_gap b rest from s c = record {
   cut = λ at.
-    let r = c.cut (at + length (b ∷ [])) in
-    (r.0, skipped (b ∷ []) rest (begins_separator b rest s) r.1, λ whole k e. r.2 whole k (behind whole at (b ∷ rest) (b ∷ []) rest None e (begins_separator b rest s)));
+      let r = c.cut (at + length (b ∷ [])) in
+      (r.0, skipped (b ∷ []) rest (begins_separator b rest s) r.1, λ whole k e. r.2 whole k (behind whole at (b ∷ rest) (b ∷ []) rest None e (begins_separator b rest s)));
 }
 
 pub cut_token : (text piece rest : List ℕ) (what : TokenKind) (from : ℕ → List Lexeme) → Begins text piece rest (Some what) → IsWithin piece what → Cut rest from → Cut text (λ k. lexeme what piece k ∷ from (k + 1))
 cut_token text piece rest what from b w c = record {
   cut = λ at.
-    let r = c.cut (at + length piece) in
-    (record { kind = what; start = at; end = at + length piece } ∷ r.0, taken piece rest what b w r.1, λ whole k e.
-      let p = bytes_of whole at text piece rest (Some what) e b in
-      let q = r.2 whole (k + 1) (behind whole at text piece rest (Some what) e b) in
-      ap (λ z. lexeme what z k ∷ lexemes_from (k + 1) whole r.0) p ∙ ap (λ z. lexeme what piece k ∷ z) q);
+      let r = c.cut (at + length piece) in (
+        record { kind = what; start = at; end = at + length piece } ∷ r.0,
+        taken piece rest what b w r.1,
+        λ whole k e.
+            let p = bytes_of whole at text piece rest (Some what) e b in
+            let q = r.2 whole (k + 1) (behind whole at text piece rest (Some what) e b) in
+            ap (λ z. lexeme what z k ∷ lexemes_from (k + 1) whole r.0) p ∙ ap (λ z. lexeme what piece k ∷ z) q,
+      );
 }
 
 -- what follows doesn't begin with a byte of a name
@@ -69,9 +71,9 @@ Then P Q from to = (mid : List Lexeme) × P from mid × Q mid to
 pub seq : {C D : List ℕ → Type 0} {a b : List ℕ} {P Q : List Lexeme → List Lexeme → Type 0} → Reads C a P → Reads D b Q → ((rest : List ℕ) → D rest → C (b ++ rest)) → Reads D (a ++ b) (Then P Q)
 seq {a = a} {b = b} r s h = record {
   read = λ rest more d c.
-    let y = s.read rest more d c in
-    let x = r.read (b ++ rest) y.0 (h rest d) y.1 in
-    (x.0, subst (λ t. Cut t x.0) (sym (append_assoc a b rest)) x.1, λ k. let i = x.2 k in let j = y.2 i.0 in (j.0, (y.0 i.0, i.1, j.1)));
+      let y = s.read rest more d c in
+      let x = r.read (b ++ rest) y.0 (h rest d) y.1 in
+      (x.0, subst (λ t. Cut t x.0) (sym (append_assoc a b rest)) x.1, λ k. let i = x.2 k in let j = y.2 i.0 in (j.0, (y.0 i.0, i.1, j.1)));
 }
 
 -- behind what anything may follow
@@ -93,8 +95,8 @@ gap_before {a = a} b s r = record { read = λ rest more q c. let x = r.read rest
 pub gap_behind : {C : List ℕ → Type 0} {a : List ℕ} {P : List Lexeme → List Lexeme → Type 0} (b : ℕ) → IsSeparator b → ((rest : List ℕ) → C (b ∷ rest)) → Reads C a P → Reads Any (a ++ b ∷ []) P
 gap_behind {a = a} b s h r = record {
   read = λ rest more q c.
-    let x = r.read (b ∷ rest) more (h rest) (cut_gap b rest more s c) in
-    (x.0, subst (λ t. Cut t x.0) (sym (append_assoc a (b ∷ []) rest)) x.1, x.2);
+      let x = r.read (b ∷ rest) more (h rest) (cut_gap b rest more s c) in
+      (x.0, subst (λ t. Cut t x.0) (sym (append_assoc a (b ∷ []) rest)) x.1, x.2);
 }
 
 -- a lexeme of this kind and these bytes comes next

@@ -1,5 +1,5 @@
 -- The words and marks of canonical texts, with the spaces around them.
-use Rattle.std.proofs.Common.{◌≡◌, ℕ, List, [], ◌∷◌, ◌++◌, refl, codes, arith}
+use Rattle.std.proofs.Common.{ℕ, List, [], ◌∷◌, refl, codes, arith}
 use Rattle.luo_scan.specs.declared.token.Word.{Word}
 use Rattle.luo_scan.specs.declared.token.Word.TheVariants.{KwLabelled, KwUnlabelled, KwType, KwEpsilon, KwAtom, KwProduct, KwCard, KwIn, KwMeasure, KwProcedure, KwAnalyze, KwBegin, KwEnd, KwCase, KwOf, KwForall, KwDo, KwSkip, KwAs}
 use Rattle.luo_scan.specs.declared.token.Mark.{Mark}
@@ -7,7 +7,7 @@ use Rattle.luo_scan.specs.declared.token.Mark.TheVariants.{Semicolon, Comma, Equ
 use Rattle.luo_scan.specs.declared.token.TokenKind.TheVariants as kind
 use Rattle.luo_scan.specs.Lexemes.{Lexeme}
 use Rattle.luo_scan.specs.Spellings.{spelling, sign}
-use Rattle.luo_print.proofs.Cuts.{Quiet, Any, Reads, Then, Takes, seq, next, quietly, mark_reads, word_reads, spaced, lined, space_before, quiet_space, quiet_line}
+use Rattle.luo_print.proofs.Cuts.{Quiet, Any, Reads, Then, Takes, seq, next, mark_reads, word_reads, spaced, lined, space_before, quiet_space}
 
 -- this word comes next
 abbrev pub TakesWord : Word → List Lexeme → List Lexeme → Type 0

@@ -1,12 +1,12 @@
 -- The texts of procedures and whole sources read back.
-use Rattle.std.proofs.Common.{◌≡◌, ℕ, List, [], ◌∷◌, ◌++◌, refl, ap, sym, ◌∙◌, subst, append_assoc, flat_map, codes}
+use Rattle.std.proofs.Common.{◌≡◌, ℕ, List, [], ◌∷◌, ◌++◌, refl, sym, ◌∙◌, subst, append_assoc, flat_map}
 use Rattle.std.specs.List.{AllZip}
 use Rattle.std.proofs.lemmas.List.{append-nil}
 use Rattle.luo_scan.specs.declared.token.Token.{Token}
 use Rattle.luo_scan.specs.declared.token.Word.TheVariants.{KwLabelled, KwUnlabelled, KwProcedure, KwAnalyze}
 use Rattle.luo_scan.specs.declared.token.Mark.TheVariants.{Semicolon, LeftRound, RightRound, Colon}
 use Rattle.luo_scan.specs.declared.token.TokenKind.TheVariants as kind
-use Rattle.luo_scan.specs.Lexemes.{Lexeme, lexeme, lexemes_from}
+use Rattle.luo_scan.specs.Lexemes.{Lexeme, lexemes_from}
 use Rattle.luo_scan.specs.Tokens.{Tokens}
 use Rattle.luo_scan.proofs.Inside.{lexemes_fit}
 use Rattle.luo_model.specs.declared.program.Universe.TheVariants.{Unlabelled, Labelled}

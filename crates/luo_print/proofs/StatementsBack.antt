@@ -15,10 +15,10 @@ use Rattle.luo_syntax.specs.declared.statements.Stmt.{Stmt}
 use Rattle.luo_syntax.specs.declared.statements.Stmt.TheVariants.{Skip, Charge, Call, Block, Case, Forall}
 use Rattle.luo_syntax.specs.GrammarStatements.{IsPattern, pattern_named, pattern_whole, pattern_named_parts, pattern_parts, pattern_any, pattern_any_whole, IsBlock, empty_block, full_block, AreStmts, last_stmt, more_stmts, IsStmt, simple_stmt, case_stmt, forall_stmt, IsSimple, block_stmt, skip_stmt, charge_stmt, call_stmt, AreArms, last_arm, more_arms, IsArm, one_arm}
 use Rattle.luo_print.specs.Layout.{name_list, new_line}
-use Rattle.luo_print.specs.CanonicalStatements.{pattern_text, call_text, stmt_text, stmt_line, arm_text, arm_line}
+use Rattle.luo_print.specs.CanonicalStatements.{pattern_text, call_text, stmt_text, stmt_line, arm_line}
 use Rattle.luo_print.specs.Same.{SameNames, SamePattern, SameStmt, SameStmts, SameArms, same_skip, same_charge, same_call, same_block, same_case, same_forall, no_stmts, no_arms}
 use Rattle.luo_print.specs.Same as same
-use Rattle.luo_print.proofs.Cuts.{Quiet, Any, Reads, Then, Takes, takes, seq, next, read_as, read_text, quietly, name_reads, line_before, quiet_space, quiet_line}
+use Rattle.luo_print.proofs.Cuts.{Quiet, Reads, Then, Takes, takes, seq, next, read_as, read_text, quietly, name_reads, line_before, quiet_space, quiet_line}
 use Rattle.luo_print.proofs.Literals as lit
 use Rattle.luo_print.proofs.Literals.{TakesWord, TakesMark}
 use Rattle.luo_print.proofs.StatementTexts.{block_text, block_lines, case_text, case_lines, forall_text}
@@ -154,9 +154,11 @@ mutual
       → AllFit to × Reads Quiet (codes "begin" ++ join_by (stmt_line (n + 2)) (codes ";") ss ++ new_line n ++ codes "end") (BlockAs ss)
   block_back n empty_block f = (f.1.1, read_as (seq lit.begin_word (end_reads n) (λ rest d. quiet_line [])) empty_step)
   block_back n (full_block {stmts = ss} d) f =
-      let r = stmts_back (n + 2) n d f.1 in
-      (r.0, read_text (ap (λ z. codes "begin" ++ z) (sym (append_assoc (join_by (stmt_line (n + 2)) (codes ";") ss) (new_line n) (codes "end"))))
-        (read_as (seq lit.begin_word r.1 (λ rest e. quiet_stmts (n + 2) d (new_line n ++ codes "end") rest)) (full_step ss)))
+      let r = stmts_back (n + 2) n d f.1 in (
+        r.0,
+        read_text (ap (λ z. codes "begin" ++ z) (sym (append_assoc (join_by (stmt_line (n + 2)) (codes ";") ss) (new_line n) (codes "end"))))
+            (read_as (seq lit.begin_word r.1 (λ rest e. quiet_stmts (n + 2) d (new_line n ++ codes "end") rest)) (full_step ss)),
+      )
 
   stmts_back : (m n : ℕ) {from to : List Lexeme} {ss : List Stmt} → AreStmts from to ss → AllFit from → AllFit to × Reads Quiet (join_by (stmt_line m) (codes ";") ss ++ (new_line n ++ codes "end")) (StmtsAs ss)
   stmts_back m n (last_stmt {stmt = s} p) f =
@@ -164,21 +166,27 @@ mutual
       (r.0.1, read_text (ap (λ z. z ++ (new_line n ++ codes "end")) (sym (append-nil (stmt_line m s)))) (read_as (seq (line_before m r.1) (end_reads n) (λ rest d. quiet_line [])) (last_step s)))
   stmts_back m n (more_stmts {stmt = s} {stmts = ss} p ps) f =
       let r = stmt_back m p f in
-      let t = stmts_back m n ps r.0.1 in
-      (t.0, read_text (sym (append_assoc (stmt_line m s) (flat_map (λ s. codes ";" ++ stmt_line m s) ss) (new_line n ++ codes "end") ∙ ap (λ z. stmt_line m s ++ (z ++ (new_line n ++ codes "end"))) (stmts_tail m ps)))
-        (read_as (seq (line_before m r.1) (next lit.semicolon t.1) (λ rest d. quiet_semicolon [])) (more_step s ss)))
+      let t = stmts_back m n ps r.0.1 in (
+        t.0,
+        read_text (sym (append_assoc (stmt_line m s) (flat_map (λ s. codes ";" ++ stmt_line m s) ss) (new_line n ++ codes "end") ∙ ap (λ z. stmt_line m s ++ (z ++ (new_line n ++ codes "end"))) (stmts_tail m ps)))
+            (read_as (seq (line_before m r.1) (next lit.semicolon t.1) (λ rest d. quiet_semicolon [])) (more_step s ss)),
+      )
 
   stmt_back : (n : ℕ) {from to : List Lexeme} {s : Stmt} → IsStmt from to s → AllFit from → AllFit to × Reads Quiet (stmt_text n s) (StmtAs s)
   stmt_back n (simple_stmt {stmt = s} p) f = let r = simple_back n p f in (r.0, read_as r.1 (simple_step s))
   stmt_back n (case_stmt {text = var} {at = at} {arms = arms} d) f =
       let r = arms_back (n + 2) n d f.1.1.1 in
-      let head = codes "case " ++ var ++ codes " of" in
-      (r.0, read_text (sym (case_text n (record { text = var; at = at }) arms ∙ case_lines n (record { text = var; at = at }) arms ∙ append_assoc (head ++ join_by (arm_line (n + 2)) (codes ";") arms) (new_line n) (codes "end") ∙ append_assoc head (join_by (arm_line (n + 2)) (codes ";") arms) (new_line n ++ codes "end")))
-        (read_as (seq (case_head var at f.1.0) r.1 (λ rest e. quiet_arms (n + 2) d (new_line n ++ codes "end") rest)) (case_step var at arms)))
+      let head = codes "case " ++ var ++ codes " of" in (
+        r.0,
+        read_text (sym (case_text n (record { text = var; at = at }) arms ∙ case_lines n (record { text = var; at = at }) arms ∙ append_assoc (head ++ join_by (arm_line (n + 2)) (codes ";") arms) (new_line n) (codes "end") ∙ append_assoc head (join_by (arm_line (n + 2)) (codes ";") arms) (new_line n ++ codes "end")))
+            (read_as (seq (case_head var at f.1.0) r.1 (λ rest e. quiet_arms (n + 2) d (new_line n ++ codes "end") rest)) (case_step var at arms)),
+      )
   stmt_back n (forall_stmt {text = var} {source = source} {at = at} {source_at = k} {body = s} p) f =
-      let r = simple_back n p f.1.1.1.1.1 in
-      (r.0, read_text (sym (forall_text n (record { text = var; at = at }) (record { text = source; at = k }) s))
-        (read_as (next (seq (next (seq (next lit.forall_word (name_reads var at f.1.0)) lit.in_between (λ rest d. quiet_space [])) (name_reads source k f.1.1.1.0)) lit.do_word (λ rest d. quiet_space [])) r.1) (forall_step var source at k s)))
+      let r = simple_back n p f.1.1.1.1.1 in (
+        r.0,
+        read_text (sym (forall_text n (record { text = var; at = at }) (record { text = source; at = k }) s))
+            (read_as (next (seq (next (seq (next lit.forall_word (name_reads var at f.1.0)) lit.in_between (λ rest d. quiet_space [])) (name_reads source k f.1.1.1.0)) lit.do_word (λ rest d. quiet_space [])) r.1) (forall_step var source at k s)),
+      )
 
   simple_back : (n : ℕ) {from to : List Lexeme} {s : Stmt} → IsSimple from to s → AllFit from → AllFit to × Reads Quiet (stmt_text n s) (SimpleAs s)
   simple_back n (block_stmt {stmts = ss} d) f = let r = block_back n d f in (r.0, read_text (sym (block_text n ss ∙ block_lines n ss)) (read_as r.1 (block_step ss)))
@@ -192,9 +200,11 @@ mutual
       (r.0.1, read_text (ap (λ z. z ++ (new_line n ++ codes "end")) (sym (append-nil (arm_line m a)))) (read_as (seq r.1 (end_reads n) (λ rest d. quiet_line [])) (last_arm_step a)))
   arms_back m n (more_arms {arm = a} {arms = arms} p ps) f =
       let r = arm_back m p f in
-      let t = arms_back m n ps r.0.1 in
-      (t.0, read_text (sym (append_assoc (arm_line m a) (flat_map (λ a. codes ";" ++ arm_line m a) arms) (new_line n ++ codes "end") ∙ ap (λ z. arm_line m a ++ (z ++ (new_line n ++ codes "end"))) (arms_tail m ps)))
-        (read_as (seq r.1 (next lit.semicolon t.1) (λ rest d. quiet_semicolon [])) (more_arms_step a arms)))
+      let t = arms_back m n ps r.0.1 in (
+        t.0,
+        read_text (sym (append_assoc (arm_line m a) (flat_map (λ a. codes ";" ++ arm_line m a) arms) (new_line n ++ codes "end") ∙ ap (λ z. arm_line m a ++ (z ++ (new_line n ++ codes "end"))) (arms_tail m ps)))
+            (read_as (seq r.1 (next lit.semicolon t.1) (λ rest d. quiet_semicolon [])) (more_arms_step a arms)),
+      )
 
   arm_back : (m : ℕ) {from to : List Lexeme} {a : SourceArm} → IsArm from to a → AllFit from → AllFit to × Reads Quiet (arm_line m a) (ArmAs a)
   arm_back m (one_arm {p = p} {body = s} d i) f =

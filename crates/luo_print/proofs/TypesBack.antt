@@ -1,5 +1,5 @@
 -- The texts of names, bounds, type expressions, definitions and measures read back.
-use Rattle.std.proofs.Common.{◌≡◌, ◌≤◌, ◌^◌, ℕ, List, [], ◌∷◌, ◌++◌, refl, ap, sym, ◌∙◌, arith, append_assoc, flat_map, Option, None, Some, codes, decimal}
+use Rattle.std.proofs.Common.{◌≡◌, ℕ, List, [], ◌∷◌, ◌++◌, refl, ap, sym, ◌∙◌, arith, append_assoc, flat_map, Option, None, Some, codes, decimal}
 use Rattle.std.specs.List.{AllByRecursion, join_by}
 use Rattle.std.proofs.lemmas.List.{append-nil}
 use Rattle.luo_scan.specs.declared.token.Word.{Word}
@@ -8,7 +8,7 @@ use Rattle.luo_scan.specs.declared.token.Mark.{Mark}
 use Rattle.luo_scan.specs.declared.token.Mark.TheVariants.{Semicolon, Comma, Equals, Bar, LeftRound, RightRound, LessEqual, GreaterEqual, Dots, Colon}
 use Rattle.luo_scan.specs.declared.token.TokenKind.TheVariants as kind
 use Rattle.luo_scan.specs.Laws.{IsFit}
-use Rattle.luo_scan.specs.Lexemes.{Lexeme, lexeme}
+use Rattle.luo_scan.specs.Lexemes.{Lexeme}
 use Rattle.luo_model.specs.declared.program.Kind.{Kind}
 use Rattle.luo_syntax.specs.declared.names.Name.{Name}
 use Rattle.luo_syntax.specs.declared.types.Range.{Range}
@@ -63,9 +63,11 @@ pub names_back : {close : Mark} {from to : List Lexeme} {ns : List Name} → Are
 names_back (last_name {close = close} {text = text} {at = at}) c bytes r q f =
     (f.1.1, read_text (ap (λ t. t ++ c) (sym (append-nil text))) (read_as (seq (name_reads text at f.0) r (λ rest d. q rest)) (one_name close bytes text at)))
 names_back (more_names {close = close} {text = text} {at = at} {names = ns} d) c bytes r q f =
-    let rest = names_back d c bytes r q f.1.1 in
-    (rest.0, read_text (sym (append_assoc text (flat_map (λ n. codes ", " ++ n.text) ns) c ∙ ap (λ t. text ++ (t ++ c)) (names_tail d)))
-      (read_as (seq (name_reads text at f.0) (next lit.comma rest.1) (λ more d. quiet_comma [])) (name_more close ns text at)))
+    let rest = names_back d c bytes r q f.1.1 in (
+      rest.0,
+      read_text (sym (append_assoc text (flat_map (λ n. codes ", " ++ n.text) ns) c ∙ ap (λ t. text ++ (t ++ c)) (names_tail d)))
+          (read_as (seq (name_reads text at f.0) (next lit.comma rest.1) (λ more d. quiet_comma [])) (name_more close ns text at)),
+    )
 
 -- bounds
 
@@ -191,15 +193,19 @@ mutual
       (f.1.1.1.1, quietly (read_as (seq (next lit.atom_round (number_reads w f.1.1.0.1)) lit.closing_round (λ rest d. quiet_close [])) (atom_step w weight_at at)))
   term_back (product {at = at} {t = t} {ts = ts} p ps) f =
       let r = expr_back p f.1.1 in
-      let s = factors_back ps r.0.1 in
-      (s.0, quietly (read_text
-        (sym (product_text (t ∷ ts) at ∙ ap (λ z. codes "product(" ++ z) (append_assoc (expr_text t) (flat_map (λ e. codes ", " ++ expr_text e) ts) (codes ")") ∙ ap (λ z. expr_text t ++ (z ++ codes ")")) (factors_tail ps))))
-        (read_as (next lit.product_round (seq r.1 (next lit.comma s.1) (λ rest d. quiet_comma []))) (product_step t ts at))))
+      let s = factors_back ps r.0.1 in (
+        s.0,
+        quietly (read_text
+            (sym (product_text (t ∷ ts) at ∙ ap (λ z. codes "product(" ++ z) (append_assoc (expr_text t) (flat_map (λ e. codes ", " ++ expr_text e) ts) (codes ")") ∙ ap (λ z. expr_text t ++ (z ++ codes ")")) (factors_tail ps))))
+            (read_as (next lit.product_round (seq r.1 (next lit.comma s.1) (λ rest d. quiet_comma []))) (product_step t ts at))),
+      )
   term_back (collection {of = of} {at = at} {t = t} {bound = bound} c p e) f =
       let r = expr_back p f.1.1 in
-      let s = ends_back e r.0 in
-      (s.0, quietly (read_text (sym (coll_text of t bound at ∙ append_assoc (kind_text of ++ codes "(" ++ expr_text t) (bound_text bound) (codes ")")))
-        (read_as (seq (next (kind_reads c) r.1) s.1 (λ rest d. quiet_bound bound rest)) (collection_step t bound at c))))
+      let s = ends_back e r.0 in (
+        s.0,
+        quietly (read_text (sym (coll_text of t bound at ∙ append_assoc (kind_text of ++ codes "(" ++ expr_text t) (bound_text bound) (codes ")")))
+            (read_as (seq (next (kind_reads c) r.1) s.1 (λ rest d. quiet_bound bound rest)) (collection_step t bound at c))),
+      )
 
   factors_back : {from to : List Lexeme} {ts : List TypeExpr} → AreFactors from to ts → AllFit from → AllFit to × Reads Any (join_by expr_text (codes ", ") ts ++ codes ")") (FactorsAs ts)
   factors_back (last_factor {t = t} p) f =
@@ -207,9 +213,11 @@ mutual
       (r.0.1, read_text (ap (λ z. z ++ codes ")") (sym (append-nil (expr_text t)))) (read_as (seq r.1 lit.closing_round (λ rest d. quiet_close [])) (last_factor_step t)))
   factors_back (more_factors {t = t} {ts = ts} p ps) f =
       let r = expr_back p f in
-      let s = factors_back ps r.0.1 in
-      (s.0, read_text (sym (append_assoc (expr_text t) (flat_map (λ e. codes ", " ++ expr_text e) ts) (codes ")") ∙ ap (λ z. expr_text t ++ (z ++ codes ")")) (factors_tail ps)))
-        (read_as (seq r.1 (next lit.comma s.1) (λ rest d. quiet_comma [])) (more_factors_step t ts)))
+      let s = factors_back ps r.0.1 in (
+        s.0,
+        read_text (sym (append_assoc (expr_text t) (flat_map (λ e. codes ", " ++ expr_text e) ts) (codes ")") ∙ ap (λ z. expr_text t ++ (z ++ codes ")")) (factors_tail ps)))
+            (read_as (seq r.1 (next lit.comma s.1) (λ rest d. quiet_comma [])) (more_factors_step t ts)),
+      )
 
 -- definitions and measures
 

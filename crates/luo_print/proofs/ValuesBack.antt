@@ -1,19 +1,18 @@
 -- The texts of values read back.
-use Rattle.std.proofs.Common.{◌≡◌, ◌≤◌, ◌^◌, ℕ, ◌+◌, List, [], ◌∷◌, ◌++◌, refl, ap, sym, ◌∙◌, append_assoc, flat_map, Option, None, Some, codes, decimal}
+use Rattle.std.proofs.Common.{◌≡◌, ℕ, ◌+◌, List, [], ◌∷◌, ◌++◌, refl, ap, sym, ◌∙◌, append_assoc, flat_map, None, Some, codes, decimal}
 use Rattle.std.specs.List.{join_by}
 use Rattle.std.proofs.lemmas.List.{append-nil}
 use Rattle.luo_scan.specs.declared.token.Word.TheVariants.{KwAtom, KwProduct, KwCase, KwOf, KwEnd}
 use Rattle.luo_scan.specs.declared.token.Mark.TheVariants.{Semicolon, Comma, LeftRound, RightRound, Colon}
 use Rattle.luo_scan.specs.declared.token.TokenKind.TheVariants as kind
-use Rattle.luo_scan.specs.Lexemes.{Lexeme, lexeme}
-use Rattle.luo_syntax.specs.declared.names.Name.{Name}
+use Rattle.luo_scan.specs.Lexemes.{Lexeme}
 use Rattle.luo_syntax.specs.declared.statements.Pattern.{Pattern}
 use Rattle.luo_syntax.specs.declared.values.SourceValue.{SourceValue}
 use Rattle.luo_syntax.specs.declared.values.SourceValue.TheVariants.{Given, Made, Atom, Tuple, Branch, Case}
 use Rattle.luo_syntax.specs.declared.values.SourceValueArm.{SourceValueArm}
 use Rattle.luo_syntax.specs.GrammarValues.{IsValue, branch_value, inner_value, IsBranch, branch, IsInner, given, made, free_atom, charged_atom, bracketed, tuple, case_value, AreParts, last_part, more_parts, AreValueArms, last_value_arm, more_value_arms, IsValueArm, one_value_arm}
 use Rattle.luo_print.specs.Layout.{new_line}
-use Rattle.luo_print.specs.CanonicalValues.{opening, closing, value_text, value_arm_text, value_arm_line}
+use Rattle.luo_print.specs.CanonicalValues.{opening, closing, value_text, value_arm_line}
 use Rattle.luo_print.specs.Same.{SamePattern, SameValue, SameValues, SameValueArms, same_given, same_made, same_atom_value, same_tuple, same_branch, same_chosen, no_values, more_values, no_value_arms}
 use Rattle.luo_print.specs.Same as same
 use Rattle.luo_print.proofs.Cuts.{Quiet, Any, Reads, Then, Takes, takes, seq, next, read_as, read_text, quietly, name_reads, line_before, spaced, quiet_space, quiet_line}
@@ -133,20 +132,29 @@ mutual
   inner_back n (free_atom {at = at}) f = (f.1, both n _ refl refl (read_as lit.atom_word (free_step at)))
   inner_back n (charged_atom {text = text} {name_at = k} {at = at}) f = (f.1.1, both n _ refl refl (read_as (next (spaced quiet_space (name_reads text k f.0)) lit.atom_word) (charged_step text k at)))
   inner_back n (bracketed {v = v} p) f =
-      let r = branch_back n p f.1 in
-      (r.0.1, (read_as r.1 (branch_step v), read_text (sym (ap (λ o. o ++ value_text n v ++ closing v) (opening_branch p) ∙ ap (λ c. codes "(" ++ value_text n v ++ c) (closing_branch p)))
-        (quietly (read_as (seq (next lit.opening_round r.1) lit.closing_round (λ rest d. quiet_close [])) (bracketed_step v)))))
+      let r = branch_back n p f.1 in (
+        r.0.1,
+        (
+          read_as r.1 (branch_step v),
+          read_text (sym (ap (λ o. o ++ value_text n v ++ closing v) (opening_branch p) ∙ ap (λ c. codes "(" ++ value_text n v ++ c) (closing_branch p)))
+              (quietly (read_as (seq (next lit.opening_round r.1) lit.closing_round (λ rest d. quiet_close [])) (bracketed_step v))),
+        ),
+      )
   inner_back n (tuple {at = at} {v = v} {vs = vs} p ps) f =
       let r = value_back n p f.1.1 in
-      let s = parts_back n ps r.0.1 in
-      (s.0, both n _ refl refl (quietly (read_text
-        (sym (tuple_text n (v ∷ vs) at ∙ ap (λ z. codes "product(" ++ z) (append_assoc (value_text n v) (flat_map (λ v. codes ", " ++ value_text n v) vs) (codes ")") ∙ ap (λ z. value_text n v ++ (z ++ codes ")")) (parts_tail n ps))))
-        (read_as (next lit.product_round (seq r.1 (next lit.comma s.1) (λ rest d. quiet_comma []))) (tuple_step v vs at)))))
+      let s = parts_back n ps r.0.1 in (
+        s.0,
+        both n _ refl refl (quietly (read_text
+            (sym (tuple_text n (v ∷ vs) at ∙ ap (λ z. codes "product(" ++ z) (append_assoc (value_text n v) (flat_map (λ v. codes ", " ++ value_text n v) vs) (codes ")") ∙ ap (λ z. value_text n v ++ (z ++ codes ")")) (parts_tail n ps))))
+            (read_as (next lit.product_round (seq r.1 (next lit.comma s.1) (λ rest d. quiet_comma []))) (tuple_step v vs at)))),
+      )
   inner_back n (case_value {text = var} {at = at} {arms = arms} d) f =
       let r = arms_back (n + 2) n d f.1.1.1 in
-      let head = codes "case " ++ var ++ codes " of" in
-      (r.0, both n _ refl refl (read_text (sym (case_text n (record { text = var; at = at }) arms ∙ case_lines n (record { text = var; at = at }) arms ∙ append_assoc (head ++ join_by (value_arm_line (n + 2)) (codes ";") arms) (new_line n) (codes "end") ∙ append_assoc head (join_by (value_arm_line (n + 2)) (codes ";") arms) (new_line n ++ codes "end")))
-        (read_as (seq (case_head var at f.1.0) r.1 (λ rest e. quiet_arms (n + 2) d (new_line n ++ codes "end") rest)) (case_step var at arms))))
+      let head = codes "case " ++ var ++ codes " of" in (
+        r.0,
+        both n _ refl refl (read_text (sym (case_text n (record { text = var; at = at }) arms ∙ case_lines n (record { text = var; at = at }) arms ∙ append_assoc (head ++ join_by (value_arm_line (n + 2)) (codes ";") arms) (new_line n) (codes "end") ∙ append_assoc head (join_by (value_arm_line (n + 2)) (codes ";") arms) (new_line n ++ codes "end")))
+            (read_as (seq (case_head var at f.1.0) r.1 (λ rest e. quiet_arms (n + 2) d (new_line n ++ codes "end") rest)) (case_step var at arms))),
+      )
 
   parts_back : (n : ℕ) {from to : List Lexeme} {vs : List SourceValue} → AreParts from to vs → AllFit from → AllFit to × Reads Any (join_by (value_text n) (codes ", ") vs ++ codes ")") (PartsAs vs)
   parts_back n (last_part {v = v} p) f =
@@ -154,9 +162,11 @@ mutual
       (r.0.1, read_text (ap (λ z. z ++ codes ")") (sym (append-nil (value_text n v)))) (read_as (seq r.1 lit.closing_round (λ rest d. quiet_close [])) (last_part_step v)))
   parts_back n (more_parts {v = v} {vs = vs} p ps) f =
       let r = value_back n p f in
-      let s = parts_back n ps r.0.1 in
-      (s.0, read_text (sym (append_assoc (value_text n v) (flat_map (λ v. codes ", " ++ value_text n v) vs) (codes ")") ∙ ap (λ z. value_text n v ++ (z ++ codes ")")) (parts_tail n ps)))
-        (read_as (seq r.1 (next lit.comma s.1) (λ rest d. quiet_comma [])) (more_parts_step v vs)))
+      let s = parts_back n ps r.0.1 in (
+        s.0,
+        read_text (sym (append_assoc (value_text n v) (flat_map (λ v. codes ", " ++ value_text n v) vs) (codes ")") ∙ ap (λ z. value_text n v ++ (z ++ codes ")")) (parts_tail n ps)))
+            (read_as (seq r.1 (next lit.comma s.1) (λ rest d. quiet_comma [])) (more_parts_step v vs)),
+      )
 
   arms_back : (m n : ℕ) {from to : List Lexeme} {arms : List SourceValueArm} → AreValueArms from to arms → AllFit from → AllFit to × Reads Quiet (join_by (value_arm_line m) (codes ";") arms ++ (new_line n ++ codes "end")) (ArmsAs arms)
   arms_back m n (last_value_arm {arm = a} p) f =
@@ -164,9 +174,11 @@ mutual
       (r.0.1, read_text (ap (λ z. z ++ (new_line n ++ codes "end")) (sym (append-nil (value_arm_line m a)))) (read_as (seq r.1 (end_reads n) (λ rest d. quiet_line [])) (last_arm_step a)))
   arms_back m n (more_value_arms {arm = a} {arms = arms} p ps) f =
       let r = arm_back m p f in
-      let t = arms_back m n ps r.0.1 in
-      (t.0, read_text (sym (append_assoc (value_arm_line m a) (flat_map (λ a. codes ";" ++ value_arm_line m a) arms) (new_line n ++ codes "end") ∙ ap (λ z. value_arm_line m a ++ (z ++ (new_line n ++ codes "end"))) (arms_tail m ps)))
-        (read_as (seq r.1 (next lit.semicolon t.1) (λ rest d. quiet_semicolon [])) (more_arms_step a arms)))
+      let t = arms_back m n ps r.0.1 in (
+        t.0,
+        read_text (sym (append_assoc (value_arm_line m a) (flat_map (λ a. codes ";" ++ value_arm_line m a) arms) (new_line n ++ codes "end") ∙ ap (λ z. value_arm_line m a ++ (z ++ (new_line n ++ codes "end"))) (arms_tail m ps)))
+            (read_as (seq r.1 (next lit.semicolon t.1) (λ rest d. quiet_semicolon [])) (more_arms_step a arms)),
+      )
 
   arm_back : (m : ℕ) {from to : List Lexeme} {a : SourceValueArm} → IsValueArm from to a → AllFit from → AllFit to × Reads Quiet (value_arm_line m a) (ArmAs a)
   arm_back m (one_value_arm {p = p} {v = v} d i) f =

@@ -3,7 +3,6 @@ use Rattle.std.specs.Prelude.{◌≡◌, ℕ, List, [], ◌∷◌, Option, None,
 use Rattle.std.specs.List.{AllZip}
 use Rattle.luo_model.specs.declared.program.Kind.{Kind}
 use Rattle.luo_syntax.specs.declared.names.Name.{Name}
-use Rattle.luo_syntax.specs.declared.types.Range.{Range}
 use Rattle.luo_syntax.specs.declared.types.Bound.{Bound}
 use Rattle.luo_syntax.specs.declared.types.TypeExpr.{TypeExpr}
 use Rattle.luo_syntax.specs.declared.types.TypeExpr.TheVariants as expr
