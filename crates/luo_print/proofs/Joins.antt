@@ -1,5 +1,5 @@
 -- Spaces, and texts put together.
-use Rattle.std.proofs.Common.{◌≡◌, ℕ, ◌+◌, List, [], ◌∷◌, ◌++◌, refl, ap, ◌∙◌, sym, map, flat_map, zero, suc, add-one, codes}
+use Rattle.std.proofs.Common.{◌≡◌, ℕ, ◌+◌, List, [], ◌∷◌, ◌++◌, refl, ap, map, flat_map, zero, suc, add-one, codes}
 use Rattle.std.specs.List.{join_by}
 use Rattle.luo_print.specs.Layout.{spaces, joined, new_line, lines}
 

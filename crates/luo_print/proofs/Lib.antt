@@ -2,3 +2,10 @@ pub mod Joins
 pub mod TypeTexts
 pub mod StatementTexts
 pub mod ValueTexts
+pub mod Cuts
+pub mod Numerals
+pub mod Literals
+pub mod TypesBack
+pub mod StatementsBack
+pub mod ValuesBack
+pub mod SourceBack

@@ -1,5 +1,5 @@
 -- The texts of type expressions in a list and in a box.
-use Rattle.std.proofs.Common.{◌≡◌, ℕ, List, [], ◌∷◌, ◌++◌, refl, ap, ◌∙◌, sym, map, codes, Option}
+use Rattle.std.proofs.Common.{◌≡◌, ℕ, List, ◌∷◌, ◌++◌, refl, ap, ◌∙◌, sym, map, codes, Option}
 use Rattle.std.specs.List.{join_by}
 use mathlib.Core.Former.{Count}
 use denote.Hole.Carrier.{hidden}

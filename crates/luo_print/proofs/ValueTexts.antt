@@ -1,5 +1,5 @@
 -- The texts of values and arms in a list and in a box.
-use Rattle.std.proofs.Common.{◌≡◌, ℕ, ◌+◌, List, [], ◌∷◌, ◌++◌, refl, ap, ◌∙◌, sym, map, codes, decimal}
+use Rattle.std.proofs.Common.{◌≡◌, ℕ, ◌+◌, List, ◌∷◌, ◌++◌, refl, ap, ◌∙◌, sym, map, codes, decimal}
 use Rattle.std.specs.List.{join_by}
 use mathlib.Core.Former.{Count}
 use denote.Hole.Carrier.{hidden}

@@ -1,5 +1,5 @@
 -- Pieces of text, and how they are put together.
-use Rattle.std.specs.Prelude.{ℕ, List, [], ◌∷◌, ◌++◌, codes}
+use Rattle.std.specs.Prelude.{ℕ, List, ◌++◌, codes}
 use Rattle.std.specs.List.{join_by, repeat}
 use Rattle.luo_syntax.specs.declared.names.Name.{Name}
 

@@ -3,3 +3,5 @@ pub mod CanonicalTypes
 pub mod CanonicalStatements
 pub mod CanonicalValues
 pub mod Canonical
+pub mod Same
+pub mod Laws

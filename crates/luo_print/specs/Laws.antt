@@ -1,0 +1,13 @@
+-- What holds of canonical texts.
+use Rattle.std.specs.Prelude.{ℕ, List}
+use Rattle.luo_scan.specs.declared.token.Token.{Token}
+use Rattle.luo_scan.specs.Tokens.{Tokens}
+use Rattle.luo_syntax.specs.declared.source.Source.{Source}
+use Rattle.luo_syntax.specs.Grammar.{Derives}
+use Rattle.luo_print.specs.Canonical.{canonical}
+use Rattle.luo_print.specs.Same.{SameSource}
+
+-- where a text has a source, the tokens of its canonical text derive the same source but for places
+abbrev pub ReadsBack : Type 0
+ReadsBack = (text : List ℕ) (tokens : List Token) (source : Source) → Tokens text tokens → Derives text tokens source
+    → (again : List Token) × (read : Source) × Tokens (canonical source) again × Derives (canonical source) again read × SameSource source read
