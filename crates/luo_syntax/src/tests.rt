@@ -13,13 +13,19 @@ fn fault_of(alloc: Global, text: &[u8]) -> Result<Option<SyntaxError>, ScanError
     Ok(parse(alloc, text, &tokens).err())
 }
 
-/// A procedure in which this many blocks lie in one another, and an analysis.
-fn nested(alloc: Global, depth: usize) -> Result<Vec<u8>, AllocError> {
+/// A procedure in which this many blocks are open.
+fn begun(alloc: Global, depth: usize) -> Result<Vec<u8>, AllocError> {
     let mut text = Vec::new(alloc);
     text.extend_from_slice(b"procedure p(x : t);")?;
     for _ in 0..depth {
         text.extend_from_slice(b" begin")?;
     }
+    Ok(text)
+}
+
+/// A procedure in which this many blocks lie in one another, and an analysis.
+fn nested(alloc: Global, depth: usize) -> Result<Vec<u8>, AllocError> {
+    let mut text = begun(alloc, depth)?;
     for _ in 0..depth {
         text.extend_from_slice(b" end")?;
     }
@@ -76,18 +82,16 @@ fn thirty_two_may_be_open(rt: HostRuntime) -> Result<(), Fail> {
     let alloc = rt.alloc();
     let deepest = nested(alloc, 32)?;
     let deeper = nested(alloc, 33)?;
+    let cut = begun(alloc, 32)?;
     assert_eq!(rt; fault_of(alloc, &deepest)?, None);
     assert_eq!(rt;
         fault_of(alloc, &deeper)?,
         Some(SyntaxError::Depth { token: 40 })
     );
-    if deepest.len() > 211 {
-        let cut = &deepest[..211];
-        assert_eq!(rt;
-            fault_of(alloc, cut)?,
-            Some(SyntaxError::Grammar { token: 40 })
-        );
-    }
+    assert_eq!(rt;
+        fault_of(alloc, &cut)?,
+        Some(SyntaxError::Grammar { token: 40 })
+    );
     Ok(())
 }
 
