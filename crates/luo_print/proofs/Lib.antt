@@ -9,3 +9,4 @@ pub mod TypesBack
 pub mod StatementsBack
 pub mod ValuesBack
 pub mod SourceBack
+pub mod SameTexts

@@ -1,5 +1,5 @@
 -- What holds of canonical texts.
-use Rattle.std.specs.Prelude.{ℕ, List}
+use Rattle.std.specs.Prelude.{◌≡◌, ℕ, List}
 use Rattle.luo_scan.specs.declared.token.Token.{Token}
 use Rattle.luo_scan.specs.Tokens.{Tokens}
 use Rattle.luo_syntax.specs.declared.source.Source.{Source}
@@ -11,3 +11,12 @@ use Rattle.luo_print.specs.Same.{SameSource}
 abbrev pub ReadsBack : Type 0
 ReadsBack = (text : List ℕ) (tokens : List Token) (source : Source) → Tokens text tokens → Derives text tokens source
     → (again : List Token) × (read : Source) × Tokens (canonical source) again × Derives (canonical source) again read × SameSource source read
+
+-- sources that differ at most in their places have one canonical text
+abbrev pub SameText : Type 0
+SameText = (s t : Source) → SameSource s t → canonical s ≡ canonical t
+
+-- where a text has a source, the canonical text has a source too, and its canonical text is itself
+abbrev pub FormatsOnce : Type 0
+FormatsOnce = (text : List ℕ) (tokens : List Token) (source : Source) → Tokens text tokens → Derives text tokens source
+    → (again : List Token) × (read : Source) × Tokens (canonical source) again × Derives (canonical source) again read × (canonical read ≡ canonical source)
