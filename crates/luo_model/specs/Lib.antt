@@ -6,6 +6,8 @@ pub mod Structures
 pub mod Charges
 pub mod Tables
 pub mod View
+pub mod Scopes
+pub mod Invariant
 pub mod Examples
 pub mod FactsCounts
 pub mod FactsMembers

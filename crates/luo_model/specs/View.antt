@@ -1,5 +1,5 @@
 -- The program of the code as plain data.
-use Rattle.std.specs.Prelude.{List, [], ◌∷◌, map}
+use Rattle.std.specs.Prelude.{ℕ, List, [], ◌∷◌, map}
 use Rattle.std.specs.Option.{option_map}
 use Rattle.luo_model.specs.declared.body.Body.{Body}
 use Rattle.luo_model.specs.declared.body.Item.{Item, Call, Case', Forall', Row_of-Item, end_of-Item, more_of-Item, Row_of-Arm, end_of-Arm, more_of-Arm}
@@ -7,7 +7,10 @@ use Rattle.luo_model.specs.declared.value.Made.{Made}
 use Rattle.luo_model.specs.declared.value.Value.{Value, Row_of-Value, end_of-Value, more_of-Value, Row_of-ValueArm, end_of-ValueArm, more_of-ValueArm}
 use Rattle.luo_model.specs.declared.value.Value as made
 use Rattle.luo_model.specs.declared.program.Proc.{Proc}
-use Rattle.luo_model.specs.declared.program.Program.{Program}
+use Rattle.luo_model.specs.declared.program.Universe.{Universe}
+use Rattle.luo_model.specs.declared.program.Def.{Def}
+use Rattle.luo_model.specs.declared.program.Node.{Node}
+use Rattle.luo_model.specs.declared.program.Site.{Site}
 use Rattle.luo_model.specs.Program as plain
 
 abbrev mutual
@@ -59,6 +62,15 @@ result_of m = record { on = m.on; value = value_of m.value }
 abbrev pub procedure_of : Proc → plain.Procedure
 procedure_of P = record { name = P.name; on = P.on; body = body_of P.body; site = P.site; result = option_map result_of P.result }
 
+-- a program as the code holds it
+pub record Held : Type 0 where
+  pub universe : Universe
+  pub defs : List Def
+  pub nodes : List Node
+  pub procs : List Proc
+  pub sites : List Site
+  pub analyses : List ℕ
+
 -- the program as plain data
-abbrev pub plain_of : Program → plain.Program
+abbrev pub plain_of : Held → plain.Program
 plain_of p = record { universe = p.universe; defs = p.defs; nodes = p.nodes; procs = map procedure_of p.procs; sites = p.sites; analyses = p.analyses }

@@ -6,8 +6,6 @@ pub mod laws;
 mod program;
 mod shared;
 mod table;
-#[cfg(test)]
-mod tests;
 mod value;
 
 pub use body::{Arm, Bind, Body, Item};

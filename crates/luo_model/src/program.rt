@@ -1,6 +1,7 @@
 // The checked program.
 use crate::{Body, Made};
 use luo_num::{Items, Text};
+use std::marker::Model;
 
 /// Whether structures carry labels.
 #[derive(Clone, Copy, Debug, PartialEq, Eq)]
@@ -93,4 +94,20 @@ pub struct Program {
     pub sites: Items<Site>,
     /// The procedures of the analyze lines.
     pub analyses: Items<usize>,
+}
+
+impl Model for Program {
+    ghost use Rattle.luo_model.specs.View.{Held, plain_of};
+    ghost use Rattle.luo_model.specs.Invariant.{IsProgram};
+    ghost use Rattle.luo_model.specs.contracts.body.Item as done;
+    ghost use Rattle.luo_model.specs.contracts.value.Value as made;
+    ghost use Rattle.std.specs.Coded.{codes};
+
+    ghost Value = { Held };
+
+    ghost coded = { Prim.hlevel (codes, done.the_row.coded, made.the_row.coded) };
+
+    ghost view = { λ p. record { universe = p.universe; defs = p.defs; nodes = p.nodes; procs = p.procs; sites = p.sites; analyses = p.analyses } };
+
+    ghost invariant = { λ p. IsProgram (plain_of (record { universe = p.universe; defs = p.defs; nodes = p.nodes; procs = p.procs; sites = p.sites; analyses = p.analyses })) };
 }
