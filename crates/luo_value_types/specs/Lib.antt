@@ -4,3 +4,4 @@ pub mod Settings
 pub mod Patterns
 pub mod ValueBreaches
 pub mod ValueCore
+pub mod Statements
