@@ -1,7 +1,7 @@
 // What the names of a program stand for, and the variables of a scope.
-ghost use Rattle.std.specs.Prelude.{◌≡◌, [], IfSome, IfNone};
+ghost use Rattle.std.specs.Prelude.{◌≡◌, [], IfSome, IfNone, slice_index_or};
 ghost use Rattle.luo_model.specs.declared.program.Shape.TheVariants.{Union};
-ghost use Rattle.luo_value_types.specs.Settings.{meant, def_node, node_meant, type_node, part_meant, signature_meant, shape_at};
+ghost use Rattle.luo_value_types.specs.Settings.{meant, def_node, node_meant, type_node, part_meant, no_signature, signature_meant, shape_at};
 
 use crate::names::{Meaning, Names};
 use luo_model::{Def, Node, Part, Shape, Universe};
@@ -84,19 +84,29 @@ impl Setting {
         }
     }
 
+    // The signature of this procedure, which says nothing where there is no such procedure.
+    fn signature(&self, procedure: usize) -> Signature
+        ensures { result ≡ slice_index_or self.now.signatures procedure no_signature }
+    {
+        match self.signatures.get(procedure) {
+            Some(there) => *there,
+            None => Signature {
+                on: None,
+                result: None,
+            },
+        }
+    }
+
     /// The signature of a procedure, by the meaning of its name. It says nothing where that is none of a procedure.
     pub fn signature_meant(&self, meaning: Option<Meaning>) -> Signature
         ensures { result ≡ signature_meant self.now meaning }
     {
-        let unknown = Signature {
-            on: None,
-            result: None,
-        };
         match meaning {
-            Some(Meaning::Procedure(procedure)) => {
-                self.signatures.get(procedure).copied().unwrap_or(unknown)
-            }
-            _ => unknown,
+            Some(Meaning::Procedure(procedure)) => self.signature(procedure),
+            _ => Signature {
+                on: None,
+                result: None,
+            },
         }
     }
 
