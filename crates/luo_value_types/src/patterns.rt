@@ -223,6 +223,7 @@ fn variables(alloc: Global, names: &[Name], parts: &[Part]) -> Result<Items<Vari
     Ok(made)
 }
 
+#[tactic(auto, using(crate::proofs::PatternLemmas::no_variables))]
 // Variables of these names, for the factors of a product.
 fn shape_variables(alloc: Global, names: &[Name], shape: &Shape) -> Result<Items<Variable>, AllocError>
     ensures { IfOk result (λ vs. vs ≡ spec.variables names.now (factors shape.now)) }
@@ -233,6 +234,7 @@ fn shape_variables(alloc: Global, names: &[Name], shape: &Shape) -> Result<Items
     }
 }
 
+#[tactic(auto, using(crate::proofs::PatternLemmas::no_variables))]
 // Variables of these names, for the factors of the node.
 fn factor_variables(
     alloc: Global,
