@@ -1,5 +1,5 @@
 -- Where a check over several parts stops.
-use Rattle.std.proofs.Common.{◌≡◌, ℕ, Bool, true, false, List, [], ◌∷◌, ◌++◌, Option, Some, None, length, nat_eq, refl, sym, ◌∙◌, ap, subst}
+use Rattle.std.proofs.Common.{◌≡◌, ℕ, true, List, [], ◌++◌, Option, Some, None, length, nat_eq, refl, sym, ◌∙◌, ap, subst}
 use Rattle.luo_syntax.specs.declared.names.Name.{Name}
 use Rattle.luo_syntax.specs.declared.statements.Pattern.{Pattern}
 use Rattle.luo_model.specs.Scopes.{Stand}
