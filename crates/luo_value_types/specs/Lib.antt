@@ -4,3 +4,6 @@ pub mod Settings
 pub mod Patterns
 pub mod ValueBreaches
 pub mod ValueCore
+pub mod Statements
+pub mod ValueMade
+pub mod ValueLists

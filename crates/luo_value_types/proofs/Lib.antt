@@ -1,0 +1,4 @@
+pub mod Joins
+pub mod ValueForms
+pub mod CoreForms
+pub mod ValueRoom
