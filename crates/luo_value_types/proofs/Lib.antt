@@ -7,3 +7,5 @@ pub mod NameLemmas
 pub mod SettingLemmas
 pub mod StopLemmas
 pub mod PatternLemmas
+pub mod BranchLemmas
+pub mod ValuesSoFar
