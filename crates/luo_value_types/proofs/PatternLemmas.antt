@@ -1,5 +1,5 @@
 -- Where the check of a pattern stops.
-use Rattle.std.proofs.Common.{◌≡◌, ◌++◌, true, false, [], refl, sym, ◌∙◌, ap, subst}
+use Rattle.std.proofs.Common.{◌≡◌, ◌++◌, true, false, List, [], ◌∷◌, refl, sym, ◌∙◌, ap, subst}
 use Rattle.luo_syntax.specs.declared.names.Name.{Name}
 use Rattle.luo_syntax.specs.declared.statements.Pattern.{Pattern}
 use Rattle.luo_model.specs.Scopes.{Stand}
@@ -7,8 +7,8 @@ use Rattle.luo_value_types.specs.declared.rule.Rule.TheVariants.{Y11}
 use Rattle.luo_value_types.specs.declared.rule.Stop.{Stop}
 use Rattle.luo_value_types.specs.declared.setting.Setting.{Setting}
 use Rattle.luo_value_types.specs.Breaches.{broken, StopsAt}
-use Rattle.luo_value_types.specs.Patterns.{fits, first_token, pattern_type_use, factor_names, repeated, misfit, pattern_breaches}
-use Rattle.luo_value_types.proofs.StopLemmas.{StopsAt-left, StopsAt-right, StopsAt-first, StopsAt-then, none-append, none-or_if_none}
+use Rattle.luo_value_types.specs.Patterns.{fits, first_token, pattern_type_use, factor_names, repeated, misfit, pattern_breaches, variables}
+use Rattle.luo_value_types.proofs.StopLemmas.{StopsAt-left, StopsAt-first, StopsAt-then, none-or_if_none}
 
 module _ (s : Setting) (stand : Stand) (var : Name) (pattern : Pattern) where
   pub type_stops : (at : Stop) → StopsAt (pattern_type_use s pattern) at → StopsAt (pattern_breaches s stand var pattern) at
@@ -27,3 +27,10 @@ module _ (s : Setting) (stand : Stand) (var : Name) (pattern : Pattern) where
   pattern_none e f g = no_misfit e f ∙ g
 
 pub ruleset pattern_steps = (type_stops, misfit_stops, repeats_stop, pattern_none)
+
+-- no nodes, no variables
+pub variables-none : (names : List Name) → variables names [] ≡ []
+variables-none [] = refl
+variables-none (name ∷ names) = refl
+
+pub ruleset no_variables = (variables-none)
