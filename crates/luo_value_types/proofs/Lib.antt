@@ -9,3 +9,5 @@ pub mod StopLemmas
 pub mod PatternLemmas
 pub mod BranchLemmas
 pub mod ValuesSoFar
+pub mod ArmsSoFar
+pub mod ValueSteps
