@@ -11,3 +11,4 @@ pub mod BranchLemmas
 pub mod ValuesSoFar
 pub mod ArmsSoFar
 pub mod ValueSteps
+pub mod StatementLemmas
