@@ -50,25 +50,17 @@ pub fn value(
             Ok(Value::Given(place))
         }
         SourceValue::Made { callee, arg } => {
-            let made = call(alloc, setting, scope, expected, callee, arg, body, next)?;
-            Ok(made)
+            call(alloc, setting, scope, expected, callee, arg, body, next)
         }
-        SourceValue::Atom { charge, at } => {
-            let made = atom(alloc, setting, expected, charge, *at, body)?;
-            Ok(made)
-        }
+        SourceValue::Atom { charge, at } => atom(alloc, setting, expected, charge, *at, body),
         SourceValue::Tuple { parts, at } => {
-            let made = tuple(alloc, setting, scope, expected, parts.as_slice(), *at, body, next)?;
-            Ok(made)
+            tuple(alloc, setting, scope, expected, parts.as_slice(), *at, body, next)
         }
         SourceValue::Branch { number, at, inner } => {
-            let made =
-                branch(alloc, setting, scope, expected, *number, *at, inner.get(), body, next)?;
-            Ok(made)
+            branch(alloc, setting, scope, expected, *number, *at, inner.get(), body, next)
         }
         SourceValue::Case { var, arms } => {
-            let made = case(alloc, setting, scope, expected, var, arms.as_slice(), body, next)?;
-            Ok(made)
+            case(alloc, setting, scope, expected, var, arms.as_slice(), body, next)
         }
     }
 }

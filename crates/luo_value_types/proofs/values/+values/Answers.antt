@@ -11,7 +11,7 @@ use Rattle.luo_value_types.specs.ValueLists.{parts_breaches, arms_breaches}
 use Rattle.luo_value_types.proofs.ArmsSoFar.{arms_start, arms_stop, arm_room, arms_more, arms_end, arm_made, arm_stops_pattern, arm_stops_body}
 use Rattle.luo_value_types.proofs.ListFacts.{drop-slice_get}
 use Rattle.luo_value_types.proofs.ValuesSoFar.{drop_at, parts_start, parts_stop, part_room, parts_more, parts_end}
-use Rattle.luo_value_types.proofs.ValueSteps.{handed, made_along, stops_along, case_next_small, given_made, tuple_stops, tuple_misplaced, tuple_made, branch_stops, branch_misplaced, branch_made, branch_small, case_each, case_variable_stops, case_stops, case_made, tuple_room, branch_room, case_room, case_room_inside}
+use Rattle.luo_value_types.proofs.ValueSteps.{handed, atom_ok, atom_stops, case_next_small, given_made, tuple_stops, tuple_misplaced, tuple_made, branch_stops, branch_misplaced, branch_made, branch_small, case_each, case_variable_stops, case_stops, case_made, tuple_room, branch_room, case_room, case_room_inside}
 use Rattle.luo_value_types.proofs.values.+values.Goals as goal
 
 abbrev no_part : Part
@@ -22,9 +22,13 @@ pub value-returns-in_ok-place-in-Given-clause-ok :
 value-returns-in_ok-place-in-Given-clause-ok t c =
     given_made c.args.setting.now c.args.scope.now c.args.expected c.args.value.now _ c.in_ok-place-in-Given.place c.args.body.now c.args.next.now c.in-Given.is c.in_ok-place-in-Given.ensures.unbroken c.in_ok-place-in-Given.ensures.place
 
-pub value-returns-in_ok-made-in-Atom-clause-ok : goal.value-returns-in_ok-made-in-Atom-clause-ok
-value-returns-in_ok-made-in-Atom-clause-ok t c =
-    made_along c.args.setting.now c.args.scope.now (Some c.args.expected) c.args.value.now _ c.in_ok-made-in-Atom.made c.args.body.now _ c.args.next.now c.args.next.now c.in-Atom.is (c.in_ok-made-in-Atom.ensures.ok c.args.scope.now c.args.next.now)
+pub value-returns-in-Atom-clause-ok : goal.value-returns-in-Atom-clause-ok
+value-returns-in-Atom-clause-ok t c =
+    atom_ok c.args.setting.now c.args.scope.now c.args.expected c.args.value.now _ _ c.atom.result c.args.body.now c.atom.new.body c.args.next.now c.in-Atom.is c.atom.ensures.ok
+
+pub value-returns-in-Atom-clause-stops : goal.value-returns-in-Atom-clause-stops
+value-returns-in-Atom-clause-stops t c =
+    atom_stops c.args.setting.now c.args.scope.now c.args.expected c.args.value.now _ _ c.atom.result c.in-Atom.is c.atom.ensures.stops
 
 pub all_parts-loop-i-init : goal.all_parts-loop-i-init
 all_parts-loop-i-init t c =
@@ -101,12 +105,6 @@ tuple-returns-in_ok-made-in-Some-clause-ok t c =
 pub tuple-returns-in-None-clause-stops : goal.tuple-returns-in-None-clause-stops
 tuple-returns-in-None-clause-stops t c =
     tuple_misplaced c.args.setting.now c.args.scope.now c.args.expected c.args.parts.now c.args.at c.breach.result c.in-None.ensures.other c.breach.ensures
-
-pub value-returns-in_err-made-in-Atom-clause-stops :
-    goal.value-returns-in_err-made-in-Atom-clause-stops
-value-returns-in_err-made-in-Atom-clause-stops t c =
-    handed c.from_residual-in_err-made-in-Atom.result _ (λ s. StopsAt (value_breaches c.args.setting.now c.args.scope.now (Some c.args.expected) c.args.value.now) s) c.from_residual-in_err-made-in-Atom.ensures.1
-    (stops_along c.args.setting.now c.args.scope.now (Some c.args.expected) c.args.value.now _ _ c.in-Atom.is (c.in_err-made-in-Atom.ensures.stops c.args.scope.now))
 
 pub all_parts-loop-i-preserved : goal.all_parts-loop-i-preserved
 all_parts-loop-i-preserved t c =
