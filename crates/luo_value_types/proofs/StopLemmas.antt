@@ -55,4 +55,8 @@ pub case-arms : (s : Setting) (there : Option (ℕ × ℕ)) (variable : ℕ × �
 case-arms s None variable var arms inner e f = cc
 case-arms s (Some v) variable var arms inner e f = rw f refl
 
-pub ruleset stop_steps = (StopsAt-left, StopsAt-right, StopsAt-first, StopsAt-then, none-append, none-or_if_none, StopsAt-pattern, StopsAt-body)
+-- an arm of such a case stops
+pub StopsAt-case : (s : Setting) (there : Option (ℕ × ℕ)) (variable : ℕ × ℕ) (var : Name) (arms : ℕ) (inner : List Breach) (at : Stop) → there ≡ Some variable → nat_eq arms (length (case_stands s there)) ≡ true → StopsAt inner at → StopsAt (case_breaches s there var arms inner) at
+StopsAt-case s there variable var arms inner at e f h = subst (λ z. StopsAt z at) (sym (case-arms s there variable var arms inner e f)) h
+
+pub ruleset stop_steps = (StopsAt-left, StopsAt-right, StopsAt-first, StopsAt-then, none-append, none-or_if_none, StopsAt-pattern, StopsAt-body, StopsAt-case)
