@@ -1,13 +1,7 @@
-// A library with one function.
+//! From a source to a checked program: names, types, and the core form.
 #![tactic(auto)]
 
-ghost use Rattle.std.specs.Prelude.{◌≡◌};
-ghost use Rattle.luo_types.specs.Echo.{echo_of};
+mod error;
 
-// The `ensures` clause is the contract: what `echo` returns is `echo_of` of its argument, a definition
-// in `specs/Echo.antt`, which a caller's clause can cite too.
-pub fn echo(x: usize) -> usize
-    ensures { result ≡ echo_of x }
-{
-    x
-}
+pub use error::{CheckError, CountLimit};
+pub use luo_value_types::Rule;
