@@ -1,3 +1,4 @@
 pub mod Lists
 pub mod NodeLists
 pub mod NameFacts
+pub mod Naming
