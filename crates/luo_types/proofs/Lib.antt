@@ -2,3 +2,4 @@ pub mod Lists
 pub mod NodeLists
 pub mod NameFacts
 pub mod Naming
+pub mod ProperTypes
