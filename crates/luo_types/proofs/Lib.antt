@@ -3,3 +3,4 @@ pub mod NodeLists
 pub mod NameFacts
 pub mod Naming
 pub mod ProperTypes
+pub mod ProperBodies
