@@ -4,3 +4,4 @@ pub mod NameFacts
 pub mod Naming
 pub mod ProperTypes
 pub mod ProperBodies
+pub mod ProperSource
