@@ -5,3 +5,4 @@ pub mod Naming
 pub mod ProperTypes
 pub mod ProperBodies
 pub mod ProperSource
+pub mod DefinitionFacts

@@ -51,7 +51,7 @@ module _ (names : List (List ℕ × Meaning)) (defs : List Definition) where
   not_home home j way false t e = (no_more j way e, t)
 
   -- where no way leads home, no such number of steps does
-  no_way : (home s i k : ℕ) → way_within names defs home s i ≡ None → k < s → after (suc k) i ≡ Some home → ⊥
+  pub no_way : (home s i k : ℕ) → way_within names defs home s i ≡ None → k < s → after (suc k) i ≡ Some home → ⊥
   no_way home zero i k none l e = absurd (omega arith)
   no_way home (suc s) i k none l e = by (λ j m none l e. no_way home s j m none l e) (next names defs i) k none l e
     where
@@ -110,7 +110,7 @@ module _ (names : List (List ℕ × Meaning)) (defs : List Definition) where
   ends_by none there i l = ends none there (length defs) [] i (omega arith) (record { here = l; single = ((λ m. m), tt); small = λ h m. absurd m; leads = λ h m. absurd m })
 
   -- more steps make no difference
-  node_same : (k s t i : ℕ) → EndsBy k i → k ≤ s → k ≤ t → node_within names defs s i ≡ node_within names defs t i
+  pub node_same : (k s t i : ℕ) → EndsBy k i → k ≤ s → k ≤ t → node_within names defs s i ≡ node_within names defs t i
   node_same zero s t i e l m = absurd e
   node_same (suc k) zero t i e l m = absurd (omega arith)
   node_same (suc k) (suc s) zero i e l m = absurd (omega arith)
