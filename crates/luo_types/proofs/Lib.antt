@@ -6,3 +6,4 @@ pub mod ProperTypes
 pub mod ProperBodies
 pub mod ProperSource
 pub mod DefinitionFacts
+pub mod NodeFacts
