@@ -7,3 +7,4 @@ pub mod ProperBodies
 pub mod ProperSource
 pub mod DefinitionFacts
 pub mod NodeFacts
+pub mod Holders
