@@ -8,3 +8,4 @@ pub mod ProperSource
 pub mod DefinitionFacts
 pub mod NodeFacts
 pub mod Holders
+pub mod CoreNodes
