@@ -9,3 +9,4 @@ pub mod DefinitionFacts
 pub mod NodeFacts
 pub mod Holders
 pub mod CoreNodes
+pub mod CoreHolders
