@@ -10,3 +10,4 @@ pub mod NodeFacts
 pub mod Holders
 pub mod CoreNodes
 pub mod CoreHolders
+pub mod CoreAllowed
