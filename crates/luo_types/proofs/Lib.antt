@@ -11,3 +11,4 @@ pub mod Holders
 pub mod CoreNodes
 pub mod CoreHolders
 pub mod CoreAllowed
+pub mod PatternFacts
