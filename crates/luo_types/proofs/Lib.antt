@@ -12,3 +12,4 @@ pub mod CoreNodes
 pub mod CoreHolders
 pub mod CoreAllowed
 pub mod PatternFacts
+pub mod ValueFits
