@@ -13,3 +13,5 @@ pub mod CoreHolders
 pub mod CoreAllowed
 pub mod PatternFacts
 pub mod ValueFits
+pub mod GoodItems
+pub mod ValueItems
