@@ -15,3 +15,4 @@ pub mod PatternFacts
 pub mod ValueFits
 pub mod GoodItems
 pub mod ValueItems
+pub mod StatementFits
