@@ -16,3 +16,4 @@ pub mod ValueFits
 pub mod GoodItems
 pub mod ValueItems
 pub mod StatementFits
+pub mod SourceFacts
