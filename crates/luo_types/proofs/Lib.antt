@@ -17,3 +17,4 @@ pub mod GoodItems
 pub mod ValueItems
 pub mod StatementFits
 pub mod SourceFacts
+pub mod CleanSource
