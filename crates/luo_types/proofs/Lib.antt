@@ -18,3 +18,5 @@ pub mod ValueItems
 pub mod StatementFits
 pub mod SourceFacts
 pub mod CleanSource
+pub mod CoreSites
+pub mod CoreProcs
