@@ -20,3 +20,4 @@ pub mod SourceFacts
 pub mod CleanSource
 pub mod CoreSites
 pub mod CoreProcs
+pub mod CoreIsProgram
