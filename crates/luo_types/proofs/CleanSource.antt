@@ -1,39 +1,34 @@
 -- A source without breach: its types, its names and its procedures.
-use Rattle.std.proofs.Common.{◌≡◌, ℕ, zero, suc, ◌+◌, ◌*◌, ◌^◌, ◌≤◌, ◌<◌, List, [], ◌∷◌, ◌++◌, map, length, Option, Some, None, slice_get, refl, sym, ap, ◌∙◌, subst, arith}
+use Rattle.std.proofs.Common.{◌≡◌, ℕ, zero, suc, ◌+◌, ◌^◌, ◌<◌, List, [], ◌∷◌, ◌++◌, map, length, Option, Some, slice_get, refl, sym, ap, ◌∙◌, subst, arith}
 use Rattle.std.specs.Prelude.{flat_map, slice_index_or}
 use Rattle.std.specs.Option.{option_map}
-use Rattle.luo_model.specs.declared.program.Part.{Part}
 use Rattle.luo_model.specs.declared.program.Site.{Site}
-use Rattle.luo_model.specs.Program as plain
 use Rattle.luo_model.specs.Program.{Procedure, Result}
-use Rattle.luo_model.specs.Scopes.{greatest_charge}
-use Rattle.luo_model.specs.Invariant.{IsPart, IsNamed}
+use Rattle.luo_model.specs.Invariant.{IsNamed}
 use Rattle.luo_syntax.specs.declared.names.Name.{Name}
 use Rattle.luo_syntax.specs.declared.source.ProcBody.{ProcBody}
 use Rattle.luo_syntax.specs.declared.source.ProcBody.TheVariants.{Statements, Value}
 use Rattle.luo_syntax.specs.declared.source.ProcDef.{ProcDef}
 use Rattle.luo_syntax.specs.declared.source.Source.{Source}
-use Rattle.luo_value_types.specs.declared.names.Meaning.{Meaning}
 use Rattle.luo_value_types.specs.declared.names.Meaning.TheVariants as mean
 use Rattle.luo_value_types.specs.declared.rule.Breach.{Breach}
 use Rattle.luo_value_types.specs.declared.setting.Setting.{Setting}
 use Rattle.luo_value_types.specs.declared.setting.Signature.{Signature}
-use Rattle.luo_value_types.specs.Breaches.{◌or_if_none◌}
 use Rattle.luo_value_types.specs.Meanings.{meaning, type_use, procedure_use}
 use Rattle.luo_value_types.specs.Settings.{meant, def_node, node_meant, type_node, part_meant, no_signature}
 use Rattle.luo_value_types.specs.ValueBreaches.{value_breaches}
-use Rattle.luo_types.specs.Definitions.{Definition, definitions, measures, names_of, first_node, node_of, definition_meant}
+use Rattle.luo_types.specs.Definitions.{definitions, measures, names_of, first_node, node_of, definition_meant}
 use Rattle.luo_types.specs.TypeBreaches.{name_breaches, types_breaches, measures_breaches}
-use Rattle.luo_types.specs.Nodes.{part_at, start, defs_from, nodes_from, named_node, result_name, signature_of, setting_of}
+use Rattle.luo_types.specs.Nodes.{defs_from, nodes_from, named_node, result_name, signature_of, setting_of}
 use Rattle.luo_types.specs.Whole.{result_breaches, parameter, body_breaches, proc_breaches, procs_breaches, breaches, proc_core, procs_core, sites_of, result_core}
-use Rattle.luo_types.proofs.Lists.{some_same, none_some, get_below, below_get, index_get, get_map, nil_left, nil_right, none_first, none_then}
+use Rattle.luo_types.proofs.Lists.{some_same, none_some, get_below, index_get, get_map, nil_left, nil_right, none_first, none_then}
 use Rattle.luo_types.proofs.NodeLists.{def_at, def_get}
 use Rattle.luo_types.proofs.NameFacts.{NamesWithin, names_within, all_within, means_procedure, Sound, sound}
 use Rattle.luo_types.proofs.DefinitionFacts.{SoundAll, type_meant, whole_node}
 use Rattle.luo_types.proofs.CoreNodes.{program_of, wholes_there}
 use Rattle.luo_types.proofs.ProperSource.{ProperSource, ProperDef}
 use Rattle.luo_types.proofs.SourceFacts.{all_get, copy_of}
-use Rattle.luo_types.proofs.ValueFits.{Callee, SoundSetting, procedure_meant}
+use Rattle.luo_types.proofs.ValueFits.{Callee, SoundSetting}
 
 -- a source without breach
 pub record Clean (source : Source) : Type 0 where

@@ -1,5 +1,5 @@
 -- The constructs of the core form of a source without breach are allowed, and its multisets are counted.
-use Rattle.std.proofs.Common.{◌≡◌, ℕ, zero, suc, ◌+◌, ◌*◌, ◌<◌, ◌≤◌, max, List, [], ◌∷◌, ◌++◌, map, length, Option, Some, None, slice_get, sum_by, refl, sym, ap, ◌∙◌, subst, arith}
+use Rattle.std.proofs.Common.{◌≡◌, ℕ, suc, ◌+◌, ◌*◌, ◌≤◌, List, [], ◌∷◌, ◌++◌, map, length, Option, Some, None, slice_get, sum_by, refl, sym, ap, ◌∙◌, subst, arith}
 use Rattle.std.specs.Prelude.{Bool, true, false, if◌then◌else◌, nat_le, flat_map, IfSome}
 use Rattle.std.proofs.Math.Nat.{le-max_left, le-max_right, zero-mul, suc-mul}
 use Rattle.std.proofs.lemmas.Bool.{leb-true}
@@ -28,7 +28,7 @@ use Rattle.luo_types.specs.Nodes.{Spot, behind, parts_at, boxed_part_at, nodes_a
 use Rattle.luo_types.proofs.Lists.{some_same, none_some, nil_left, nil_right, chosen_true}
 use Rattle.luo_types.proofs.DefinitionFacts.{SoundAll}
 use Rattle.luo_types.proofs.ProperTypes.{ProperType}
-use Rattle.luo_types.proofs.CoreNodes.{AtNode, at_node}
+use Rattle.luo_types.proofs.CoreNodes.{at_node}
 
 kind_allowed : (universe : Universe) (kind : Kind) (at : ℕ) → kind_breaches universe kind at ≡ [] → IsKind universe kind
 kind_allowed Unlabelled Sequence at h = tt

@@ -1,10 +1,10 @@
 -- The holders of nodes in the core form of a source without breach.
-use Rattle.std.proofs.Common.{◌≡◌, ℕ, zero, suc, ◌+◌, ◌-◌, ◌<◌, ◌≤◌, ◌⊎◌, List, [], ◌∷◌, length, Option, Some, None, slice_get, refl, sym, ap, ◌∙◌, subst, inl, inr, arith}
+use Rattle.std.proofs.Common.{◌≡◌, ℕ, zero, suc, ◌+◌, ◌-◌, ◌<◌, ◌≤◌, List, Some, slice_get, refl, sym, ap, ◌∙◌, subst, arith}
 use Rattle.luo_finite.specs.Listing.{In}
 use Rattle.luo_model.specs.declared.program.Universe.{Universe}
 use Rattle.luo_model.specs.declared.program.Node.{Node}
 use Rattle.luo_model.specs.declared.program.Site.{Site}
-use Rattle.luo_model.specs.Program.{Program, Procedure}
+use Rattle.luo_model.specs.Program.{Procedure}
 use Rattle.luo_model.specs.Invariant.{bare, inner_parts, Holds}
 use Rattle.luo_value_types.specs.declared.names.Meaning.{Meaning}
 use Rattle.luo_types.specs.Counted.{own_nodes}

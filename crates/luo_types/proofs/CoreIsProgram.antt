@@ -1,35 +1,32 @@
 -- The core form of a source without breach and within the limits has the invariant of programs.
-use Rattle.std.proofs.Common.{◌≡◌, ℕ, zero, suc, ◌+◌, ◌*◌, ◌≤◌, ◌<◌, ◌⊎◌, List, [], ◌∷◌, ◌++◌, map, length, sum_by, Option, Some, None, slice_get, refl, sym, ap, ◌∙◌, subst, inl, inr, arith}
-use Rattle.std.specs.Prelude.{flat_map}
+use Rattle.std.proofs.Common.{◌≡◌, ℕ, ◌+◌, ◌≤◌, ◌<◌, ◌⊎◌, List, [], ◌++◌, map, length, Some, slice_get, sym, ap, ◌∙◌, subst, inl, inr, arith}
 use Rattle.std.proofs.lemmas.List.{length-map}
 use Rattle.luo_finite.specs.Listing.{In, NoDouble}
 use Rattle.luo_finite.proofs.Membership.{In-map_back}
 use Rattle.luo_model.specs.declared.program.Def.{Def}
 use Rattle.luo_model.specs.declared.program.Site.{Site}
-use Rattle.luo_model.specs.Program.{Program, Procedure}
-use Rattle.luo_model.specs.Scopes.{body_items}
+use Rattle.luo_model.specs.Program.{Procedure}
 use Rattle.luo_model.specs.Invariant.{IsProgram, IsProcedure, sites_from, numbered_from}
 use Rattle.luo_syntax.specs.declared.names.Name.{Name}
 use Rattle.luo_syntax.specs.declared.source.ProcDef.{ProcDef}
 use Rattle.luo_syntax.specs.declared.source.Source.{Source}
-use Rattle.luo_value_types.specs.declared.names.Meaning.{Meaning}
 use Rattle.luo_value_types.specs.declared.names.Meaning.TheVariants as mean
 use Rattle.luo_value_types.specs.Meanings.{meaning, procedure_use, procedure_of}
 use Rattle.luo_value_types.specs.Settings.{types_of, meant}
-use Rattle.luo_types.specs.Counted.{own_nodes, own_multisets, body_statements, definition_count, node_count, multiset_count, statement_count}
-use Rattle.luo_types.specs.Definitions.{Definition, definitions, names_of, first_node}
-use Rattle.luo_types.specs.Nodes.{defs_from, nodes_from, setting_of}
-use Rattle.luo_types.specs.Whole.{breaches, core, walk_count, proc_core, procs_core}
+use Rattle.luo_types.specs.Counted.{body_statements}
+use Rattle.luo_types.specs.Definitions.{definitions, names_of}
+use Rattle.luo_types.specs.Nodes.{defs_from, setting_of}
+use Rattle.luo_types.specs.Whole.{breaches, core, walk_count, procs_core}
 use Rattle.luo_types.specs.Checks.{IsSource, IsWithinLimits}
-use Rattle.luo_types.proofs.Lists.{some_same, get_cases, map_get, place_in, places_apart, flat_nil}
-use Rattle.luo_types.proofs.NodeLists.{def_at, def_back, defs_length, nodes_from_length, copies_nodes, copies_length}
+use Rattle.luo_types.proofs.Lists.{get_cases, map_get, place_in, places_apart, flat_nil}
+use Rattle.luo_types.proofs.NodeLists.{def_back, defs_length, nodes_from_length, copies_nodes, copies_length}
 use Rattle.luo_types.proofs.CoreNodes.{wholes_there, parts_there, owners_there, first_place, in_order, wholes_first, naming_ends}
 use Rattle.luo_types.proofs.CoreHolders.{held, bare_held}
 use Rattle.luo_types.proofs.CoreAllowed.{allowed, from_multisets, copies_multisets}
-use Rattle.luo_types.proofs.ProperSource.{ProperSource, ProperProc, source_proper}
+use Rattle.luo_types.proofs.ProperSource.{ProperProc, source_proper}
 use Rattle.luo_types.proofs.ValueFits.{procedure_meant}
-use Rattle.luo_types.proofs.SourceFacts.{all_get, Limits, within_limits, copies_limited}
-use Rattle.luo_types.proofs.CleanSource.{Clean, clean, CleanProc, clean_proc, proc_back, procs_length}
+use Rattle.luo_types.proofs.SourceFacts.{all_get, within_limits, copies_limited}
+use Rattle.luo_types.proofs.CleanSource.{Clean, clean, clean_proc, proc_back, procs_length}
 use Rattle.luo_types.proofs.CoreSites.{sites_same, numbered}
 use Rattle.luo_types.proofs.CoreProcs.{program_for, proc_good, is_procedure, sites_good, procs_few, sum_get}
 

@@ -1,5 +1,5 @@
 -- The definitions and nodes of the core form of a source without breach, as the invariant of programs has them.
-use Rattle.std.proofs.Common.{◌≡◌, ℕ, zero, suc, ◌+◌, ◌<◌, ◌≤◌, ◌⊎◌, List, [], ◌∷◌, ◌++◌, length, Option, Some, None, slice_get, sum_by, refl, sym, ap, ◌∙◌, subst, inl, inr, arith}
+use Rattle.std.proofs.Common.{◌≡◌, ℕ, zero, suc, ◌+◌, ◌<◌, ◌≤◌, ◌⊎◌, List, [], ◌∷◌, length, Option, Some, None, slice_get, sum_by, refl, sym, ap, ◌∙◌, subst, inl, inr, arith}
 use Rattle.luo_finite.specs.Listing.{In, Neighbours}
 use Rattle.luo_model.specs.declared.program.Universe.{Universe}
 use Rattle.luo_model.specs.declared.program.Part.{Part}
@@ -10,13 +10,12 @@ use Rattle.luo_model.specs.Program.{Program, Procedure}
 use Rattle.luo_model.specs.Invariant.{bare, inner_parts, IsPart, Follows, IsFirstPlace, IsOf, IsWhole, NamingEnds, at_construct, at_name}
 use Rattle.luo_value_types.specs.declared.names.Meaning.{Meaning}
 use Rattle.luo_types.specs.Counted.{own_nodes, most_parts, greatest_bound}
-use Rattle.luo_types.specs.Definitions.{Definition, next, first_node, node_of, named_at}
+use Rattle.luo_types.specs.Definitions.{Definition, first_node, node_of, named_at}
 use Rattle.luo_types.specs.Nodes.{behind, part_at, nodes_at, start, defs_from, nodes_from}
 use Rattle.luo_types.proofs.Lists.{some_same, none_some, get_below, below_get}
-use Rattle.luo_types.proofs.NodeLists.{first_within, first_behind, def_at, def_get, def_back, NodeOf, node_of_def, node_there, nodes_length, nodes_from_length}
-use Rattle.luo_types.proofs.NameFacts.{Sound}
+use Rattle.luo_types.proofs.NodeLists.{first_within, first_behind, def_at, def_get, def_back, node_of_def, node_there, nodes_length, nodes_from_length}
 use Rattle.luo_types.proofs.Naming.{EndsBy}
-use Rattle.luo_types.proofs.DefinitionFacts.{SoundAll, NamedRight, BareRight, right_sort, node_of_below, whole_node, all_end}
+use Rattle.luo_types.proofs.DefinitionFacts.{SoundAll, right_sort, node_of_below, whole_node, all_end}
 use Rattle.luo_types.proofs.NodeFacts.{Stands, PartOf, expr_stands, head_owner, head_part}
 
 -- a program of these definitions
@@ -104,8 +103,8 @@ module _ (universe : Universe) (names : List (List ℕ × Meaning)) (defs : List
   pub same_definition : (i j x : ℕ) (d e : Definition) → slice_get defs i ≡ Some d → slice_get defs j ≡ Some e → first_node defs i ≤ x → x < first_node defs i + own_nodes d.right → first_node defs j ≤ x → x < first_node defs j + own_nodes e.right → i ≡ j
   same_definition i j x d e p q a b c f =
       elim (three_ways i j) [
-        inl l ↦ absurd (omega (arith, first_behind defs i j d p l))
-      | inr h ↦ elim h [ inl same ↦ same | inr l ↦ absurd (omega (arith, first_behind defs j i e q l)) ]
+        | inl l ↦ absurd (omega (arith, first_behind defs i j d p l))
+        | inr h ↦ elim h [ inl same ↦ same | inr l ↦ absurd (omega (arith, first_behind defs j i e q l)) ]
       ]
 
   module _ (procs : List Procedure) (sites : List Site) (analyses : List ℕ) where
@@ -113,17 +112,17 @@ module _ (universe : Universe) (names : List (List ℕ × Meaning)) (defs : List
     part_there part q =
         let long = nodes_from_length names defs 0 0 defs in
         elim (right_sort universe names defs all q.sub q.is_sound) [
-          inl r ↦
-            let d = get_below defs r.j r.below in
-            let small : node_of names defs r.j < length (nodes_from names defs 0 0 defs) = omega (arith, long, node_of_below universe names defs all r.j r.below) in
-            let whole = whole_node universe names defs all r.j d.0 (0 + first_node defs r.j) d.1 (omega arith) r.below in
-            let made : IsPart (program_of universe names defs procs sites analyses) (record { node = node_of names defs r.j; name = Some r.j }) =
-            (small, (def_at names defs (0 + first_node defs r.j) d.0, def_get names defs 0 defs r.j d.0 d.1, sym whole)) in
-            subst (IsPart (program_of universe names defs procs sites analyses)) (sym (q.is ∙ r.part q.spot)) made
-        | inr r ↦
-            let small : q.spot.node < length (nodes_from names defs 0 0 defs) = omega (arith, long, q.to, r.nodes) in
-            let made : IsPart (program_of universe names defs procs sites analyses) (bare q.spot.node) = (small, tt) in
-            subst (IsPart (program_of universe names defs procs sites analyses)) (sym (q.is ∙ r.part q.spot)) made
+          | inl r ↦
+              let d = get_below defs r.j r.below in
+              let small : node_of names defs r.j < length (nodes_from names defs 0 0 defs) = omega (arith, long, node_of_below universe names defs all r.j r.below) in
+              let whole = whole_node universe names defs all r.j d.0 (0 + first_node defs r.j) d.1 (omega arith) r.below in
+              let made : IsPart (program_of universe names defs procs sites analyses) (record { node = node_of names defs r.j; name = Some r.j }) =
+              (small, (def_at names defs (0 + first_node defs r.j) d.0, def_get names defs 0 defs r.j d.0 d.1, sym whole)) in
+              subst (IsPart (program_of universe names defs procs sites analyses)) (sym (q.is ∙ r.part q.spot)) made
+          | inr r ↦
+              let small : q.spot.node < length (nodes_from names defs 0 0 defs) = omega (arith, long, q.to, r.nodes) in
+              let made : IsPart (program_of universe names defs procs sites analyses) (bare q.spot.node) = (small, tt) in
+              subst (IsPart (program_of universe names defs procs sites analyses)) (sym (q.is ∙ r.part q.spot)) made
         ]
 
     pub wholes_there : (i : ℕ) (v : Def) → slice_get (defs_from names defs 0 defs) i ≡ Some v → IsPart (program_of universe names defs procs sites analyses) v.whole
@@ -153,14 +152,14 @@ module _ (universe : Universe) (names : List (List ℕ × Meaning)) (defs : List
         follows : (x : ℕ) (a b : Node) → AtNode universe names defs x a → AtNode universe names defs (suc x) b → Follows a b
         follows x a b u v =
             elim (three_ways u.j v.j) [
-              inl l ↦
-                let later = first_behind defs u.j v.j u.d u.is_definition l in
-                inr (omega (arith, u.owner, v.owner), omega (arith, v.place, u.number, v.number, u.inside, later))
-            | inr h ↦ elim h [
-                inl same ↦
-                  let first : first_node defs u.j ≡ first_node defs v.j = ap (first_node defs) same in
-                  inl (omega (arith, u.owner, v.owner, same), omega (arith, u.place, v.place, u.number, v.number, first))
-              | inr l ↦ absurd (omega (arith, u.number, v.number, v.inside, first_behind defs v.j u.j v.d v.is_definition l))
+              | inl l ↦
+                  let later = first_behind defs u.j v.j u.d u.is_definition l in
+                  inr (omega (arith, u.owner, v.owner), omega (arith, v.place, u.number, v.number, u.inside, later))
+              | inr h ↦ elim h [
+                | inl same ↦
+                    let first : first_node defs u.j ≡ first_node defs v.j = ap (first_node defs) same in
+                    inl (omega (arith, u.owner, v.owner, same), omega (arith, u.place, v.place, u.number, v.number, first))
+                | inr l ↦ absurd (omega (arith, u.number, v.number, v.inside, first_behind defs v.j u.j v.d v.is_definition l))
               ]
             ]
 
@@ -170,13 +169,13 @@ module _ (universe : Universe) (names : List (List ℕ × Meaning)) (defs : List
         let x : ℕ = 0 + first_node defs i in
         subst (λ (w : Def). IsWhole (program_of universe names defs procs sites analyses) i w.whole) (sym b.2)
         (elim (right_sort universe names defs all b.0.right (all.each i b.0 b.1).right_side) [
-          inl r ↦ inr ((λ n. none_some r.j (sym n ∙ ap part_name (r.part (start names defs x)))), none_of i b.0 b.1 r.no_nodes)
-        | inr r ↦
-            let first = get_below (nodes_at names defs i (start names defs (first_node defs i)) b.0.right) 0 (omega (arith, r.nodes, nodes_length names defs i (start names defs (first_node defs i)) b.0.right)) in
-            let a = of_place i b.0 0 first.0 b.1 first.1 in
-            let place : (part_at names defs (start names defs x) b.0.right).node ≡ first_node defs i + 0 = ap (λ (q : Part). q.node) (r.part (start names defs x)) ∙ omega arith in
-            let there = ap (slice_get (nodes_from names defs 0 0 defs)) place ∙ there_node i b.0 0 first.0 b.1 first.1 in
-            inl (ap part_name (r.part (start names defs x)), (first.0, there, a.0, a.1))
+          | inl r ↦ inr ((λ n. none_some r.j (sym n ∙ ap part_name (r.part (start names defs x)))), none_of i b.0 b.1 r.no_nodes)
+          | inr r ↦
+              let first = get_below (nodes_at names defs i (start names defs (first_node defs i)) b.0.right) 0 (omega (arith, r.nodes, nodes_length names defs i (start names defs (first_node defs i)) b.0.right)) in
+              let a = of_place i b.0 0 first.0 b.1 first.1 in
+              let place : (part_at names defs (start names defs x) b.0.right).node ≡ first_node defs i + 0 = ap (λ (q : Part). q.node) (r.part (start names defs x)) ∙ omega arith in
+              let there = ap (slice_get (nodes_from names defs 0 0 defs)) place ∙ there_node i b.0 0 first.0 b.1 first.1 in
+              inl (ap part_name (r.part (start names defs x)), (first.0, there, a.0, a.1))
         ])
       where
         none_of : (i : ℕ) (d : Definition) → slice_get defs i ≡ Some d → own_nodes d.right ≡ 0 → (x : ℕ) → IsOf (program_of universe names defs procs sites analyses) i x → ⊥
@@ -193,18 +192,18 @@ module _ (universe : Universe) (names : List (List ℕ × Meaning)) (defs : List
         let d = get_below defs i l in
         let whole : None ≡ part_name (part_at names defs (start names defs (0 + first_node defs i)) d.0.right) =
         elim (right_sort universe names defs all d.0.right (all.each i d.0 d.1).right_side) [
-          inl r ↦ absurd (none_some r.j (sym none ∙ (ap (named_at names) d.1 ∙ r.is)))
-        | inr r ↦ sym (ap part_name (r.part (start names defs (0 + first_node defs i))))
+          | inl r ↦ absurd (none_some r.j (sym none ∙ (ap (named_at names) d.1 ∙ r.is)))
+          | inr r ↦ sym (ap part_name (r.part (start names defs (0 + first_node defs i))))
         ] in
         at_construct (def_at names defs (0 + first_node defs i) d.0) (def_get names defs 0 defs i d.0 d.1) (sym whole)
     ends_of (suc k) i (inr e) l =
         let d = get_below defs i l in
         elim (right_sort universe names defs all d.0.right (all.each i d.0 d.1).right_side) [
-          inl r ↦
-            let same : r.j ≡ e.0 = some_same r.j e.0 (sym r.is ∙ (sym (ap (named_at names) d.1) ∙ e.1)) in
-            let whole : part_name (part_at names defs (start names defs (0 + first_node defs i)) d.0.right) ≡ Some e.0 = ap part_name (r.part (start names defs (0 + first_node defs i))) ∙ ap Some same in
-            at_name (def_at names defs (0 + first_node defs i) d.0) e.0 (def_get names defs 0 defs i d.0 d.1) whole (ends_of k e.0 e.2 (subst (λ z. z < length defs) same r.below))
-        | inr r ↦ absurd (none_some e.0 (sym r.none ∙ (sym (ap (named_at names) d.1) ∙ e.1)))
+          | inl r ↦
+              let same : r.j ≡ e.0 = some_same r.j e.0 (sym r.is ∙ (sym (ap (named_at names) d.1) ∙ e.1)) in
+              let whole : part_name (part_at names defs (start names defs (0 + first_node defs i)) d.0.right) ≡ Some e.0 = ap part_name (r.part (start names defs (0 + first_node defs i))) ∙ ap Some same in
+              at_name (def_at names defs (0 + first_node defs i) d.0) e.0 (def_get names defs 0 defs i d.0 d.1) whole (ends_of k e.0 e.2 (subst (λ z. z < length defs) same r.below))
+          | inr r ↦ absurd (none_some e.0 (sym r.none ∙ (sym (ap (named_at names) d.1) ∙ e.1)))
         ]
 
     pub naming_ends : (i : ℕ) → i < length defs → NamingEnds (program_of universe names defs procs sites analyses) i

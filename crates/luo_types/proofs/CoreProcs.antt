@@ -1,15 +1,14 @@
 -- The procedures of the core form of a source without breach: their bodies, results and sites.
-use Rattle.std.proofs.Common.{◌≡◌, ℕ, zero, suc, ◌+◌, ◌*◌, ◌≤◌, ◌<◌, List, [], ◌∷◌, ◌++◌, map, length, sum_by, Option, Some, None, slice_get, refl, sym, ap, ◌∙◌, subst, arith, length-append}
-use Rattle.std.specs.Prelude.{flat_map, IfSome}
+use Rattle.std.proofs.Common.{◌≡◌, ℕ, zero, suc, ◌+◌, ◌≤◌, List, [], ◌∷◌, ◌++◌, length, sum_by, Option, Some, slice_get, refl, sym, ap, subst, arith, length-append}
+use Rattle.std.specs.Prelude.{IfSome}
 use Rattle.std.proofs.lemmas.List.Sums.{sum_by-cons}
 use Rattle.luo_model.specs.declared.program.Universe.{Universe}
 use Rattle.luo_model.specs.declared.program.Universe.TheVariants.{Unlabelled, Labelled}
-use Rattle.luo_model.specs.declared.program.Part.{Part}
 use Rattle.luo_model.specs.declared.program.Site.{Site}
 use Rattle.luo_model.specs.Program as plain
 use Rattle.luo_model.specs.Program.{Program, Procedure, Result}
 use Rattle.luo_model.specs.Scopes.{greatest_charge, FitsBody, FitsValue, value_body, value_sites, body_sites, body_items}
-use Rattle.luo_model.specs.Invariant.{IsNamed, IsProcedure, procedure_sites, placed, sites_from}
+use Rattle.luo_model.specs.Invariant.{IsNamed, IsProcedure, placed, sites_from}
 use Rattle.luo_syntax.specs.declared.names.Name.{Name}
 use Rattle.luo_syntax.specs.declared.source.ProcBody.{ProcBody}
 use Rattle.luo_syntax.specs.declared.source.ProcBody.TheVariants.{Statements, Value}
@@ -18,23 +17,21 @@ use Rattle.luo_syntax.specs.declared.source.Source.{Source}
 use Rattle.luo_value_types.specs.declared.names.Meaning.{Meaning}
 use Rattle.luo_value_types.specs.declared.names.Meaning.TheVariants as mean
 use Rattle.luo_value_types.specs.declared.setting.Setting.{Setting}
-use Rattle.luo_value_types.specs.Statements.{value_statements}
 use Rattle.luo_value_types.specs.Settings.{meant, def_node, node_meant, type_node, part_meant}
 use Rattle.luo_value_types.specs.ValueBreaches.{value_breaches}
 use Rattle.luo_value_types.specs.ValueCore.{value_core}
 use Rattle.luo_types.specs.Counted.{stmt_statements, body_statements}
-use Rattle.luo_types.specs.StatementBreaches.{stmt_breaches}
 use Rattle.luo_types.specs.StatementCore.{stmt_own, stmt_sites}
 use Rattle.luo_types.specs.Nodes.{setting_of}
 use Rattle.luo_types.specs.Whole.{result_breaches, parameter, body_breaches, items_of, node_or, body_core, sites_of, result_core, proc_core, procs_core}
 use Rattle.luo_types.proofs.Lists.{none_some, some_same}
 use Rattle.luo_types.proofs.PatternFacts.{program_over}
 use Rattle.luo_types.proofs.ProperSource.{ProperBody, ProperProc}
-use Rattle.luo_types.proofs.ValueFits.{SoundSetting, value_fits}
-use Rattle.luo_types.proofs.GoodItems.{NumbersFrom, GoodItems, own_within, numbers_append}
+use Rattle.luo_types.proofs.ValueFits.{value_fits}
+use Rattle.luo_types.proofs.GoodItems.{NumbersFrom, own_within, numbers_append}
 use Rattle.luo_types.proofs.ValueItems.{value_size, value_good, value_within, items_few, core_small}
 use Rattle.luo_types.proofs.StatementFits.{list_good, list_own, list_few}
-use Rattle.luo_types.proofs.CleanSource.{Clean, CleanProc, clean_proc, CleanResult, clean_result, type_named, sound_setting, proc_back}
+use Rattle.luo_types.proofs.CleanSource.{Clean, clean_proc, clean_result, type_named, sound_setting}
 use Rattle.luo_types.proofs.CoreSites.{SitesFrom, sites_append, placed_from, placed_length}
 
 -- a body that fits, with so many sites from this number on

@@ -1,7 +1,7 @@
 -- The sites of a core form depend on its types alone, and are numbered in order.
-use Rattle.std.proofs.Common.{◌≡◌, ℕ, zero, suc, ◌+◌, List, [], ◌∷◌, ◌++◌, map, length, refl, sym, ap, ◌∙◌, subst, arith, length-append}
+use Rattle.std.proofs.Common.{◌≡◌, ℕ, suc, ◌+◌, List, [], ◌∷◌, ◌++◌, map, length, refl, sym, ap, ◌∙◌, subst, arith}
 use Rattle.luo_model.specs.declared.program.Site.{Site}
-use Rattle.luo_model.specs.Program.{Program, Procedure, Body, Does, Items, no_items, item, Item, Call, Case, Forall, Arms, no_arms, arm, shape_of}
+use Rattle.luo_model.specs.Program.{Procedure, Body, Does, Items, no_items, item, Item, Call, Case, Forall, Arms, no_arms, arm, shape_of}
 use Rattle.luo_model.specs.Scopes.{Stand, stands, component, bound_nodes, node_at, body_sites, items_sites, item_sites, arms_sites}
 use Rattle.luo_model.specs.Invariant.{procedure_sites, placed, sites_from, numbered_from}
 use Rattle.luo_value_types.specs.declared.setting.Setting.{Setting}

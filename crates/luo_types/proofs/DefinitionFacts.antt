@@ -1,5 +1,5 @@
 -- Definitions without breach: the parts that stand for right sides, and the nodes of names.
-use Rattle.std.proofs.Common.{◌≡◌, ℕ, zero, suc, ◌+◌, ◌<◌, ◌≤◌, ◌⊎◌, List, [], ◌∷◌, ◌++◌, length, Option, Some, None, slice_get, sum_by, refl, sym, ap, ◌∙◌, subst, inl, inr, arith}
+use Rattle.std.proofs.Common.{◌≡◌, ℕ, zero, suc, ◌<◌, ◌≤◌, ◌⊎◌, List, [], ◌∷◌, length, Option, Some, None, slice_get, sum_by, refl, sym, ap, ◌∙◌, subst, inl, inr, arith}
 use Rattle.std.specs.Option.{option_map}
 use Rattle.luo_model.specs.declared.program.Universe.{Universe}
 use Rattle.luo_model.specs.declared.program.Part.{Part}
@@ -10,7 +10,7 @@ use Rattle.luo_value_types.specs.declared.names.Meaning.{Meaning}
 use Rattle.luo_value_types.specs.declared.names.Meaning.TheVariants as mean
 use Rattle.luo_value_types.specs.Meanings.{meaning, type_use}
 use Rattle.luo_types.specs.Counted.{own_nodes}
-use Rattle.luo_types.specs.Definitions.{Definition, or_by, definition_meant, named_at, named_by, next, first_node, node_within, node_of, way_within, name_of, circle}
+use Rattle.luo_types.specs.Definitions.{Definition, or_by, definition_meant, named_at, named_by, next, first_node, node_within, node_of, way_within, name_of}
 use Rattle.luo_types.specs.TypeBreaches.{expr_breaches}
 use Rattle.luo_types.specs.Nodes.{Spot, named_part, part_at, start}
 use Rattle.luo_types.proofs.Lists.{some_same, none_some, get_below}
@@ -126,8 +126,8 @@ module _ (universe : Universe) (names : List (List ℕ × Meaning)) (defs : List
       let first : node_within names defs (suc s) i ≡ first_node defs i = ap (λ o. or_by o (node_within names defs s) (first_node defs i)) e in
       let room = first_within defs i d.0 d.1 in
       elim (right_sort d.0.right (all.each i d.0 d.1).right_side) [
-        inl r ↦ absurd (none_some r.j (sym e ∙ (named_next names defs i d.0 d.1 ∙ r.is)))
-      | inr r ↦ omega (arith, r.nodes, first, room)
+        | inl r ↦ absurd (none_some r.j (sym e ∙ (named_next names defs i d.0 d.1 ∙ r.is)))
+        | inr r ↦ omega (arith, r.nodes, first, room)
       ]
   within_below (suc k) (suc s) i (inr e) l m =
       let on : node_within names defs (suc s) i ≡ node_within names defs s e.0 = ap (λ o. or_by o (node_within names defs s) (first_node defs i)) e.1 in
@@ -141,6 +141,6 @@ module _ (universe : Universe) (names : List (List ℕ × Meaning)) (defs : List
   pub whole_node : (i : ℕ) (d : Definition) (x : ℕ) → slice_get defs i ≡ Some d → x ≡ first_node defs i → i < length defs → (part_at names defs (start names defs x) d.right).node ≡ node_of names defs i
   whole_node i d x e f l =
       elim (right_sort d.right (all.each i d e).right_side) [
-        inl r ↦ ap (λ (q : Part). q.node) (r.part (start names defs x)) ∙ sym (node_of_next i r.j l (named_next names defs i d e ∙ r.is))
-      | inr r ↦ ap (λ (q : Part). q.node) (r.part (start names defs x)) ∙ (f ∙ sym (node_of_first i (named_next names defs i d e ∙ r.none)))
+        | inl r ↦ ap (λ (q : Part). q.node) (r.part (start names defs x)) ∙ sym (node_of_next i r.j l (named_next names defs i d e ∙ r.is))
+        | inr r ↦ ap (λ (q : Part). q.node) (r.part (start names defs x)) ∙ (f ∙ sym (node_of_first i (named_next names defs i d e ∙ r.none)))
       ]

@@ -1,10 +1,9 @@
 -- Items that fit, with their sites in order.
-use Rattle.std.proofs.Common.{◌≡◌, ℕ, zero, suc, ◌+◌, ◌*◌, ◌<◌, ◌≤◌, List, [], ◌∷◌, ◌++◌, length, Option, Some, None, slice_get, refl, sym, ap, ◌∙◌, subst, arith, append_assoc, length-append}
+use Rattle.std.proofs.Common.{◌≡◌, ℕ, suc, ◌+◌, ◌*◌, ◌≤◌, List, [], ◌∷◌, ◌++◌, length, Some, slice_get, refl, sym, ap, ◌∙◌, subst, arith, append_assoc, length-append}
 use Rattle.std.proofs.Math.Nat.{mul-le-mul_right}
 use Rattle.luo_model.specs.declared.body.Bind.{Bind}
-use Rattle.luo_model.specs.declared.program.Shape.{Shape}
-use Rattle.luo_model.specs.Program.{Program, Procedure, Body, Does, Items, no_items, item, Item, Call, Case, Forall, Arms, no_arms, arm, shape_of}
-use Rattle.luo_model.specs.Scopes.{Stand, stands, component, IsCollection, MayBind, bound_nodes, node_at, greatest_charge, FitsItems, FitsItem, FitsArms, join_items, items_sites, item_sites, arms_sites, items_in, item_in, arms_in, body_items}
+use Rattle.luo_model.specs.Program.{Program, Does, Items, no_items, item, Item, Call, Case, Forall, Arms, no_arms, arm, shape_of}
+use Rattle.luo_model.specs.Scopes.{Stand, stands, component, IsCollection, MayBind, bound_nodes, node_at, greatest_charge, FitsItems, FitsItem, FitsArms, join_items, items_sites, item_sites, arms_sites, items_in}
 use Rattle.luo_types.proofs.Lists.{index_get}
 
 -- sites with numbers from this one on

@@ -8,13 +8,13 @@ use Rattle.luo_model.specs.Invariant.{bare, inner_parts}
 use Rattle.luo_syntax.specs.declared.types.TypeExpr.{TypeExpr, Named, Epsilon, Atom, Union', Product', Coll', Row_of-TypeExpr, end_of-TypeExpr, more_of-TypeExpr}
 use Rattle.luo_value_types.specs.declared.names.Meaning.{Meaning}
 use Rattle.luo_types.specs.Counted.{own_nodes, own_nodes_of}
-use Rattle.luo_types.specs.Definitions.{Definition, node_of}
+use Rattle.luo_types.specs.Definitions.{Definition}
 use Rattle.luo_types.specs.TypeBreaches.{expr_breaches, exprs_breaches, kind_breaches, bound_breaches}
-use Rattle.luo_types.specs.Nodes.{Spot, behind, parts_at, boxed_part_at, nodes_at, all_nodes_at}
-use Rattle.luo_types.proofs.Lists.{none_some, get_cases, get_left, get_right, below_get, nil_left, nil_right}
+use Rattle.luo_types.specs.Nodes.{Spot, behind, parts_at, nodes_at, all_nodes_at}
+use Rattle.luo_types.proofs.Lists.{none_some, get_cases, get_left, get_right, nil_left, nil_right}
 use Rattle.luo_types.proofs.NodeLists.{nodes_length}
-use Rattle.luo_types.proofs.DefinitionFacts.{SoundAll, NamedRight, BareRight, right_sort}
-use Rattle.luo_types.proofs.NodeFacts.{PartOf, behind_behind, expr_stands, row_stands, row_part, head_part, boxed_one}
+use Rattle.luo_types.proofs.DefinitionFacts.{SoundAll, right_sort}
+use Rattle.luo_types.proofs.NodeFacts.{PartOf, expr_stands, row_stands, row_part, head_part, boxed_one}
 use Rattle.luo_types.proofs.ProperTypes.{ProperType, ProperTypes}
 
 -- node k of a list has y by itself as a part
@@ -32,23 +32,21 @@ part_name part = part.name
 abbrev part_node : Part → ℕ
 part_node part = part.node
 
-held_on : (node : Node) (ns : List Node) (k y : ℕ) → HeldBy ns k y → HeldBy (node ∷ ns) (suc k) y
-held_on node ns k y h = h
+parts_in : Option Node → List Part
+parts_in None = []
+parts_in (Some node) = inner_parts node.shape
+
+-- what the first node of a list has as a part
+held_first : (node : Node) (ns : List Node) (ps : List Part) (y : ℕ) → inner_parts node.shape ≡ ps → HeldBy (node ∷ ns) zero y → In (bare y) ps
+unfolding parts_in
+held_first node ns ps y e h = subst (In (bare y)) (ap parts_in (sym h.1) ∙ e) h.2
 
 -- of a construct and the nodes inside it
 construct_once : (node : Node) (ns : List Node) (ps : List Part) (y : ℕ) → inner_parts node.shape ≡ ps → ((k : ℕ) → In (bare y) ps → HeldBy ns k y → ⊥) → ((k j : ℕ) → HeldBy ns k y → HeldBy ns j y → k ≡ j)
     → (k j : ℕ) → HeldBy (node ∷ ns) k y → HeldBy (node ∷ ns) j y → k ≡ j
 construct_once node ns ps y e apart once zero zero h g = refl
-construct_once node ns ps y e apart once zero (suc j) h g = absurd (apart j (subst (In (bare y)) (ap (λ (o : Option Node). node_parts o) (sym h.1) ∙ e) h.2) g)
-  where
-    node_parts : Option Node → List Part
-    node_parts None = []
-    node_parts (Some n) = inner_parts n.shape
-construct_once node ns ps y e apart once (suc k) zero h g = absurd (apart k (subst (In (bare y)) (ap (λ (o : Option Node). node_parts o) (sym g.1) ∙ e) g.2) h)
-  where
-    node_parts : Option Node → List Part
-    node_parts None = []
-    node_parts (Some n) = inner_parts n.shape
+construct_once node ns ps y e apart once zero (suc j) h g = absurd (apart j (held_first node ns ps y e h) g)
+construct_once node ns ps y e apart once (suc k) zero h g = absurd (apart k (held_first node ns ps y e g) h)
 construct_once node ns ps y e apart once (suc k) (suc j) h g = ap suc (once k j h g)
 
 construct_some : (node : Node) (ns : List Node) (ps : List Part) (y : ℕ) → inner_parts node.shape ≡ ps → In (bare y) ps ⊎ ((k : ℕ) × HeldBy ns k y) → (k : ℕ) × HeldBy (node ∷ ns) k y
@@ -70,10 +68,10 @@ module _ (universe : Universe) (names : List (List ℕ × Meaning)) (defs : List
   bare_of : (low high y : ℕ) → PartOf universe names defs low high (bare y) → BareOf low high y
   bare_of low high y q =
       elim (right_sort universe names defs all q.sub q.is_sound) [
-        inl r ↦ absurd (none_some r.j (ap part_name q.is ∙ ap part_name (r.part q.spot)))
-      | inr r ↦
-          let here : y ≡ q.spot.node = ap part_node q.is ∙ ap part_node (r.part q.spot) in
-          record { from = omega (arith, here, q.from); to = omega (arith, here, q.to, r.nodes) }
+        | inl r ↦ absurd (none_some r.j (ap part_name q.is ∙ ap part_name (r.part q.spot)))
+        | inr r ↦
+            let here : y ≡ q.spot.node = ap part_node q.is ∙ ap part_node (r.part q.spot) in
+            record { from = omega (arith, here, q.from); to = omega (arith, here, q.to, r.nodes) }
       ]
 
   -- what node k of a right side holds stands behind it, and inside
@@ -97,8 +95,8 @@ module _ (universe : Universe) (names : List (List ℕ × Meaning)) (defs : List
       → HeldBy (nodes_at names defs owner at e) k y ⊎ ((j : ℕ) × (k ≡ own_nodes e + j) × HeldBy (all_nodes_at names defs owner (behind at (own_nodes e)) rest) j y)
   row_held owner at e rest k y g =
       elim (get_cases (nodes_at names defs owner at e) (all_nodes_at names defs owner (behind at (own_nodes e)) rest) k g.0 g.1) [
-        inl f ↦ inl (g.0, f, g.2)
-      | inr f ↦ let n : k ≡ own_nodes e + f.0 = omega (arith, f.1, nodes_length names defs owner at e) in inr (f.0, n, (g.0, f.2, g.2))
+        | inl f ↦ inl (g.0, f, g.2)
+        | inr f ↦ let n : k ≡ own_nodes e + f.0 = omega (arith, f.1, nodes_length names defs owner at e) in inr (f.0, n, (g.0, f.2, g.2))
       ]
 
   -- what stands by itself among the parts isn't held among their nodes
@@ -108,16 +106,16 @@ module _ (universe : Universe) (names : List (List ℕ × Meaning)) (defs : List
       let sound : expr_breaches universe names e ≡ [] = nil_left (expr_breaches universe names e) (exprs_breaches universe names rest) h in
       let r = row_range owner at (more_of-TypeExpr e rest) p h k y g in
       elim (right_sort universe names defs all e sound) [
-        inl s ↦ absurd (none_some s.j (ap part_name i ∙ ap part_name (s.part at)))
-      | inr s ↦ let here : y ≡ at.node = ap part_node i ∙ ap part_node (s.part at) in absurd (omega (arith, r.from, here))
+        | inl s ↦ absurd (none_some s.j (ap part_name i ∙ ap part_name (s.part at)))
+        | inr s ↦ let here : y ≡ at.node = ap part_node i ∙ ap part_node (s.part at) in absurd (omega (arith, r.from, here))
       ]
   apart owner at (more_of-TypeExpr e rest) p h y k (inr i) g =
       let sound : expr_breaches universe names e ≡ [] = nil_left (expr_breaches universe names e) (exprs_breaches universe names rest) h in
       let sounds : exprs_breaches universe names rest ≡ [] = nil_right (expr_breaches universe names e) (exprs_breaches universe names rest) h in
       let b = parts_range (behind at (own_nodes e)) rest sounds y i in
       elim (row_held owner at e rest k y g) [
-        inl f ↦ let r = held_range owner at e p.0 sound k y f in absurd (omega (arith, r.to, b.from))
-      | inr f ↦ apart owner (behind at (own_nodes e)) rest p.1 sounds y f.0 i f.2
+        | inl f ↦ let r = held_range owner at e p.0 sound k y f in absurd (omega (arith, r.to, b.from))
+        | inr f ↦ apart owner (behind at (own_nodes e)) rest p.1 sounds y f.0 i f.2
       ]
 
   mutual
@@ -142,19 +140,19 @@ module _ (universe : Universe) (names : List (List ℕ × Meaning)) (defs : List
         let sound : expr_breaches universe names e ≡ [] = nil_left (expr_breaches universe names e) (exprs_breaches universe names rest) h in
         let sounds : exprs_breaches universe names rest ≡ [] = nil_right (expr_breaches universe names e) (exprs_breaches universe names rest) h in
         elim (row_held owner at e rest k y g) [
-          inl a ↦ elim (row_held owner at e rest j y f) [
-            inl b ↦ held_once owner at e p.0 sound y k j a b
-          | inr b ↦
-              let r = held_range owner at e p.0 sound k y a in
-              let s = row_range owner (behind at (own_nodes e)) rest p.1 sounds b.0 y b.2 in
-              absurd (omega (arith, r.to, s.from))
+          | inl a ↦ elim (row_held owner at e rest j y f) [
+            | inl b ↦ held_once owner at e p.0 sound y k j a b
+            | inr b ↦
+                let r = held_range owner at e p.0 sound k y a in
+                let s = row_range owner (behind at (own_nodes e)) rest p.1 sounds b.0 y b.2 in
+                absurd (omega (arith, r.to, s.from))
           ]
-        | inr a ↦ elim (row_held owner at e rest j y f) [
-            inl b ↦
-              let r = held_range owner at e p.0 sound j y b in
-              let s = row_range owner (behind at (own_nodes e)) rest p.1 sounds a.0 y a.2 in
-              absurd (omega (arith, r.to, s.from))
-          | inr b ↦ let same = row_once owner (behind at (own_nodes e)) rest p.1 sounds y a.0 b.0 a.2 b.2 in omega (arith, a.1, b.1, same)
+          | inr a ↦ elim (row_held owner at e rest j y f) [
+            | inl b ↦
+                let r = held_range owner at e p.0 sound j y b in
+                let s = row_range owner (behind at (own_nodes e)) rest p.1 sounds a.0 y a.2 in
+                absurd (omega (arith, r.to, s.from))
+            | inr b ↦ let same = row_once owner (behind at (own_nodes e)) rest p.1 sounds y a.0 b.0 a.2 b.2 in omega (arith, a.1, b.1, same)
           ]
         ]
 
@@ -171,16 +169,16 @@ module _ (universe : Universe) (names : List (List ℕ × Meaning)) (defs : List
           → In (bare y) (parts_at names defs at (more_of-TypeExpr e rest)) ⊎ ((k : ℕ) × HeldBy (all_nodes_at names defs owner at (more_of-TypeExpr e rest)) k y)
       by zero n here there (inl l) =
           elim (right_sort universe names defs all e sound) [
-            inl s ↦ absurd (omega (arith, s.no_nodes))
-          | inr s ↦ let place : y ≡ at.node = omega arith in inl (inl (ap bare place ∙ sym (s.part at)))
+            | inl s ↦ absurd (omega (arith, s.no_nodes))
+            | inr s ↦ let place : y ≡ at.node = omega arith in inl (inl (ap bare place ∙ sym (s.part at)))
           ]
       by (suc m) n here there (inl l) =
           let h = here (omega arith) l in
           inr (h.0, left_held (nodes_at names defs owner at e) (all_nodes_at names defs owner (behind at (own_nodes e)) rest) h.0 y h.1)
       by m n here there (inr q) =
           elim (there q.0 q.1) [
-            inl i ↦ inl (inr i)
-          | inr g ↦ inr (own_nodes e + g.0, right_held (nodes_at names defs owner at e) (all_nodes_at names defs owner (behind at (own_nodes e)) rest) (own_nodes e) g.0 y (sym (nodes_length names defs owner at e)) g.1)
+            | inl i ↦ inl (inr i)
+            | inr g ↦ inr (own_nodes e + g.0, right_held (nodes_at names defs owner at e) (all_nodes_at names defs owner (behind at (own_nodes e)) rest) (own_nodes e) g.0 y (sym (nodes_length names defs owner at e)) g.1)
           ]
 
   mutual

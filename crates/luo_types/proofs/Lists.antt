@@ -1,8 +1,7 @@
 -- Places of lists, and empty lists.
-use Rattle.std.proofs.Common.{◌≡◌, ℕ, zero, suc, ◌+◌, ◌<◌, ◌≤◌, ◌⊎◌, List, [], ◌∷◌, ◌++◌, map, length, Some, None, slice_get, refl, sym, ap, ◌∙◌, subst, inl, inr, arith}
-use Rattle.std.specs.Prelude.{slice_index_or, if◌then◌else◌, Bool, true, false, nat_eq, nat_le, nat_lt, flat_map}
-use Rattle.std.proofs.lemmas.Option.{slice_get-get_or, get_or_from_slice_get}
-use Rattle.std.proofs.lemmas.Bool.{eqb-true, leb-true, ltb-false}
+use Rattle.std.proofs.Common.{◌≡◌, ℕ, zero, suc, ◌+◌, ◌<◌, ◌⊎◌, List, [], ◌∷◌, ◌++◌, map, length, Some, None, slice_get, refl, sym, ap, ◌∙◌, inl, inr, arith}
+use Rattle.std.specs.Prelude.{slice_index_or, if◌then◌else◌, Bool, true, false, flat_map}
+use Rattle.std.proofs.lemmas.Option.{get_or_from_slice_get}
 use Rattle.luo_finite.specs.Listing.{In, NoDouble}
 use Rattle.luo_value_types.specs.declared.rule.Breach.{Breach}
 use Rattle.luo_value_types.specs.Breaches.{◌or_if_none◌}
@@ -64,9 +63,10 @@ map_get f (x ∷ xs) (suc i) y e = map_get f xs i y e
 -- no two places have equal elements
 pub places_apart : {A : Type 0} (xs : List A) → ((i j : ℕ) (x : A) → slice_get xs i ≡ Some x → slice_get xs j ≡ Some x → i ≡ j) → NoDouble xs
 places_apart [] h = tt
-places_apart (x ∷ xs) h =
-    (λ i. let p = place_in x xs i in let e : zero ≡ suc p.0 = h zero (suc p.0) x refl p.1 in absurd (omega (arith, e)),
-    places_apart xs (λ i j y p q. let e : suc i ≡ suc j = h (suc i) (suc j) y p q in omega (arith, e)))
+places_apart (x ∷ xs) h = (
+  λ i. let p = place_in x xs i in let e : zero ≡ suc p.0 = h zero (suc p.0) x refl p.1 in absurd (omega (arith, e)),
+  places_apart xs (λ i j y p q. let e : suc i ≡ suc j = h (suc i) (suc j) y p q in omega (arith, e)),
+)
 
 -- nothing in front and nothing behind
 pub nil_left : {A : Type 0} (xs ys : List A) → xs ++ ys ≡ [] → xs ≡ []

@@ -1,6 +1,6 @@
 -- What the names of a source mean: each definition, measure and procedure by its own name.
 use Rattle.std.proofs.Common.{◌≡◌, ℕ, zero, suc, ◌+◌, ◌<◌, ◌≤◌, ◌⊎◌, List, [], ◌∷◌, ◌++◌, map, length, Option, Some, None, slice_get, refl, sym, ap, ◌∙◌, subst, inl, inr, arith}
-use Rattle.std.specs.Prelude.{flat_map, Bool, true, false, if◌then◌else◌, nat_eq, is_some}
+use Rattle.std.specs.Prelude.{flat_map, Bool, true, false, if◌then◌else◌, is_some}
 use Rattle.std.specs.Str.{bytes_eq}
 use Rattle.std.proofs.lemmas.Bool.{eqb-true}
 use Rattle.std.proofs.lemmas.List.{length-map}
@@ -164,17 +164,17 @@ module _ (universe : Universe) (names : List (List ℕ × Meaning)) (defs : List
       let new : new_types names i t.names ≡ [] = nil_left (new_types names i t.names) _ here in
       let body = nil_right (new_types names i t.names) _ here in
       elim (get_cases (copies t) (flat_map copies ts) k d h) [
-        inl g ↦
-          let n = map_get (λ (name : Name). let v : Definition = record { name = name; right = t.body } in v) t.names k d g in
-          let made : Sound universe names defs (i + k) (record { name = n.0; right = t.body }) =
-          record {
-            own_name = new_get i t.names k n.0 new n.1;
-            right_side = none_first (expr_breaches universe names t.body) (circle_breaches names defs i t.names t.body) body;
-            no_circle = no_circles i t.names k n.0 t.body (none_then (expr_breaches universe names t.body) (circle_breaches names defs i t.names t.body) body) n.1;
-          } in
-          subst (Sound universe names defs (i + k)) (sym n.2) made
-      | inr g ↦
-          let more = sound (i + length t.names) ts g.0 d (nil_right (type_breaches universe names defs i t) (types_breaches universe names defs (i + length t.names) ts) e) g.2 in
-          let long : length (copies t) ≡ length t.names = length-map t.names (λ (name : Name). let v : Definition = record { name = name; right = t.body } in v) in
-          subst (λ n. Sound universe names defs n d) (omega (arith, g.1, long)) more
+        | inl g ↦
+            let n = map_get (λ (name : Name). let v : Definition = record { name = name; right = t.body } in v) t.names k d g in
+            let made : Sound universe names defs (i + k) (record { name = n.0; right = t.body }) =
+            record {
+              own_name = new_get i t.names k n.0 new n.1;
+              right_side = none_first (expr_breaches universe names t.body) (circle_breaches names defs i t.names t.body) body;
+              no_circle = no_circles i t.names k n.0 t.body (none_then (expr_breaches universe names t.body) (circle_breaches names defs i t.names t.body) body) n.1;
+            } in
+            subst (Sound universe names defs (i + k)) (sym n.2) made
+        | inr g ↦
+            let more = sound (i + length t.names) ts g.0 d (nil_right (type_breaches universe names defs i t) (types_breaches universe names defs (i + length t.names) ts) e) g.2 in
+            let long : length (copies t) ≡ length t.names = length-map t.names (λ (name : Name). let v : Definition = record { name = name; right = t.body } in v) in
+            subst (λ n. Sound universe names defs n d) (omega (arith, g.1, long)) more
       ]

@@ -1,22 +1,19 @@
 -- The nodes of a definition without breach: each stands for a construct of its right side, with the parts of that.
-use Rattle.std.proofs.Common.{◌≡◌, ℕ, zero, suc, ◌+◌, ◌<◌, ◌≤◌, ◌⊎◌, max, List, [], ◌∷◌, ◌++◌, length, Option, Some, None, slice_get, refl, sym, ap, ◌∙◌, subst, inl, inr, arith}
+use Rattle.std.proofs.Common.{◌≡◌, ℕ, zero, suc, ◌+◌, ◌≤◌, max, List, [], ◌∷◌, ◌++◌, Some, slice_get, refl, sym, ap, subst, inl, inr, arith}
 use Rattle.std.proofs.Math.Nat.{le-max_left, le-max_right}
 use Rattle.luo_finite.specs.Listing.{In}
 use Rattle.luo_model.specs.declared.program.Universe.{Universe}
 use Rattle.luo_model.specs.declared.program.Part.{Part}
 use Rattle.luo_model.specs.declared.program.Node.{Node}
-use Rattle.luo_model.specs.declared.program.Shape.{Shape}
-use Rattle.luo_model.specs.declared.program.Shape.TheVariants as shape
-use Rattle.luo_model.specs.Invariant.{bare, inner_parts}
+use Rattle.luo_model.specs.Invariant.{inner_parts}
 use Rattle.luo_syntax.specs.declared.types.TypeExpr.{TypeExpr, Named, Epsilon, Atom, Union', Product', Coll', Row_of-TypeExpr, end_of-TypeExpr, more_of-TypeExpr}
 use Rattle.luo_value_types.specs.declared.names.Meaning.{Meaning}
 use Rattle.luo_types.specs.Counted.{own_nodes, own_nodes_of, count_exprs, most_parts, most_parts_of, greatest_bound, greatest_bound_of, greatest_of}
-use Rattle.luo_types.specs.Definitions.{Definition, node_of}
-use Rattle.luo_types.specs.TypeBreaches.{expr_breaches, exprs_breaches, kind_breaches, bound_breaches, low_of, high_of}
+use Rattle.luo_types.specs.Definitions.{Definition}
+use Rattle.luo_types.specs.TypeBreaches.{expr_breaches, exprs_breaches, kind_breaches, bound_breaches}
 use Rattle.luo_types.specs.Nodes.{Spot, behind, part_at, parts_at, boxed_part_at, nodes_at, all_nodes_at}
 use Rattle.luo_types.proofs.Lists.{some_same, none_some, get_cases, nil_left, nil_right}
 use Rattle.luo_types.proofs.NodeLists.{nodes_length}
-use Rattle.luo_types.proofs.DefinitionFacts.{SoundAll, NamedRight, BareRight, right_sort}
 use Rattle.luo_types.proofs.ProperTypes.{ProperType, ProperTypes}
 
 pub spot_same : (a b c d : ℕ) → a ≡ b → c ≡ d → (let s : Spot = record { node = a; place = c } in let t : Spot = record { node = b; place = d } in s ≡ t)
@@ -99,21 +96,21 @@ module _ (universe : Universe) (names : List (List ℕ × Meaning)) (defs : List
     row_stands owner at end_of-TypeExpr p h k node f = absurd (none_some node f)
     row_stands owner at (more_of-TypeExpr e rest) p h k node f =
         elim (get_cases (nodes_at names defs owner at e) (all_nodes_at names defs owner (behind at (own_nodes e)) rest) k node f) [
-          inl g ↦
-            let s = expr_stands owner at e p.0 (nil_left (expr_breaches universe names e) (exprs_breaches universe names rest) h) k node g in
-            record {
-              sub = s.sub;
-              is_proper = s.is_proper;
-              is_sound = s.is_sound;
-              first = s.first;
-              within = omega (arith, s.within);
-              parts = omega (arith, s.parts, le-max_left (most_parts e) (most_parts_of rest));
-              bounds = omega (arith, s.bounds, le-max_left (greatest_bound e) (greatest_bound_of rest));
-            }
-        | inr g ↦
-            stands_behind owner at (own_nodes e) (own_nodes_of rest) (own_nodes e + own_nodes_of rest) (most_parts_of rest) (max (most_parts e) (most_parts_of rest)) (greatest_bound_of rest) (max (greatest_bound e) (greatest_bound_of rest)) g.0 k node
-            (omega arith) (le-max_right (most_parts e) (most_parts_of rest)) (le-max_right (greatest_bound e) (greatest_bound_of rest)) (omega (arith, g.1, nodes_length names defs owner at e))
-            (row_stands owner (behind at (own_nodes e)) rest p.1 (nil_right (expr_breaches universe names e) (exprs_breaches universe names rest) h) g.0 node g.2)
+          | inl g ↦
+              let s = expr_stands owner at e p.0 (nil_left (expr_breaches universe names e) (exprs_breaches universe names rest) h) k node g in
+              record {
+                sub = s.sub;
+                is_proper = s.is_proper;
+                is_sound = s.is_sound;
+                first = s.first;
+                within = omega (arith, s.within);
+                parts = omega (arith, s.parts, le-max_left (most_parts e) (most_parts_of rest));
+                bounds = omega (arith, s.bounds, le-max_left (greatest_bound e) (greatest_bound_of rest));
+              }
+          | inr g ↦
+              stands_behind owner at (own_nodes e) (own_nodes_of rest) (own_nodes e + own_nodes_of rest) (most_parts_of rest) (max (most_parts e) (most_parts_of rest)) (greatest_bound_of rest) (max (greatest_bound e) (greatest_bound_of rest)) g.0 k node
+              (omega arith) (le-max_right (most_parts e) (most_parts_of rest)) (le-max_right (greatest_bound e) (greatest_bound_of rest)) (omega (arith, g.1, nodes_length names defs owner at e))
+              (row_stands owner (behind at (own_nodes e)) rest p.1 (nil_right (expr_breaches universe names e) (exprs_breaches universe names rest) h) g.0 node g.2)
         ]
 
   -- the first node of a construct is of its owner and its place

@@ -1,5 +1,5 @@
 -- The definitions and nodes of a core form, by their places.
-use Rattle.std.proofs.Common.{◌≡◌, ℕ, zero, suc, ◌+◌, ◌*◌, ◌<◌, ◌≤◌, ◌⊎◌, List, [], ◌∷◌, ◌++◌, map, length, take, Some, None, slice_get, sum_by, refl, sym, ap, ◌∙◌, subst, inl, inr, arith, length-append}
+use Rattle.std.proofs.Common.{◌≡◌, ℕ, zero, suc, ◌+◌, ◌*◌, ◌<◌, ◌≤◌, List, [], ◌∷◌, map, length, take, Some, slice_get, sum_by, refl, sym, ap, ◌∙◌, subst, inl, inr, arith, length-append}
 use Rattle.std.specs.Prelude.{flat_map}
 use Rattle.std.proofs.lemmas.List.{length-map}
 use Rattle.std.proofs.lemmas.List.Sums.{sum_by-cons, sum_by-append}
@@ -94,18 +94,18 @@ module _ (names : List (List ℕ × Meaning)) (defs : List Definition) where
   node_of_def i x [] k node e = absurd (none_some node e)
   node_of_def i x (d ∷ ds) k node e =
       elim (get_cases (nodes_at names defs i (start names defs x) d.right) (nodes_from names defs (suc i) (x + own_nodes d.right) ds) k node e) [
-        inl h ↦
-          let P : ℕ → ℕ → Type 0 = λ a b. slice_get (nodes_at names defs a (start names defs b) d.right) k ≡ Some node in
-          let h' : P (i + 0) (x + first_node (d ∷ ds) 0) = subst (λ a. P a (x + first_node (d ∷ ds) 0)) (omega arith) (subst (λ b. P i b) (omega (arith, first_zero (d ∷ ds))) h) in
-          let n : k ≡ first_node (d ∷ ds) 0 + k = omega (arith, first_zero (d ∷ ds)) in
-          record { j = 0; d = d; m = k; is_definition = refl; is_node = h'; number = n }
-      | inr h ↦
-          let b = node_of_def (suc i) (x + own_nodes d.right) ds h.0 node h.2 in
-          let P : ℕ → ℕ → Type 0 = λ a y. slice_get (nodes_at names defs a (start names defs y) b.d.right) b.m ≡ Some node in
-          let h' : P (i + suc b.j) (x + first_node (d ∷ ds) (suc b.j)) =
-          subst (λ a. P a (x + first_node (d ∷ ds) (suc b.j))) (omega arith) (subst (λ y. P (suc i + b.j) y) (omega (arith, first_suc d ds b.j)) b.is_node) in
-          let n : k ≡ first_node (d ∷ ds) (suc b.j) + b.m = omega (arith, first_suc d ds b.j, h.1, b.number, nodes_length i (start names defs x) d.right) in
-          record { j = suc b.j; d = b.d; m = b.m; is_definition = b.is_definition; is_node = h'; number = n }
+        | inl h ↦
+            let P : ℕ → ℕ → Type 0 = λ a b. slice_get (nodes_at names defs a (start names defs b) d.right) k ≡ Some node in
+            let h' : P (i + 0) (x + first_node (d ∷ ds) 0) = subst (λ a. P a (x + first_node (d ∷ ds) 0)) (omega arith) (subst (λ b. P i b) (omega (arith, first_zero (d ∷ ds))) h) in
+            let n : k ≡ first_node (d ∷ ds) 0 + k = omega (arith, first_zero (d ∷ ds)) in
+            record { j = 0; d = d; m = k; is_definition = refl; is_node = h'; number = n }
+        | inr h ↦
+            let b = node_of_def (suc i) (x + own_nodes d.right) ds h.0 node h.2 in
+            let P : ℕ → ℕ → Type 0 = λ a y. slice_get (nodes_at names defs a (start names defs y) b.d.right) b.m ≡ Some node in
+            let h' : P (i + suc b.j) (x + first_node (d ∷ ds) (suc b.j)) =
+            subst (λ a. P a (x + first_node (d ∷ ds) (suc b.j))) (omega arith) (subst (λ y. P (suc i + b.j) y) (omega (arith, first_suc d ds b.j)) b.is_node) in
+            let n : k ≡ first_node (d ∷ ds) (suc b.j) + b.m = omega (arith, first_suc d ds b.j, h.1, b.number, nodes_length i (start names defs x) d.right) in
+            record { j = suc b.j; d = b.d; m = b.m; is_definition = b.is_definition; is_node = h'; number = n }
       ]
 
   pub node_there : (i x : ℕ) (ds : List Definition) (j : ℕ) (d : Definition) (m : ℕ) (node : Node) → slice_get ds j ≡ Some d

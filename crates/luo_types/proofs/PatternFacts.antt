@@ -1,5 +1,5 @@
 -- Variables and patterns without breach: where they stand, and what they bind.
-use Rattle.std.proofs.Common.{◌≡◌, ℕ, zero, suc, ◌+◌, ◌≤◌, List, [], ◌∷◌, ◌++◌, map, length, Option, Some, None, slice_get, refl, sym, ap, ◌∙◌, subst, arith}
+use Rattle.std.proofs.Common.{◌≡◌, ℕ, suc, ◌+◌, List, [], ◌∷◌, map, length, Option, Some, None, slice_get, refl, sym, ap, ◌∙◌, arith}
 use Rattle.std.specs.Prelude.{Bool, true, false, ◌&&◌, if◌then◌else◌, nat_eq}
 use Rattle.std.specs.Str.{bytes_eq}
 use Rattle.std.proofs.lemmas.Bool.{eqb-true}
@@ -9,14 +9,14 @@ use Rattle.luo_model.specs.declared.program.Shape.{Shape}
 use Rattle.luo_model.specs.declared.program.Shape.TheVariants as shape
 use Rattle.luo_model.specs.declared.program.Site.{Site}
 use Rattle.luo_model.specs.Program.{Program, Procedure}
-use Rattle.luo_model.specs.Scopes.{Stand, inside, itself, stand_node, stands, factors, IsProductOf, MayBind, bound_nodes}
+use Rattle.luo_model.specs.Scopes.{Stand, inside, itself, stands, factors, IsProductOf, MayBind, bound_nodes}
 use Rattle.luo_syntax.specs.declared.names.Name.{Name}
 use Rattle.luo_syntax.specs.declared.statements.Pattern.{Pattern}
 use Rattle.luo_syntax.specs.declared.statements.Pattern.TheVariants.{Named, NamedWhole, NamedParts, Parts, Any, AnyWhole}
 use Rattle.luo_value_types.specs.declared.rule.Breach.{Breach}
 use Rattle.luo_value_types.specs.declared.setting.Setting.{Setting}
 use Rattle.luo_value_types.specs.declared.setting.Variable.{Variable}
-use Rattle.luo_value_types.specs.Settings.{shape_at, type_node, found_from, found, place_of, argument_breaches, case_stands}
+use Rattle.luo_value_types.specs.Settings.{shape_at, type_node, found_from, found, place_of, argument_breaches}
 use Rattle.luo_value_types.specs.Patterns.{is_node, has_factors, fits, pattern_type_use, factor_names, repeated, misfit, pattern_breaches, arm_breaches, case_breaches, bind_of, variables, bound}
 use Rattle.luo_types.proofs.Lists.{some_same, none_some, nil_left, nil_right, none_then, chosen_true, chosen_same}
 

@@ -1,10 +1,9 @@
 -- What the grammar and the scan give of a source: proper right sides and bodies, and measures within the limit of numbers.
-use Rattle.std.proofs.Common.{◌≡◌, ℕ, ◌≤◌, ◌^◌, List, [], ◌∷◌, refl, sym, ap, ◌∙◌, subst, Option}
+use Rattle.std.proofs.Common.{◌≤◌, ◌^◌, List, Option}
 use Rattle.std.specs.List.{AllByRecursion}
-use Rattle.luo_scan.specs.declared.token.Token.{Token}
 use Rattle.luo_scan.specs.declared.token.Mark.{Mark}
 use Rattle.luo_scan.specs.Laws.{IsFit}
-use Rattle.luo_scan.specs.Lexemes.{Lexeme, lexemes}
+use Rattle.luo_scan.specs.Lexemes.{Lexeme}
 use Rattle.luo_scan.proofs.Inside.{lexemes_fit}
 use Rattle.luo_syntax.specs.declared.names.Name.{Name}
 use Rattle.luo_syntax.specs.declared.types.Range.{Range}
@@ -17,11 +16,11 @@ use Rattle.luo_syntax.specs.declared.source.ProcBody.TheVariants.{Statements, Va
 use Rattle.luo_syntax.specs.declared.source.ProcDef.{ProcDef}
 use Rattle.luo_syntax.specs.declared.source.Source.{Source}
 use Rattle.luo_syntax.specs.GrammarTypes.{AreNames, last_name, more_names, IsRange, exactly, at_most, at_least, between, EndsCollection, unbounded, bounded, IsExpr, one_term, union, AreTerms, last_term, more_terms, IsTerm, named, epsilon, atom, product, collection, AreFactors, last_factor, more_factors, IsTypeDef, type_def, IsMeasure, measure_def}
-use Rattle.luo_syntax.specs.Grammar.{IsProcBody, statements_body, value_body, IsProc, proc, FromProcs, no_procs, more_procs, FromMeasures, no_measures, more_measures, FromTypes, no_types, more_types, IsProgram, labelled, unlabelled, unlabelled_unsaid, Derives}
+use Rattle.luo_syntax.specs.Grammar.{IsProcBody, statements_body, value_body, IsProc, proc, FromProcs, no_procs, more_procs, FromMeasures, no_measures, more_measures, FromTypes, no_types, more_types, IsProgram, labelled, unlabelled, unlabelled_unsaid}
 use Rattle.luo_types.specs.Checks.{IsSource}
 use Rattle.luo_types.proofs.NameFacts.{ValuesWithin}
 use Rattle.luo_types.proofs.ProperTypes.{ProperType, expr_proper}
-use Rattle.luo_types.proofs.ProperBodies.{ProperStmt, AllStmts, ProperValue, block_all, value_proper}
+use Rattle.luo_types.proofs.ProperBodies.{AllStmts, ProperValue, block_all, value_proper}
 
 abbrev AllFit : List Lexeme → Type 0
 AllFit ls = AllByRecursion IsFit ls

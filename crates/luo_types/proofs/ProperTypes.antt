@@ -1,5 +1,5 @@
 -- What the grammar gives of the right side of a definition: a union and a product have at least two parts, and a collection has one.
-use Rattle.std.proofs.Common.{◌≡◌, ℕ, suc, ◌+◌, ◌≤◌, List, [], ◌∷◌, length, refl, sym, ap, ◌∙◌, subst, Option, arith}
+use Rattle.std.proofs.Common.{◌≡◌, ℕ, suc, ◌≤◌, List, ◌∷◌, length, refl, sym, ap, ◌∙◌, subst, Option, arith}
 use Rattle.std.specs.List.{AllByRecursion}
 use mathlib.Core.Former.{Count}
 use denote.Hole.Carrier.{hidden}

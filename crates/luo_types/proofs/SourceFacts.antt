@@ -1,13 +1,11 @@
 -- What a source within the limits and without breach has: its definitions, its names and its procedures.
-use Rattle.std.proofs.Common.{◌≡◌, ℕ, zero, suc, ◌+◌, ◌*◌, ◌≤◌, ◌<◌, max, List, [], ◌∷◌, ◌++◌, map, length, sum_by, Option, Some, None, slice_get, refl, sym, ap, ◌∙◌, subst, inl, inr, arith}
+use Rattle.std.proofs.Common.{◌≡◌, ℕ, zero, suc, ◌≤◌, List, [], ◌∷◌, ◌++◌, length, Some, slice_get, refl, sym, ap, subst, inl, inr, arith}
 use Rattle.std.specs.Prelude.{flat_map, Bool, true, false, if◌then◌else◌, nat_lt}
 use Rattle.std.specs.List.{AllByRecursion}
 use Rattle.std.proofs.lemmas.Bool.{ltb-false}
 use Rattle.std.proofs.Math.Nat.{le-max_left, le-max_right}
 use Rattle.luo_syntax.specs.declared.names.Name.{Name}
-use Rattle.luo_syntax.specs.declared.types.TypeExpr.{TypeExpr}
 use Rattle.luo_syntax.specs.declared.types.TypeDef.{TypeDef}
-use Rattle.luo_syntax.specs.declared.source.ProcDef.{ProcDef}
 use Rattle.luo_syntax.specs.declared.source.Source.{Source}
 use Rattle.luo_types.specs.declared.error.CountLimit.{CountLimit}
 use Rattle.luo_types.specs.declared.error.CountLimit.TheVariants as count
@@ -36,10 +34,10 @@ pub copy_of : (ts : List TypeDef) (i : ℕ) (d : Definition) → slice_get (flat
 copy_of [] i d e = absurd (none_some d e)
 copy_of (t ∷ ts) i d e =
     elim (get_cases (copies t) (flat_map copies ts) i d e) [
-      inl g ↦
-        let n = map_get (λ (name : Name). let v : Definition = record { name = name; right = t.body } in v) t.names i d g in
-        record { k = 0; t = t; is = refl; right = ap (λ (z : Definition). z.right) n.2 }
-    | inr g ↦ let c = copy_of ts g.0 d g.2 in record { k = suc c.k; t = c.t; is = c.is; right = c.right }
+      | inl g ↦
+          let n = map_get (λ (name : Name). let v : Definition = record { name = name; right = t.body } in v) t.names i d g in
+          record { k = 0; t = t; is = refl; right = ap (λ (z : Definition). z.right) n.2 }
+      | inr g ↦ let c = copy_of ts g.0 d g.2 in record { k = suc c.k; t = c.t; is = c.is; right = c.right }
     ]
 
 -- what is counted is within its limit

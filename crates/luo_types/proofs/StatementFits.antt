@@ -1,5 +1,5 @@
 -- The core form of statements without breach fits, with its sites in order.
-use Rattle.std.proofs.Common.{◌≡◌, ℕ, zero, suc, ◌+◌, ◌*◌, ◌≤◌, List, [], ◌∷◌, ◌++◌, length, sum_by, Option, Some, None, slice_get, refl, sym, ap, ◌∙◌, subst, arith}
+use Rattle.std.proofs.Common.{◌≡◌, ℕ, ◌+◌, ◌*◌, ◌≤◌, List, [], ◌∷◌, length, sum_by, Option, Some, None, slice_get, refl, sym, ap, ◌∙◌, subst, arith}
 use Rattle.std.specs.Prelude.{flat_map}
 use Rattle.std.proofs.Math.Nat.{add-mul}
 use Rattle.std.proofs.lemmas.List.Sums.{sum_by-cons}
@@ -7,7 +7,7 @@ use Rattle.luo_model.specs.declared.program.Shape.{Shape}
 use Rattle.luo_model.specs.declared.program.Shape.TheVariants as shape
 use Rattle.luo_model.specs.declared.program.Site.{Site}
 use Rattle.luo_model.specs.Program.{Program, Procedure, Items, no_items, Does, shape_of}
-use Rattle.luo_model.specs.Scopes.{Stand, stands, component, IsCollection, greatest_charge, bound_nodes, FitsItem, join_items, items_in, arms_in}
+use Rattle.luo_model.specs.Scopes.{Stand, stands, component, IsCollection, greatest_charge, FitsItem, items_in, arms_in}
 use Rattle.luo_model.specs.Program as plain
 use Rattle.luo_syntax.specs.declared.names.Name.{Name}
 use Rattle.luo_syntax.specs.declared.statements.Stmt.{Stmt, Skip, Charge, Call, Block', Case', Forall', Row_of-Stmt, end_of-Stmt, more_of-Stmt, Row_of-SourceArm, end_of-SourceArm, more_of-SourceArm}
@@ -23,10 +23,10 @@ use Rattle.luo_types.specs.Counted.{stmt_statements, stmts_statements, arms_stat
 use Rattle.luo_types.specs.StatementBreaches.{count_arms, walked, walk_into, walk_breaches, stmt_breaches, stmts_breaches, arms_breaches}
 use Rattle.luo_types.specs.StatementCore.{stmt_own, stmts_own, stmt_sites, stmts_sites, arms_sites, stmt_items, stmts_items, arms_core}
 use Rattle.luo_types.specs.Whole.{items_of}
-use Rattle.luo_types.proofs.Lists.{none_some, nil_left, nil_right}
+use Rattle.luo_types.proofs.Lists.{nil_left, nil_right}
 use Rattle.luo_types.proofs.ProperBodies.{ProperStmt, ProperStmts, ProperArms, AllStmts}
-use Rattle.luo_types.proofs.PatternFacts.{program_over, nodes_of, IsFoundIn, found_there, found_one, argument_fits, may_bind, bound_same, arm_fits, CaseFits, case_fits}
-use Rattle.luo_types.proofs.ValueFits.{Callee, SoundSetting, procedure_meant}
+use Rattle.luo_types.proofs.PatternFacts.{program_over, nodes_of, IsFoundIn, found_there, found_one, argument_fits, may_bind, bound_same, arm_fits, case_fits}
+use Rattle.luo_types.proofs.ValueFits.{SoundSetting, procedure_meant}
 use Rattle.luo_types.proofs.GoodItems.{GoodItems, GoodArms, good_none, good_join, good_call, good_case, good_forall, good_no_arms, good_arm, own_within, join_in}
 
 value_bound : (o : Option Meaning) → ((k v : ℕ) → o ≡ Some (mean.Measure k v) → v ≤ greatest_charge) → value_of o ≤ greatest_charge

@@ -1,5 +1,5 @@
 -- The core form of a value without breach fits the node that is expected.
-use Rattle.std.proofs.Common.{◌≡◌, ℕ, zero, suc, ◌+◌, ◌≤◌, List, [], ◌∷◌, ◌++◌, map, length, Option, Some, None, slice_get, refl, sym, ap, ◌∙◌, subst, arith}
+use Rattle.std.proofs.Common.{◌≡◌, ℕ, zero, suc, ◌≤◌, List, [], ◌∷◌, length, Option, Some, None, slice_get, refl, sym, ap, ◌∙◌, subst, arith}
 use Rattle.std.specs.Prelude.{Bool, true, false, not, is_some, if◌then◌else◌, nat_eq, slice_index_or, codes, decimal}
 use Rattle.std.proofs.lemmas.Bool.{eqb-true}
 use Rattle.luo_model.specs.declared.program.Part.{Part}
@@ -8,9 +8,8 @@ use Rattle.luo_model.specs.declared.program.Shape.TheVariants as shape
 use Rattle.luo_model.specs.declared.program.Site.{Site}
 use Rattle.luo_model.specs.Program as plain
 use Rattle.luo_model.specs.Program.{Program, Procedure, Result}
-use Rattle.luo_model.specs.Scopes.{Stand, stands, factors, IsProductOf, greatest_charge, FitsValue, FitsValues, FitsValueArms, value_count, bound_nodes}
+use Rattle.luo_model.specs.Scopes.{Stand, stands, factors, IsProductOf, greatest_charge, FitsValue, FitsValues, FitsValueArms, value_count}
 use Rattle.luo_syntax.specs.declared.names.Name.{Name}
-use Rattle.luo_syntax.specs.declared.statements.Pattern.{Pattern}
 use Rattle.luo_syntax.specs.declared.values.SourceValue.{SourceValue, Given, Made, Atom, Tuple', Branch', Case', Row_of-SourceValue, end_of-SourceValue, more_of-SourceValue, Row_of-SourceValueArm, end_of-SourceValueArm, more_of-SourceValueArm}
 use Rattle.luo_value_types.specs.declared.names.Meaning.{Meaning}
 use Rattle.luo_value_types.specs.declared.names.Meaning.TheVariants as mean
@@ -20,11 +19,11 @@ use Rattle.luo_value_types.specs.declared.setting.Variable.{Variable}
 use Rattle.luo_value_types.specs.Breaches.{◌or_if_none◌}
 use Rattle.luo_value_types.specs.Meanings.{meaning, measure_use, procedure_use, value_of, procedure_of}
 use Rattle.luo_value_types.specs.Settings.{meant, no_signature, signature_meant, shape_at, found, place_of, argument_breaches, case_stands}
-use Rattle.luo_value_types.specs.Patterns.{has_factors, fits, bound, bind_of, arm_breaches}
-use Rattle.luo_value_types.specs.ValueBreaches.{differs, given_breaches, result_breaches, charge_use, is_atom, may_stand, part_nodes, branch_at, branch_of, has_branch, inner_node, misplaced, count_values, count_value_arms, value_breaches, values_breaches, boxed_value_breaches, value_arms_breaches}
+use Rattle.luo_value_types.specs.Patterns.{has_factors, bound, arm_breaches}
+use Rattle.luo_value_types.specs.ValueBreaches.{differs, given_breaches, result_breaches, charge_use, is_atom, part_nodes, branch_at, branch_of, has_branch, misplaced, count_values, count_value_arms, value_breaches, values_breaches, boxed_value_breaches, value_arms_breaches}
 use Rattle.luo_value_types.specs.ValueCore.{weight_of, charge_of, value_core, values_core, boxed_value_core, value_arms_core}
-use Rattle.luo_types.proofs.Lists.{some_same, none_some, nil_left, nil_right, none_first, none_then, chosen_true}
-use Rattle.luo_types.proofs.PatternFacts.{program_over, nodes_of, IsFoundIn, found_there, found_one, argument_fits, product_of, factors_length, may_bind, bound_same, arm_fits, CaseFits, case_fits}
+use Rattle.luo_types.proofs.Lists.{some_same, none_some, nil_left, nil_right, none_first, none_then}
+use Rattle.luo_types.proofs.PatternFacts.{program_over, nodes_of, IsFoundIn, found_there, found_one, argument_fits, product_of, factors_length, may_bind, bound_same, arm_fits, case_fits}
 use Rattle.luo_types.proofs.ProperBodies.{ProperValue, ProperValues, ProperValueArms}
 
 -- what is known of a procedure by its number
@@ -160,9 +159,10 @@ module _ (s : Setting) (procs : List Procedure) (sites : List Site) (analyses : 
         let nodes : part_nodes s (Some expected) k ≡ factors (shape_at s expected) = chosen test (factors (shape_at s expected)) [] here in
         let form = shape_at s expected in
         let P : List ℕ → Type 0 = λ ns. IsProductOf (value_count (values_core s scope ns parts)) form × FitsValues (program_over s procs sites analyses) (nodes_of scope) (factors form) (values_core s scope ns parts) in
-        let fit : P (factors form) =
-        (subst (λ n. IsProductOf n form) (sym (values_counted scope (factors form) parts)) product,
-        values_fit scope (factors form) parts p (factors_length k form product) (subst (λ ns. values_breaches s scope ns parts ≡ []) nodes more)) in
+        let fit : P (factors form) = (
+          subst (λ n. IsProductOf n form) (sym (values_counted scope (factors form) parts)) product,
+          values_fit scope (factors form) parts p (factors_length k form product) (subst (λ ns. values_breaches s scope ns parts ≡ []) nodes more),
+        ) in
         subst P (sym nodes) fit
     value_fits scope expected (Branch' number at size inner) p e =
         let form = shape_at s expected in
@@ -179,9 +179,12 @@ module _ (s : Setting) (procs : List Procedure) (sites : List Site) (analyses : 
         let x = c.variable.1 in
         let ss = stands x (shape_at s x) in
         let some : case_stands s (found scope var) ≡ ss = ap (case_stands s) c.is in
-        let fit = value_arms_fit scope ss expected var arms p.1 (sym c.many) (subst (λ z. value_arms_breaches s z (Some expected) var arms ≡ []) some c.none) in
-        (x, found_one (nodes_of scope) (found scope var) c.variable (found_there scope var) c.is, omega (arith, c.many, p.0),
-        subst (λ z. FitsValueArms (program_over s procs sites analyses) ss expected (value_arms_core s z (Some expected) arms)) (sym some) fit)
+        let fit = value_arms_fit scope ss expected var arms p.1 (sym c.many) (subst (λ z. value_arms_breaches s z (Some expected) var arms ≡ []) some c.none) in (
+          x,
+          found_one (nodes_of scope) (found scope var) c.variable (found_there scope var) c.is,
+          omega (arith, c.many, p.0),
+          subst (λ z. FitsValueArms (program_over s procs sites analyses) ss expected (value_arms_core s z (Some expected) arms)) (sym some) fit,
+        )
 
     values_counted : (scope : List Variable) (nodes : List ℕ) {n : _} (row : Row_of-SourceValue n) → value_count (values_core s scope nodes row) ≡ count_values row
     values_counted scope nodes end_of-SourceValue = refl
@@ -193,9 +196,10 @@ module _ (s : Setting) (procs : List Procedure) (sites : List Site) (analyses : 
     values_fit scope [] end_of-SourceValue p l e = tt
     values_fit scope (x ∷ nodes) end_of-SourceValue p l e = absurd (omega (arith, l))
     values_fit scope [] (more_of-SourceValue v rest) p l e = absurd (omega (arith, l))
-    values_fit scope (x ∷ nodes) (more_of-SourceValue v rest) p l e =
-        (value_fits scope x v p.0 (nil_left (value_breaches s scope (Some x) v) (values_breaches s scope nodes rest) e),
-        values_fit scope nodes rest p.1 (omega (arith, l)) (nil_right (value_breaches s scope (Some x) v) (values_breaches s scope nodes rest) e))
+    values_fit scope (x ∷ nodes) (more_of-SourceValue v rest) p l e = (
+      value_fits scope x v p.0 (nil_left (value_breaches s scope (Some x) v) (values_breaches s scope nodes rest) e),
+      values_fit scope nodes rest p.1 (omega (arith, l)) (nil_right (value_breaches s scope (Some x) v) (values_breaches s scope nodes rest) e),
+    )
 
     boxed_fits : (scope : List Variable) (expected : ℕ) {n : _} (row : Row_of-SourceValue n) → 1 ≤ count_values row → ProperValues row → boxed_value_breaches s scope (Some expected) row ≡ []
         → FitsValue (program_over s procs sites analyses) (nodes_of scope) expected (boxed_value_core s scope (Some expected) row)
@@ -210,7 +214,8 @@ module _ (s : Setting) (procs : List Procedure) (sites : List Site) (analyses : 
     value_arms_fit scope (stand ∷ ss) expected var (more_of-SourceValueArm pattern body rest) p l e =
         let inner = value_breaches s (bound s stand pattern) (Some expected) body in
         let a = arm_fits s stand var pattern inner (nil_left (arm_breaches s stand var pattern inner) (value_arms_breaches s ss (Some expected) var rest) e) in
-        let fit = value_fits (bound s stand pattern) expected body p.0 a.1 in
-        (may_bind s procs sites analyses stand pattern a.0,
-        subst (λ vars. FitsValue (program_over s procs sites analyses) vars expected (value_core s (bound s stand pattern) (Some expected) body)) (bound_same s procs sites analyses stand pattern a.0) fit,
-        value_arms_fit scope ss expected var rest p.1 (omega (arith, l)) (nil_right (arm_breaches s stand var pattern inner) (value_arms_breaches s ss (Some expected) var rest) e))
+        let fit = value_fits (bound s stand pattern) expected body p.0 a.1 in (
+          may_bind s procs sites analyses stand pattern a.0,
+          subst (λ vars. FitsValue (program_over s procs sites analyses) vars expected (value_core s (bound s stand pattern) (Some expected) body)) (bound_same s procs sites analyses stand pattern a.0) fit,
+          value_arms_fit scope ss expected var rest p.1 (omega (arith, l)) (nil_right (arm_breaches s stand var pattern inner) (value_arms_breaches s ss (Some expected) var rest) e),
+        )

@@ -1,15 +1,15 @@
 -- The body that a value gives: what it charges, its items and its sites.
-use Rattle.std.proofs.Common.{◌≡◌, ℕ, zero, suc, ◌+◌, ◌*◌, ◌≤◌, List, [], ◌∷◌, length, Option, Some, None, slice_get, refl, sym, ap, ◌∙◌, subst, arith}
-use Rattle.std.proofs.Math.Nat.{mul-le-mul_right, add-mul}
-use Rattle.luo_model.specs.Program.{Program, Procedure, Body, Does, Items, no_items, item, Item, Arms, no_arms, arm, Value, Given, Made, Atom, Tuple, Branch, Chosen, Values, no_values, value, ValueArms, no_value_arms, value_arm, shape_of}
-use Rattle.luo_model.specs.Scopes.{Stand, stands, bound_nodes, greatest_charge, FitsValue, FitsValues, FitsValueArms, value_own, values_own, value_sites, values_sites, value_arms_sites, value_items, values_items, value_arm_bodies, join_items, items_in, arms_in}
+use Rattle.std.proofs.Common.{ℕ, suc, ◌+◌, ◌*◌, ◌≤◌, List, [], ◌∷◌, Option, Some, None, arith}
+use Rattle.std.proofs.Math.Nat.{add-mul}
+use Rattle.luo_model.specs.Program.{Program, Value, Given, Made, Atom, Tuple, Branch, Chosen, Values, no_values, value, ValueArms, no_value_arms, value_arm, shape_of}
+use Rattle.luo_model.specs.Scopes.{Stand, stands, bound_nodes, greatest_charge, FitsValue, FitsValues, FitsValueArms, value_own, values_own, value_sites, values_sites, value_arms_sites, value_items, values_items, value_arm_bodies, items_in, arms_in}
 use Rattle.luo_syntax.specs.declared.values.SourceValue as val
 use Rattle.luo_syntax.specs.declared.values.SourceValue.{SourceValue, Row_of-SourceValue, end_of-SourceValue, more_of-SourceValue, Row_of-SourceValueArm, end_of-SourceValueArm, more_of-SourceValueArm}
 use Rattle.luo_value_types.specs.declared.setting.Setting.{Setting}
 use Rattle.luo_value_types.specs.declared.setting.Variable.{Variable}
 use Rattle.luo_value_types.specs.Statements.{value_statements, values_statements, boxed_value_statements, value_arms_statements}
 use Rattle.luo_value_types.specs.Settings.{found, case_stands}
-use Rattle.luo_value_types.specs.Patterns.{bound, bind_of}
+use Rattle.luo_value_types.specs.Patterns.{bound}
 use Rattle.luo_value_types.specs.ValueBreaches.{part_nodes, inner_node, count_values}
 use Rattle.luo_value_types.specs.ValueCore.{value_core, values_core, boxed_value_core, value_arms_core}
 use Rattle.luo_types.proofs.GoodItems.{GoodItems, GoodArms, good_none, good_join, good_call, good_case, good_no_arms, good_arm, own_within, join_in}
