@@ -3,7 +3,7 @@ use Rattle.std.proofs.Common.{◌≡◌, ℕ, List, [], ◌∷◌, ap, sym, ◌�
 use Rattle.std.specs.Prelude.{codes}
 use Rattle.luo_finite.specs.Steps.{IsSingle}
 use Rattle.luo_scan.specs.Spellings.{value_after}
-use Rattle.luo_top.specs.Words.{Command, Analyse, Format, IsAnalyse, IsFormat, IsCommandLine, IsNumber, HasNoForm}
+use Rattle.luo_top.specs.Words.{Analyse, Format, IsAnalyse, IsFormat, IsCommandLine, IsNumber, HasNoForm}
 
 pub no_command : (words : List (List ℕ)) → ((file : List ℕ) (n : ℕ) → IsAnalyse words file n → ⊥) → ((file : List ℕ) → IsFormat words file → ⊥) → HasNoForm words
 no_command words a f (Analyse file n) = a file n

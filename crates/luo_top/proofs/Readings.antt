@@ -1,36 +1,36 @@
 -- The answer over a text that was read, as the outcome over the text that is told.
 use Rattle.std.proofs.Common.{◌≡◌, ℕ, ◌<◌, ◌≤◌, List, length, arith, refl, sym, subst, ap, ◌∙◌, min, inl, inr, IfSome}
-use Rattle.std.specs.Prelude.{Option, codes, ◌⊎◌, ◌↔◌}
+use Rattle.std.specs.Prelude.{Option, codes}
 use Rattle.luo_scan.specs.declared.token.Token.{Token}
 use Rattle.luo_scan.specs.Lexemes.{lexemes}
-use Rattle.luo_scan.specs.Tokens.{Tokens, LexicalFault, bad_byte, long_name, large_number}
-use Rattle.luo_syntax.specs.declared.error.SyntaxError.{SyntaxError}
+use Rattle.luo_scan.specs.Tokens.{Tokens, bad_byte, long_name, large_number}
 use Rattle.luo_syntax.specs.declared.error.SyntaxError.TheVariants as why
 use Rattle.luo_syntax.specs.declared.source.Source.{Source}
 use Rattle.luo_syntax.specs.Grammar.{Derives}
 use Rattle.luo_syntax.specs.Viable.{IsShallow}
+use Rattle.luo_types.specs.declared.error.CheckError.{CheckError}
+use Rattle.luo_types.specs.declared.error.CheckError.TheVariants as check
+use Rattle.luo_types.specs.declared.error.CountLimit.TheVariants as count
+use Rattle.luo_types.specs.Checks.{IsUnchecked}
 use Rattle.luo_top.specs.declared.status.Status.{Status}
 use Rattle.luo_top.specs.declared.status.Status.TheVariants as way
 use Rattle.luo_top.specs.declared.words.TheConstants.{NUMBER_CAP}
 use Rattle.luo_top.specs.declared.words.Command.{Command}
-use Rattle.luo_top.specs.declared.words.Command.TheVariants as asked
 use Rattle.luo_top.specs.declared.work.Line.{Line}
 use Rattle.luo_top.specs.declared.work.Decision.{Decision}
 use Rattle.luo_top.specs.declared.work.Decision.TheVariants.{Output, Refusal, ReadFault, NoMemory}
 use Rattle.luo_top.specs.Answer as answer
-use Rattle.luo_top.specs.Commands.{IsCommandOf}
-use Rattle.luo_top.specs.Decided.{IsDecision, IsReading, IsOverFile, RefusesBy, IsAnalysis, IsFormatting, AnswersAs, bytes_of}
-use Rattle.luo_top.specs.First.{IsFirstProgram, IsNotFirst}
-use Rattle.luo_top.specs.Outcome.{Outcome, Answers, Analyses}
-use Rattle.luo_top.specs.Refusals.{line, LexicalRefusal, SyntaxRefusal, refusal_of_fault, refusal_of_error}
+use Rattle.luo_top.specs.Decided.{IsDecision, IsReading, IsOverFile, RefusesBy, CheckRefusal, refusal_of_check, IsTabulation, IsAnalysis, IsFormatting, AnswersAs, bytes_of}
+use Rattle.luo_top.specs.Outcome.{Outcome, Answers, Analyses, Tabulates}
+use Rattle.luo_top.specs.Refusals.{line, LexicalRefusal, SyntaxRefusal}
 use Rattle.luo_top.specs.Report.{IsPast, IsReport}
-use Rattle.luo_top.specs.Run.{text_of, IsRefusal}
+use Rattle.luo_top.specs.Run.{IsRefusal}
 use Rattle.luo_top.specs.Words as words'
 use Rattle.luo_top.specs.Words.{IsCommandLine, HasNoForm, file_of}
 use Rattle.luo_model.specs.Program.{Program}
 use Rattle.luo_print.specs.Canonical.{canonical}
 use Rattle.luo_top.proofs.Complete.{not_usage, limit_other}
-use Rattle.luo_top.proofs.Single.{has_form, too_long, faulty, misread, answered, not_first, too_large, too_great, reported}
+use Rattle.luo_top.proofs.Single.{has_form, too_long, faulty, misread, answered, limited, broken, walked, tabulated, not_plain, too_large, too_great, reported}
 use Rattle.luo_top.proofs.Told.{over_read, over_told}
 
 -- up to the limit a size is told from the others
@@ -53,11 +53,11 @@ AnswersBy gives (Refusal status text_line) = IsForText status × gives (answer.R
 AnswersBy gives ReadFault = ⊥
 AnswersBy gives NoMemory = Unit {0}
 
-by_line : (s : Source) (n : ℕ) (status other : Status) (text_line : Line) (bytes : List ℕ) → IsForText other → status ≡ other → bytes_of text_line ≡ bytes
-    → Analyses s n (answer.Refusal other bytes) → IsForText status × Analyses s n (answer.Refusal status (bytes_of text_line))
-by_line s n status other text_line bytes h w b a =
-    let P : Status → Type 0 = λ t. Analyses s n (answer.Refusal t (bytes_of text_line)) in
-    let Q : List ℕ → Type 0 = λ t. Analyses s n (answer.Refusal other t) in
+by_line : (gives : answer.Answer → Type 0) (status other : Status) (text_line : Line) (bytes : List ℕ) → IsForText other → status ≡ other → bytes_of text_line ≡ bytes
+    → gives (answer.Refusal other bytes) → IsForText status × gives (answer.Refusal status (bytes_of text_line))
+by_line gives status other text_line bytes h w b a =
+    let P : Status → Type 0 = λ t. gives (answer.Refusal t (bytes_of text_line)) in
+    let Q : List ℕ → Type 0 = λ t. gives (answer.Refusal other t) in
     (subst IsForText (sym w) h, subst P (sym w) (subst Q (sym b) a))
 
 for_text : (s : Status) → IsForText s → IsRefusal s × (s ≡ way.Usage → ⊥)
@@ -83,6 +83,10 @@ error_status s bytes text ts (why.Grammar k, n, p, e) = subst IsForText (sym (sa
 error_status s bytes text ts (why.Depth k, n, p, e) = subst IsForText (sym (same_refusal _ _ _ _ e)) tt
 error_status s bytes text ts (why.NoMemory, n, p, e) = absurd (n refl)
 
+-- what the code's command answers is what the words ask for
+abbrev AsAsked : words'.Command → Command → Type 0
+AsAsked c given = (text : List ℕ) (ts : List Token) (s : Source) (d : Decision) → AnswersAs text ts s given d → AnswersBy (Answers text ts s c) d
+
 module _ (named : List ℕ → Option (List ℕ)) (before now : List ℕ → ℕ) (words : List (List ℕ)) (text : List ℕ) (c : words'.Command) (f : IsCommandLine words c)
     (short : length text ≤ 65536) (told : IfSome (named (file_of c)) (λ told. text ≡ told)) where
   -- a refusal of the text by its line
@@ -105,7 +109,7 @@ module _ (named : List ℕ → Option (List ℕ)) (before now : List ℕ → ℕ
     misread_text NoMemory r = has_form words c f
 
     -- an answer over the source
-    answers_text : (s : Source) → Derives text ts s → IsShallow (lexemes text ts) → (d : Decision) → AnswersBy (Answers s c) d → IsDecision named before now words d
+    answers_text : (s : Source) → Derives text ts s → IsShallow (lexemes text ts) → (d : Decision) → AnswersBy (Answers text ts s c) d → IsDecision named before now words d
     answers_text s der shallow (Output bytes) a =
         (has_form words c f, over_read named words c text (answer.Output bytes.items) f (answered words text c f short ts t s (answer.Output bytes.items) der shallow a) told)
     answers_text s der shallow (Refusal status text_line) a =
@@ -114,24 +118,63 @@ module _ (named : List ℕ → Option (List ℕ)) (before now : List ℕ → ℕ
     answers_text s der shallow NoMemory a = has_form words c f
 
   -- the decision over a text, where what the command answers is what it asks for
-  reads : (given : Command) → ((s : Source) (d : Decision) → AnswersAs s given d → AnswersBy (Answers s c) d) → (d : Decision) → IsReading text given d → IsDecision named before now words d
+  reads : (given : Command) → AsAsked c given → (d : Decision) → IsReading text given d → IsDecision named before now words d
   reads given as_asked d (inl r) = faulty_text d r
   reads given as_asked d (inr (ts, t, inl r)) = misread_text ts t d r
-  reads given as_asked d (inr (ts, t, inr (s, der, shallow, a))) = answers_text ts t s der shallow d (as_asked s d a)
+  reads given as_asked d (inr (ts, t, inr (s, der, shallow, a))) = answers_text ts t s der shallow d (as_asked text ts s d a)
 
-analysed : (s : Source) (n last : ℕ) → last ≡ min n NUMBER_CAP → (d : Decision) → IsAnalysis s last d → AnswersBy (Analyses s n) d
-analysed s n last e (Output bytes) (p, f, small, within, report) =
+tabulation : (p : Program) (n last : ℕ) → last ≡ min n NUMBER_CAP → (d : Decision) → IsTabulation p last d → AnswersBy (Tabulates p n) d
+tabulation p n last e (Output bytes) (plain, small, within, report) =
     let same : last ≡ n = same_size n last e small in
     let P : ℕ → Type 0 = λ m. IsReport p m bytes.items in
     let Q : ℕ → Type 0 = λ m. IsPast p m → ⊥ in
-    reported s n p f bytes.items (omega arith) (subst Q same within) (subst P same report)
-analysed s n last e (Refusal status text_line) (inl (none, w, b)) = by_line s n status way.Refused text_line (line (codes "refused: F0")) tt w b (not_first s n none)
-analysed s n last e (Refusal status text_line) (inr (inl (p, f, large, w, b))) = by_line s n status way.Limit text_line (line (codes "limit: size 160")) tt w b (too_large s n p f (large_size n last e large))
-analysed s n last e (Refusal status text_line) (inr (inr (p, f, small, past, w, b))) =
+    reported p n plain bytes.items (omega arith) (subst Q same within) (subst P same report)
+tabulation p n last e (Refusal status text_line) (inl (other, w, b)) = by_line (Tabulates p n) status way.Refused text_line (line (codes "refused: F0")) tt w b (not_plain p n other)
+tabulation p n last e (Refusal status text_line) (inr (inl (plain, large, w, b))) =
+    by_line (Tabulates p n) status way.Limit text_line (line (codes "limit: size 160")) tt w b (too_large p n plain (large_size n last e large))
+tabulation p n last e (Refusal status text_line) (inr (inr (plain, small, past, w, b))) =
     let same : last ≡ n = same_size n last e small in
-    by_line s n status way.Refused text_line (line (codes "refused: F0")) tt w b (too_great s n p f (omega arith) (subst (IsPast p) same past))
-analysed s n last e ReadFault a = absurd a
-analysed s n last e NoMemory a = tt
+    by_line (Tabulates p n) status way.Refused text_line (line (codes "refused: F0")) tt w b (too_great p n plain (omega arith) (subst (IsPast p) same past))
+tabulation p n last e ReadFault a = absurd a
+tabulation p n last e NoMemory a = tt
+
+-- an answer over the program is one over the source
+wider : (gives more : answer.Answer → Type 0) → ((a : answer.Answer) → gives a → more a) → (d : Decision) → AnswersBy gives d → AnswersBy more d
+wider gives more f (Output bytes) a = f (answer.Output bytes.items) a
+wider gives more f (Refusal status text_line) a = (a.0, f (answer.Refusal status (bytes_of text_line)) a.1)
+wider gives more f ReadFault a = a
+wider gives more f NoMemory a = a
+
+module _ (text : List ℕ) (ts : List Token) (s : Source) (n : ℕ) where
+  -- the answer that a reason gives
+  reason : (error : CheckError) → (error ≡ check.NoMemory → ⊥) → IsUnchecked s error → Analyses text ts s n (refusal_of_check text ts error)
+  reason (check.Limit count.Definitions) m u = limited text ts s n count.Definitions u
+  reason (check.Limit count.Nodes) m u = limited text ts s n count.Nodes u
+  reason (check.Limit count.Parts) m u = limited text ts s n count.Parts u
+  reason (check.Limit count.Bounds) m u = limited text ts s n count.Bounds u
+  reason (check.Limit count.Multisets) m u = limited text ts s n count.Multisets u
+  reason (check.Limit count.Procedures) m u = limited text ts s n count.Procedures u
+  reason (check.Limit count.Statements) m u = limited text ts s n count.Statements u
+  reason (check.Limit count.Analyses) m u = limited text ts s n count.Analyses u
+  reason (check.Limit count.Walks) m u = walked text ts s n u.0 u.1
+  reason (check.Rule rule token names) m u = broken text ts s n (record { rule = rule; token = token; names = names }) u.0 u.1
+  reason check.NoMemory m u = absurd (m refl)
+
+  reason_status : (error : CheckError) → (error ≡ check.NoMemory → ⊥) → (status : Status) (bytes : List ℕ) → answer.Refusal status bytes ≡ refusal_of_check text ts error → IsForText status
+  reason_status (check.Limit which) m status bytes e = subst IsForText (sym (same_refusal _ _ _ _ e)) tt
+  reason_status (check.Rule rule token names) m status bytes e = subst IsForText (sym (same_refusal _ _ _ _ e)) tt
+  reason_status check.NoMemory m status bytes e = absurd (m refl)
+
+  unchecked : (error : CheckError) → IsUnchecked s error → (d : Decision) → RefusesBy (CheckRefusal text ts error) d → AnswersBy (Analyses text ts s n) d
+  unchecked error u (Output bytes) r = absurd r
+  unchecked error u (Refusal status text_line) r =
+      (reason_status error r.0 status (bytes_of text_line) r.1, subst (Analyses text ts s n) (sym r.1) (reason error r.0 u))
+  unchecked error u ReadFault r = absurd r
+  unchecked error u NoMemory r = tt
+
+  analysed : (last : ℕ) → last ≡ min n NUMBER_CAP → (d : Decision) → IsAnalysis text ts s last d → AnswersBy (Analyses text ts s n) d
+  analysed last e d (inl (error, u, r)) = unchecked error u d r
+  analysed last e d (inr (p, c, t)) = wider (Tabulates p n) (Analyses text ts s n) (tabulated text ts s n p c) d (tabulation p n last e d t)
 
 formatted : (s : Source) (d : Decision) → IsFormatting s d → AnswersBy (λ a. a ≡ answer.Output (canonical s)) d
 formatted s (Output bytes) a = ap answer.Output a
@@ -141,7 +184,7 @@ formatted s NoMemory a = tt
 
 -- the decision over the file of a command
 module _ (named : List ℕ → Option (List ℕ)) (before now : List ℕ → ℕ) (words : List (List ℕ)) where
-  over_file : (c : words'.Command) (given : Command) → IsCommandLine words c → ((s : Source) (d : Decision) → AnswersAs s given d → AnswersBy (Answers s c) d) → (d : Decision)
+  over_file : (c : words'.Command) (given : Command) → IsCommandLine words c → AsAsked c given → (d : Decision)
       → IsOverFile (named (file_of c)) (before (file_of c)) (now (file_of c)) given d → IsDecision named before now words d
   over_file c given f as_asked (Output bytes) (inl r) = absurd r.0
   over_file c given f as_asked (Refusal status text_line) (inl r) = absurd r.0
@@ -168,9 +211,9 @@ module _ (named : List ℕ → Option (List ℕ)) (before now : List ℕ → ℕ
 
   -- as the code's commands name their file
   pub analysis_decided : (file : List ℕ) (n last : ℕ) (given : Command) → IsCommandLine words (words'.Analyse file n) → last ≡ min n NUMBER_CAP
-      → ((s : Source) (d : Decision) → AnswersAs s given d → IsAnalysis s last d) → (d : Decision) → IsOverFile (named file) (before file) (now file) given d → IsDecision named before now words d
-  analysis_decided file n last given f e as_given d = over_file (words'.Analyse file n) given f (λ s d a. analysed s n last e d (as_given s d a)) d
+      → ((text : List ℕ) (ts : List Token) (s : Source) (d : Decision) → AnswersAs text ts s given d → IsAnalysis text ts s last d) → (d : Decision) → IsOverFile (named file) (before file) (now file) given d → IsDecision named before now words d
+  analysis_decided file n last given f e as_given d = over_file (words'.Analyse file n) given f (λ text ts s d a. analysed text ts s n last e d (as_given text ts s d a)) d
 
   pub format_decided : (file : List ℕ) (given : Command) → IsCommandLine words (words'.Format file)
-      → ((s : Source) (d : Decision) → AnswersAs s given d → IsFormatting s d) → (d : Decision) → IsOverFile (named file) (before file) (now file) given d → IsDecision named before now words d
-  format_decided file given f as_given d = over_file (words'.Format file) given f (λ s d a. formatted s d (as_given s d a)) d
+      → ((text : List ℕ) (ts : List Token) (s : Source) (d : Decision) → AnswersAs text ts s given d → IsFormatting s d) → (d : Decision) → IsOverFile (named file) (before file) (now file) given d → IsDecision named before now words d
+  format_decided file given f as_given d = over_file (words'.Format file) given f (λ text ts s d a. formatted s d (as_given text ts s d a)) d

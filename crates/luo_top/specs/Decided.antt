@@ -1,5 +1,5 @@
 -- What goes to the sinks is the outcome.
-use Rattle.std.specs.Prelude.{◌≡◌, ◌⊎◌, ◌↔◌, ℕ, ◌≤◌, ◌<◌, List, length, IfSome, Option, codes}
+use Rattle.std.specs.Prelude.{◌≡◌, ◌⊎◌, ◌↔◌, ℕ, ◌≤◌, ◌<◌, List, [], length, IfSome, Option, codes}
 use Rattle.luo_model.specs.Program.{Program}
 use Rattle.luo_print.specs.Canonical.{canonical}
 use Rattle.luo_scan.specs.declared.token.Token.{Token}
@@ -8,6 +8,9 @@ use Rattle.luo_scan.specs.Tokens.{Tokens}
 use Rattle.luo_syntax.specs.declared.source.Source.{Source}
 use Rattle.luo_syntax.specs.Grammar.{Derives}
 use Rattle.luo_syntax.specs.Viable.{IsShallow}
+use Rattle.luo_types.specs.declared.error.CheckError.{CheckError}
+use Rattle.luo_types.specs.declared.error.CheckError.TheVariants as why
+use Rattle.luo_types.specs.Checks.{IsChecked, IsUnchecked}
 use Rattle.luo_top.specs.declared.status.Status.TheVariants as way
 use Rattle.luo_top.specs.declared.words.Command.{Command}
 use Rattle.luo_top.specs.declared.words.Command.TheVariants.{Analyse, Format}
@@ -17,9 +20,9 @@ use Rattle.luo_top.specs.declared.work.Decision.{Decision}
 use Rattle.luo_top.specs.declared.work.Decision.TheVariants.{Output, Refusal, ReadFault, NoMemory}
 use Rattle.luo_outside.specs.Causes.{Rose}
 use Rattle.luo_top.specs.Answer as answer
-use Rattle.luo_top.specs.First.{IsFirstProgram, IsNotFirst}
 use Rattle.luo_top.specs.Outcome.{Outcome}
-use Rattle.luo_top.specs.Refusals.{line, LexicalRefusal, SyntaxRefusal}
+use Rattle.luo_top.specs.Plain.{IsPlain}
+use Rattle.luo_top.specs.Refusals.{line, LexicalRefusal, SyntaxRefusal, limit_line, rule_line, byte_of_token}
 use Rattle.luo_top.specs.Report.{IsPast, IsReport}
 use Rattle.luo_top.specs.Run.{text_of, IsRefusal, FileFault}
 use Rattle.luo_top.specs.Words.{HasNoForm}
@@ -44,15 +47,31 @@ RefusesBy refusal (Refusal status text_line) = refusal (answer.Refusal status (b
 RefusesBy refusal ReadFault = ⊥
 RefusesBy refusal NoMemory = Unit {0}
 
--- the decision of `analyse` over a source, for the sizes up to this one
-abbrev pub IsAnalysis : Source → ℕ → Decision → Type 0
-IsAnalysis source last (Output bytes) = (p : Program) × IsFirstProgram source p × (last ≤ 160) × (IsPast p last → ⊥) × IsReport p last bytes.items
-IsAnalysis source last (Refusal s text_line) =
-    (IsNotFirst source × (s ≡ way.Refused) × (bytes_of text_line ≡ line (codes "refused: F0")))
-    ⊎ ((p : Program) × IsFirstProgram source p × (160 < last) × (s ≡ way.Limit) × (bytes_of text_line ≡ line (codes "limit: size 160")))
-    ⊎ ((p : Program) × IsFirstProgram source p × (last ≤ 160) × IsPast p last × (s ≡ way.Refused) × (bytes_of text_line ≡ line (codes "refused: F0")))
-IsAnalysis source last ReadFault = ⊥
-IsAnalysis source last NoMemory = Unit {0}
+-- the refusal of a source that is no program
+abbrev pub refusal_of_check : List ℕ → List Token → CheckError → answer.Answer
+refusal_of_check text tokens (why.Limit which) = answer.Refusal way.Limit (limit_line which)
+refusal_of_check text tokens (why.Rule rule token names) = answer.Refusal way.Refused (rule_line rule (byte_of_token text tokens token) names)
+refusal_of_check text tokens why.NoMemory = answer.Refusal way.NoMemory []
+
+-- a reason is refused by its line
+abbrev pub CheckRefusal : List ℕ → List Token → CheckError → answer.Answer → Type 0
+CheckRefusal text tokens error a = (error ≡ why.NoMemory → ⊥) × (a ≡ refusal_of_check text tokens error)
+
+-- the decision over a program, for the sizes up to this one
+abbrev pub IsTabulation : Program → ℕ → Decision → Type 0
+IsTabulation p last (Output bytes) = IsPlain p × (last ≤ 160) × (IsPast p last → ⊥) × IsReport p last bytes.items
+IsTabulation p last (Refusal s text_line) =
+    ((IsPlain p → ⊥) × (s ≡ way.Refused) × (bytes_of text_line ≡ line (codes "refused: F0")))
+    ⊎ (IsPlain p × (160 < last) × (s ≡ way.Limit) × (bytes_of text_line ≡ line (codes "limit: size 160")))
+    ⊎ (IsPlain p × (last ≤ 160) × IsPast p last × (s ≡ way.Refused) × (bytes_of text_line ≡ line (codes "refused: F0")))
+IsTabulation p last ReadFault = ⊥
+IsTabulation p last NoMemory = Unit {0}
+
+-- the decision of `analyse` over the source of a text: why it is no program, or what is answered over its program
+abbrev pub IsAnalysis : List ℕ → List Token → Source → ℕ → Decision → Type 0
+IsAnalysis text tokens source last d =
+    ((error : CheckError) × IsUnchecked source error × RefusesBy (CheckRefusal text tokens error) d)
+    ⊎ ((p : Program) × IsChecked source p × IsTabulation p last d)
 
 -- the decision of `format` over a source
 abbrev pub IsFormatting : Source → Decision → Type 0
@@ -61,17 +80,17 @@ IsFormatting source (Refusal s text_line) = ⊥
 IsFormatting source ReadFault = ⊥
 IsFormatting source NoMemory = Unit {0}
 
--- the decision of a command over a source
-abbrev pub AnswersAs : Source → Command → Decision → Type 0
-AnswersAs source (Analyse file last) d = IsAnalysis source last d
-AnswersAs source (Format file) d = IsFormatting source d
+-- the decision of a command over the source of a text
+abbrev pub AnswersAs : List ℕ → List Token → Source → Command → Decision → Type 0
+AnswersAs text tokens source (Analyse file last) d = IsAnalysis text tokens source last d
+AnswersAs text tokens source (Format file) d = IsFormatting source d
 
 -- the decision over a text that was read: its first lexical fault, why its tokens are no program, or what the command answers over its source
 abbrev pub IsReading : List ℕ → Command → Decision → Type 0
 IsReading text asked d =
     RefusesBy (LexicalRefusal text) d
     ⊎ ((tokens : List Token) × Tokens text tokens × (RefusesBy (SyntaxRefusal text tokens) d
-    ⊎ ((source : Source) × Derives text tokens source × IsShallow (lexemes text tokens) × AnswersAs source asked d)))
+    ⊎ ((source : Source) × Derives text tokens source × IsShallow (lexemes text tokens) × AnswersAs text tokens source asked d)))
 
 abbrev pub IsReadFault : Decision → Type 0
 IsReadFault ReadFault = Unit {0}

@@ -1,12 +1,8 @@
 pub mod Answer
 pub mod Commands
-pub mod CoreSteps
 pub mod Decided
 pub mod Exit
-pub mod First
-pub mod FirstCore
-pub mod FirstForm
-pub mod FirstSteps
+pub mod Fillable
 pub mod Outcome
 pub mod Plain
 pub mod Refusals

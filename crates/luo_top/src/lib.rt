@@ -1,7 +1,7 @@
 //! The top call, which does all that the program does.
 #![tactic(auto)]
 
-mod first;
+mod plain;
 mod report;
 mod status;
 mod tables;

@@ -13,7 +13,7 @@ returns-in-Analyse g c =
     let found = rw c.in-Analyse.is at c.in-Some.ensures in
     record {
       decided = analysis_decided (g.F.Files.named c.args.files.now) (g.F.Files.faults c.args.files.now) (g.F.Files.faults c.over_file.new.files) _ c.in-Analyse.file.now found.0 _
-          (Analyse c.in-Analyse.file c.in-Analyse.last) found.1 found.2 (λ s d a. a) _ c.over_file.ensures.over;
+          (Analyse c.in-Analyse.file c.in-Analyse.last) found.1 found.2 (λ text ts s d a. a) _ c.over_file.ensures.over;
     }
 
 pub returns-in-Format : goal.returns-in-Format
@@ -21,5 +21,5 @@ returns-in-Format g c =
     let found = rw c.in-Format.is at c.in-Some.ensures in
     record {
       decided = format_decided (g.F.Files.named c.args.files.now) (g.F.Files.faults c.args.files.now) (g.F.Files.faults c.over_file-in-Format.new.files) _ c.in-Format.file.now
-          (Format c.in-Format.file) found (λ s d a. a) _ c.over_file-in-Format.ensures.over;
+          (Format c.in-Format.file) found (λ text ts s d a. a) _ c.over_file-in-Format.ensures.over;
     }
