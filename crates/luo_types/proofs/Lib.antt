@@ -1,1 +1,3 @@
 pub mod StatementForms
+pub mod StatementRoom
+pub mod StatementsSoFar
