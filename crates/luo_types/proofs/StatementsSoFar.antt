@@ -1,5 +1,6 @@
 -- Statements that are checked one behind the other.
-use Rattle.std.proofs.Common.{◌≡◌, ℕ, ◌+◌, List, [], ◌∷◌, ◌++◌, sum_by, refl, sym, ◌∙◌, ap, subst, add_assoc, add-zero, arith}
+use Rattle.std.proofs.Common.{◌≡◌, ℕ, ◌+◌, ◌<◌, ◌≤◌, List, [], ◌∷◌, ◌++◌, length, drop, get_or, sum_by, refl, sym, ◌∙◌, ap, subst, add_assoc, add-zero, arith}
+use Rattle.std.proofs.lemmas.List.{drop_all}
 use Rattle.std.proofs.lemmas.List.Sums.{sum_by-cons}
 use Rattle.luo_model.specs.declared.body.Body.{Body}
 use Rattle.luo_model.specs.Program as plain
@@ -20,6 +21,7 @@ use Rattle.luo_types.specs.StatementCore.{stmt_own, stmt_sites, stmt_items}
 use Rattle.luo_types.specs.StatementLists.{list_breaches, stmt_does, list_does}
 use Rattle.luo_types.specs.StatementsMade.{IsStmtAdded, AreStmtsAdded}
 use Rattle.luo_types.specs.Whole.{items_of}
+use Rattle.luo_types.proofs.ArmsSoFar.{at-element}
 use Rattle.luo_types.proofs.StatementRoom.{own-within, sites-within, room-first, room-rest}
 
 -- what is left of statements is to be checked as all were from the start
@@ -61,9 +63,15 @@ module _ (s : Setting) (scope : List Variable) (stmts : List Stmt) (old : Body) 
         room = subst (λ n. HasRoom (sum_by stmt_statements rest) n after) (sym (ap own_of added.behind)) (subst (HasRoom (sum_by stmt_statements rest) (body.own + stmt_own s stmt)) (sym added.numbered) room)
       }
 
-  pub so_far-all : (body : Body) (next : ℕ) → StmtsSoFar s scope stmts [] old body first next → AreStmtsAdded s scope stmts old body first next
-  so_far-all body next so = record {
-    unbroken = so.unbroken;
-    behind = sym (extended_none (body_of body)) ∙ so.behind;
-    numbered = sym (add-zero next) ∙ so.numbered
-  }
+  -- what is left at a statement
+  pub at-stmt : (i : ℕ) (stmt : Stmt) (body : Body) (next : ℕ) → StmtsSoFar s scope stmts (drop i stmts) old body first next → i < length stmts → stmt ≡ get_or stmts i stmt → StmtsSoFar s scope stmts (stmt ∷ drop (i + 1) stmts) old body first next
+  at-stmt i stmt body next so h is = subst (λ l. StmtsSoFar s scope stmts l old body first next) (at-element stmts i stmt h is) so
+
+  pub so_far-all : (i : ℕ) (body : Body) (next : ℕ) → StmtsSoFar s scope stmts (drop i stmts) old body first next → length stmts ≤ i → AreStmtsAdded s scope stmts old body first next
+  so_far-all i body next left h =
+      let so = subst (λ l. StmtsSoFar s scope stmts l old body first next) (drop_all i stmts h) left in
+      record {
+        unbroken = so.unbroken;
+        behind = sym (extended_none (body_of body)) ∙ so.behind;
+        numbered = sym (add-zero next) ∙ so.numbered
+      }

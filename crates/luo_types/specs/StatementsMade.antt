@@ -1,5 +1,5 @@
 -- What checking statements and arms gives.
-use Rattle.std.specs.Prelude.{◌≡◌, ℕ, ◌+◌, List, [], sum_by}
+use Rattle.std.specs.Prelude.{◌≡◌, ℕ, ◌+◌, List, [], Option, sum_by}
 use Rattle.luo_model.specs.declared.body.Arm.{Arm}
 use Rattle.luo_model.specs.declared.body.Body.{Body}
 use Rattle.luo_model.specs.Program as plain
@@ -12,9 +12,10 @@ use Rattle.luo_value_types.specs.declared.rule.Breach.{Breach}
 use Rattle.luo_value_types.specs.declared.setting.Setting.{Setting}
 use Rattle.luo_value_types.specs.declared.setting.Variable.{Variable}
 use Rattle.luo_value_types.specs.Patterns.{bind_of, bound}
+use Rattle.luo_value_types.specs.Settings.{place_of}
 use Rattle.luo_value_types.specs.ValueLists.{arm_list}
 use Rattle.luo_value_types.specs.ValueMade.{extended}
-use Rattle.luo_types.specs.StatementBreaches.{stmt_breaches}
+use Rattle.luo_types.specs.StatementBreaches.{walked, walk_breaches, stmt_breaches}
 use Rattle.luo_types.specs.StatementCore.{stmt_sites}
 use Rattle.luo_types.specs.StatementLists.{list_breaches, stmt_does, list_does, one_arm_breaches, arm_list_breaches, arm_sites, arm_list_core}
 
@@ -23,6 +24,10 @@ pub record IsAdded (breaches : List Breach) (does : plain.Body) (sites : ℕ) (o
   pub unbroken : breaches ≡ []
   pub behind : body_of new ≡ extended (body_of old) does
   pub numbered : next ≡ first + sites
+
+-- a body with this item behind what it has
+abbrev pub HasItem : plain.Item → Body → Body → Type 0
+HasItem i old new = body_of new ≡ extended (body_of old) (plain.Does 0 (plain.item i plain.no_items))
 
 -- a statement was checked and added
 abbrev pub IsStmtAdded : Setting → List Variable → Stmt → Body → Body → ℕ → ℕ → Type 0
@@ -44,3 +49,9 @@ pub record AreArmsMade (s : Setting) (stands : List Stand) (var : Name) (arms : 
   pub unbroken : arm_list_breaches s stands var arms ≡ []
   pub formed : arm_list made ≡ arm_list_core s stands first arms
   pub numbered : next ≡ first + sum_by arm_sites arms
+
+-- a walk may go over a variable: its place, and the node of its components
+pub record IsWalked (s : Setting) (there : Option (ℕ × ℕ)) (source : Name) (walk : ℕ × ℕ) : Type 0 where
+  pub place : walk.0 ≡ place_of there
+  pub node : walk.1 ≡ walked s there
+  pub into : (inner : List Breach) → walk_breaches s there source inner ≡ inner

@@ -2,6 +2,7 @@
 #![tactic(auto)]
 
 mod error;
+mod statements;
 
 pub use error::{CheckError, CountLimit};
 pub use luo_value_types::Rule;
