@@ -4,3 +4,6 @@ pub mod StatementsSoFar
 pub mod ArmsSoFar
 pub mod StatementSteps
 pub mod Passing
+pub mod SitesSoFar
+pub mod SitesItems
+pub mod SitesInOrder

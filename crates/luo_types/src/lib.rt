@@ -2,6 +2,8 @@
 #![tactic(auto)]
 
 mod error;
+mod procedure_sites;
+mod sites;
 mod statements;
 
 pub use error::{CheckError, CountLimit};
