@@ -1,8 +1,9 @@
 // What names mean.
-ghost use Rattle.std.specs.Prelude.{◌≡◌, [], IfOk, OnErr};
+ghost use Rattle.std.specs.Prelude.{◌≡◌, [], OnOk};
 ghost use Rattle.luo_value_types.specs.Meanings.{meaning, with_name};
 
 use indexmap::IndexMap;
+use luo_num::NoMemory;
 use std::alloc::Global;
 use std::marker::Model;
 
@@ -29,4 +30,33 @@ impl Model for Names {
     ghost Value = { List (List ℕ × Meaning) };
 
     ghost view = { λ n. map (λ e. (e.0.items, e.1)) n.known.entries };
+}
+
+impl Names {
+    /// No names.
+    pub fn new(alloc: Global) -> Names
+        ensures { result ≡ [] }
+    {
+        Names {
+            known: IndexMap::new(alloc),
+        }
+    }
+
+    /// What a name means, if anything.
+    pub fn meaning(&self, name: &[u8]) -> Option<Meaning>
+        ensures { result ≡ meaning self.now name.now }
+    {
+        self.known.get(name).copied()
+    }
+
+    /// Gives a name this meaning, unless it has one already.
+    pub fn add(&mut self, alloc: Global, name: &[u8], what: Meaning) -> Result<(), NoMemory>
+        ensures { OnOk result (self.new ≡ with_name self.old (name.now, what)) }
+    {
+        if self.meaning(name).is_none() {
+            let key = Vec::from_slice(alloc, name)?;
+            self.known.insert(key, what)?;
+        }
+        Ok(())
+    }
 }

@@ -1,4 +1,7 @@
 // The rules of names and types, and what breaks them.
+ghost use Rattle.std.specs.Prelude.{◌≡◌};
+ghost use Rattle.luo_value_types.specs.declared.rule.Stop.TheVariants.{NoMemory};
+
 use luo_num::{Items, Text};
 use std::alloc::{AllocError, AllocFailed};
 
@@ -53,12 +56,16 @@ pub enum Stop {
 }
 
 impl From<AllocError> for Stop {
+    ghost from_gives = { λ _ e. e ≡ NoMemory };
+
     fn from(_: AllocError) -> Self {
         Stop::NoMemory
     }
 }
 
 impl<T: Drop> From<AllocFailed<T>> for Stop {
+    ghost from_gives = { λ _ e. e ≡ NoMemory };
+
     fn from(_: AllocFailed<T>) -> Self {
         Stop::NoMemory
     }

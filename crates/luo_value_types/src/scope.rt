@@ -1,0 +1,73 @@
+// The variables of a scope, and the arguments of calls.
+ghost use Rattle.std.specs.Prelude.{◌≡◌, [], Some, IfOk, IfErr, OnOk};
+ghost use Rattle.luo_value_types.specs.Breaches.{StopsAt};
+ghost use Rattle.luo_value_types.specs.Settings.{signature_meant, found, place_of, variable_use, argument_breaches};
+
+use crate::names::Meaning;
+use crate::rule::{Breach, Rule, Stop};
+use crate::setting::{Setting, Variable};
+use crate::uses::breach_at;
+use luo_num::Items;
+use luo_syntax::Name;
+use std::alloc::{AllocError, Global};
+
+/// The first variable of this name: its place in the scope, and its node.
+pub fn find(scope: &[Variable], name: &Name) -> Option<(usize, usize)>
+    ensures { result ≡ found scope.now name.now }
+{
+    for (i, variable) in scope.iter().enumerate() {
+        if variable.name.as_slice() == name.text.as_slice() {
+            return Some((i, variable.node));
+        }
+    }
+    None
+}
+
+/// The place and the node of a variable that has to be bound.
+pub fn variable(alloc: Global, scope: &[Variable], name: &Name) -> Result<(usize, usize), Stop>
+    ensures ok { IfOk result (λ v. found scope.now name.now ≡ Some v) }
+    ensures stops { IfErr result (λ s. StopsAt (variable_use (found scope.now name.now) name.now) s) }
+{
+    match find(scope, name) {
+        Some(there) => Ok(there),
+        None => Err(breach_at(alloc, Rule::Y13, name)),
+    }
+}
+
+// The breach of an argument of another type than the callee's parameter.
+fn other_type(alloc: Global, arg: &Name, callee: &Name) -> Result<Breach, AllocError> {
+    let mut names = Items::new(alloc);
+    names.push(Items::from_slice(alloc, arg.text.as_slice())?)?;
+    names.push(Items::from_slice(alloc, callee.text.as_slice())?)?;
+    Ok(Breach {
+        rule: Rule::Y9,
+        token: arg.at,
+        names,
+    })
+}
+
+/// The place of the argument of a call, which has to be of the parameter's type.
+pub fn argument(
+    alloc: Global,
+    setting: &Setting,
+    scope: &[Variable],
+    callee_meant: Option<Meaning>,
+    arg: &Name,
+    callee: &Name,
+) -> Result<usize, Stop>
+    ensures ok { OnOk result (argument_breaches (found scope.now arg.now) (signature_meant setting.now callee_meant).on arg.now callee.now ≡ []) }
+    ensures place { IfOk result (λ i. i ≡ place_of (found scope.now arg.now)) }
+    ensures stops { IfErr result (λ s. StopsAt (argument_breaches (found scope.now arg.now) (signature_meant setting.now callee_meant).on arg.now callee.now) s) }
+{
+    let Some((place, node)) = find(scope, arg) else {
+        return Err(breach_at(alloc, Rule::Y13, arg));
+    };
+    let on = setting.signature_meant(callee_meant).on;
+    match on {
+        Some(wanted) if wanted != node => Err(match other_type(alloc, arg, callee) {
+            Ok(made) => Stop::Breach(made),
+            Err(_) => Stop::NoMemory,
+        }),
+        _ => Ok(place),
+    }
+}

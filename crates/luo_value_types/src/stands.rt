@@ -1,0 +1,92 @@
+// What the arms of a case stand for.
+ghost use Rattle.std.specs.Prelude.{◌≡◌, List, true, Some, nat_eq, length, slice_get, IfOk, IfErr, OnOk};
+ghost use Rattle.std.specs.Option.{option_map};
+ghost use Rattle.luo_model.specs.Scopes.{stands};
+ghost use Rattle.luo_value_types.specs.Breaches.{StopsAt};
+ghost use Rattle.luo_value_types.specs.Patterns.{case_breaches};
+ghost use Rattle.luo_value_types.specs.Settings.{shape_at, found, case_stands};
+ghost use Rattle.luo_value_types.specs.Stands.{stand_of};
+ghost use Rattle.luo_value_types.specs.declared.rule.Breach.{Breach};
+
+use crate::rule::{Rule, Stop};
+use crate::scope::variable;
+use crate::setting::{Setting, Variable};
+use crate::uses::breach_at;
+use luo_model::Shape;
+use luo_syntax::Name;
+use std::alloc::Global;
+
+/// What an arm stands for, by its node.
+#[derive(Clone, Copy, Debug, PartialEq, Eq)]
+pub enum Stand {
+    /// A branch of a union.
+    Inside(usize),
+    /// A product itself.
+    Itself(usize),
+}
+
+// How many things the arms of a case on a node of this construct stand for.
+fn count_in(shape: &Shape, node: usize) -> usize
+    ensures { result ≡ length (stands node shape.now) }
+{
+    match shape {
+        Shape::Union { parts } => parts.len(),
+        Shape::Product { .. } => 1,
+        _ => 0,
+    }
+}
+
+// What the arm at this place stands for, in a case on a node of this construct.
+fn stand_in(shape: &Shape, node: usize, place: usize) -> Option<Stand>
+    ensures { option_map stand_of result ≡ slice_get (stands node shape.now) place }
+{
+    match shape {
+        Shape::Union { parts } => match parts.get(place) {
+            Some(part) => Some(Stand::Inside(part.node)),
+            None => None,
+        },
+        Shape::Product { .. } if place == 0 => Some(Stand::Itself(node)),
+        _ => None,
+    }
+}
+
+/// How many arms a case on this node has.
+pub fn stand_count(setting: &Setting, node: usize) -> usize
+    ensures { result ≡ length (stands node (shape_at setting.now node)) }
+{
+    match setting.shape(node) {
+        Some(shape) => count_in(shape, node),
+        None => 0,
+    }
+}
+
+/// What the arm at this place stands for, in a case on this node.
+pub fn stand_at(setting: &Setting, node: usize, place: usize) -> Option<Stand>
+    ensures { option_map stand_of result ≡ slice_get (stands node (shape_at setting.now node)) place }
+{
+    match setting.shape(node) {
+        Some(shape) => stand_in(shape, node, place),
+        None => None,
+    }
+}
+
+/// The place and the node of the variable of a case with so many arms. It has to be bound, and of a
+/// union of so many branches, or of a product where there is one arm.
+pub fn case_variable(
+    alloc: Global,
+    setting: &Setting,
+    scope: &[Variable],
+    var: &Name,
+    arms: usize,
+) -> Result<(usize, usize), Stop>
+    ensures ok { IfOk result (λ v. found scope.now var.now ≡ Some v) }
+    ensures arms { OnOk result (nat_eq arms (length (case_stands setting.now (found scope.now var.now))) ≡ true) }
+    ensures stops { IfErr result (λ s. (inner : List Breach) → StopsAt (case_breaches setting.now (found scope.now var.now) var.now arms inner) s) }
+{
+    let there = variable(alloc, scope, var)?;
+    if arms == stand_count(setting, there.1) {
+        Ok(there)
+    } else {
+        Err(breach_at(alloc, Rule::Y10, var))
+    }
+}
