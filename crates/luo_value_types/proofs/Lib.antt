@@ -1,3 +1,5 @@
 pub mod ListFacts
 pub mod NameLemmas
+pub mod SettingLemmas
 pub mod StopLemmas
+pub mod PatternLemmas

@@ -35,7 +35,7 @@ StopsAt-then xs ys s e h = subst (λ z. StopsAt (z or_if_none ys) s) (sym e) h
 pub none-append : (xs ys : List Breach) → xs ≡ [] → ys ≡ [] → xs ++ ys ≡ []
 none-append xs ys e f = ap (λ z. z ++ ys) e ∙ f
 
-pub none-or_if_none : (xs ys : List Breach) → xs ≡ [] → ys ≡ [] → xs or_if_none ys ≡ []
+pub none-or_if_none : (xs ys : List Breach) → xs ≡ [] → ys ≡ [] → (xs or_if_none ys) ≡ []
 none-or_if_none xs ys e f = ap (λ z. z or_if_none ys) e ∙ f
 
 -- an arm whose pattern fits has the breaches of its body

@@ -223,6 +223,18 @@ fn variables(alloc: Global, names: &[Name], parts: &[Part]) -> Result<Items<Vari
     Ok(made)
 }
 
+#[tactic(auto, using(crate::proofs::PatternLemmas::no_variables))]
+// Variables of these names, for the factors of a product.
+fn shape_variables(alloc: Global, names: &[Name], shape: &Shape) -> Result<Items<Variable>, AllocError>
+    ensures { IfOk result (λ vs. vs ≡ spec.variables names.now (factors shape.now)) }
+{
+    match shape {
+        Shape::Product { parts } => variables(alloc, names, parts.as_slice()),
+        _ => Ok(Items::new(alloc)),
+    }
+}
+
+#[tactic(auto, using(crate::proofs::PatternLemmas::no_variables))]
 // Variables of these names, for the factors of the node.
 fn factor_variables(
     alloc: Global,
@@ -233,8 +245,8 @@ fn factor_variables(
     ensures { IfOk result (λ vs. vs ≡ spec.variables names.now (factors (shape_at setting.now node))) }
 {
     match setting.shape(node) {
-        Some(Shape::Product { parts }) => variables(alloc, names, parts.as_slice()),
-        _ => Ok(Items::new(alloc)),
+        Some(shape) => shape_variables(alloc, names, shape),
+        None => Ok(Items::new(alloc)),
     }
 }
 
@@ -260,6 +272,7 @@ fn bound(
     }
 }
 
+#[tactic(auto, using(crate::proofs::PatternLemmas::pattern_steps))]
 /// Opens a pattern in a case on this variable, in an arm that stands for this.
 pub fn pattern(
     alloc: Global,

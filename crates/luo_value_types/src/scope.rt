@@ -1,5 +1,6 @@
 // The variables of a scope, and the arguments of calls.
-ghost use Rattle.std.specs.Prelude.{◌≡◌, [], Some, IfOk, IfErr, OnOk};
+ghost use Rattle.std.specs.Prelude.{◌≡◌, [], ◌∷◌, Some, IfOk, IfErr, OnOk};
+ghost use Rattle.luo_value_types.specs.declared.rule.Rule.TheVariants.{Y9};
 ghost use Rattle.luo_value_types.specs.Breaches.{StopsAt};
 ghost use Rattle.luo_value_types.specs.Settings.{signature_meant, found, place_of, variable_use, argument_breaches};
 
@@ -35,7 +36,9 @@ pub fn variable(alloc: Global, scope: &[Variable], name: &Name) -> Result<(usize
 }
 
 // The breach of an argument of another type than the callee's parameter.
-fn other_type(alloc: Global, arg: &Name, callee: &Name) -> Result<Breach, AllocError> {
+fn about_both(alloc: Global, arg: &Name, callee: &Name) -> Result<Breach, AllocError>
+    ensures { IfOk result (λ b. b ≡ record { rule = Y9; token = arg.now.at; names = arg.now.text ∷ callee.now.text ∷ [] }) }
+{
     let mut names = Items::new(alloc);
     names.push(Items::from_slice(alloc, arg.text.as_slice())?)?;
     names.push(Items::from_slice(alloc, callee.text.as_slice())?)?;
@@ -44,6 +47,16 @@ fn other_type(alloc: Global, arg: &Name, callee: &Name) -> Result<Breach, AllocE
         token: arg.at,
         names,
     })
+}
+
+// The stop at an argument of another type than the callee's parameter.
+fn other_type(alloc: Global, arg: &Name, callee: &Name) -> Stop
+    ensures { StopsAt (record { rule = Y9; token = arg.now.at; names = arg.now.text ∷ callee.now.text ∷ [] } ∷ []) result }
+{
+    match about_both(alloc, arg, callee) {
+        Ok(made) => Stop::Breach(made),
+        Err(_) => Stop::NoMemory,
+    }
 }
 
 /// The place of the argument of a call, which has to be of the parameter's type.
@@ -64,10 +77,7 @@ pub fn argument(
     };
     let on = setting.signature_meant(callee_meant).on;
     match on {
-        Some(wanted) if wanted != node => Err(match other_type(alloc, arg, callee) {
-            Ok(made) => Stop::Breach(made),
-            Err(_) => Stop::NoMemory,
-        }),
+        Some(wanted) if wanted != node => Err(other_type(alloc, arg, callee)),
         _ => Ok(place),
     }
 }
