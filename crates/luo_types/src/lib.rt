@@ -1,6 +1,7 @@
 //! From a source to a checked program: names, types, and the core form.
 #![tactic(auto)]
 
+mod counts;
 mod error;
 
 pub use error::{CheckError, CountLimit};
