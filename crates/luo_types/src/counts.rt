@@ -39,7 +39,7 @@ fn greatest_number(bound: Option<Bound>) -> u128
 }
 
 impl TypeCounts {
-    const NOTHING: TypeCounts = TypeCounts {
+    pub const NOTHING: TypeCounts = TypeCounts {
         nodes: 0,
         multisets: 0,
         parts: 0,
@@ -51,8 +51,8 @@ impl TypeCounts {
         ..TypeCounts::NOTHING
     };
 
-    // Of expressions that stand beside each other.
-    fn beside(self, other: TypeCounts) -> TypeCounts
+    /// Of expressions that stand beside each other.
+    pub fn beside(self, other: TypeCounts) -> TypeCounts
         ensures nodes { result.nodes ≡ capped (self.nodes + other.nodes) }
         ensures multisets { result.multisets ≡ capped (self.multisets + other.multisets) }
         ensures parts { result.parts ≡ max self.parts other.parts }

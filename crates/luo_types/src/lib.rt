@@ -3,6 +3,9 @@
 
 mod counts;
 mod error;
+mod limits;
+mod statement_counts;
+mod types;
 
 pub use error::{CheckError, CountLimit};
 pub use luo_value_types::Rule;
