@@ -2,6 +2,7 @@
 #![tactic(auto)]
 
 mod counts;
+mod definitions;
 mod error;
 mod limits;
 mod statement_counts;
