@@ -5,6 +5,7 @@ mod counts;
 mod definitions;
 mod error;
 mod limits;
+mod links;
 mod naming;
 mod statement_counts;
 mod types;
