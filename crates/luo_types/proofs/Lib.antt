@@ -1,3 +1,4 @@
+pub mod CircleLemmas
 pub mod CountLemmas
 pub mod LimitLemmas
 pub mod LinkLemmas

@@ -1,6 +1,7 @@
 //! From a source to a checked program: names, types, and the core form.
 #![tactic(auto)]
 
+mod circles;
 mod counts;
 mod definitions;
 mod error;
