@@ -8,7 +8,7 @@ use Rattle.luo_value_types.specs.declared.rule.Stop.{Stop}
 use Rattle.luo_value_types.specs.declared.setting.Setting.{Setting}
 use Rattle.luo_value_types.specs.Breaches.{broken, StopsAt}
 use Rattle.luo_value_types.specs.Patterns.{fits, first_token, pattern_type_use, factor_names, repeated, misfit, pattern_breaches, variables}
-use Rattle.luo_value_types.proofs.StopLemmas.{StopsAt-left, StopsAt-right, StopsAt-first, StopsAt-then, none-append, none-or_if_none}
+use Rattle.luo_value_types.proofs.StopLemmas.{StopsAt-left, StopsAt-first, StopsAt-then, none-or_if_none}
 
 module _ (s : Setting) (stand : Stand) (var : Name) (pattern : Pattern) where
   pub type_stops : (at : Stop) → StopsAt (pattern_type_use s pattern) at → StopsAt (pattern_breaches s stand var pattern) at

@@ -1,5 +1,5 @@
 -- Settings past the ends of their lists.
-use Rattle.std.proofs.Common.{◌≡◌, ℕ, [], ◌∷◌, Option, Some, None, slice_get, slice_index_or, ap}
+use Rattle.std.proofs.Common.{◌≡◌, ℕ, [], None, slice_get, slice_index_or, ap}
 use Rattle.luo_model.specs.declared.program.Shape.TheVariants.{Union}
 use Rattle.luo_model.specs.Program.{no_node}
 use Rattle.luo_value_types.specs.declared.setting.Setting.{Setting}

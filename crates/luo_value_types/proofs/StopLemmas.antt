@@ -1,5 +1,5 @@
 -- Where a check over several parts stops.
-use Rattle.std.proofs.Common.{◌≡◌, ℕ, Bool, true, false, List, [], ◌∷◌, ◌++◌, Option, Some, None, length, nat_eq, refl, sym, ◌∙◌, ap, subst}
+use Rattle.std.proofs.Common.{◌≡◌, ℕ, true, List, [], ◌++◌, Option, Some, None, length, nat_eq, refl, sym, ◌∙◌, ap, subst}
 use Rattle.luo_syntax.specs.declared.names.Name.{Name}
 use Rattle.luo_syntax.specs.declared.statements.Pattern.{Pattern}
 use Rattle.luo_model.specs.Scopes.{Stand}
@@ -54,3 +54,9 @@ StopsAt-body s stand var pattern body at e f h = subst (λ z. StopsAt z at) (sym
 pub case-arms : (s : Setting) (there : Option (ℕ × ℕ)) (variable : ℕ × ℕ) (var : Name) (arms : ℕ) (inner : List Breach) → there ≡ Some variable → nat_eq arms (length (case_stands s there)) ≡ true → case_breaches s there var arms inner ≡ inner
 case-arms s None variable var arms inner e f = cc
 case-arms s (Some v) variable var arms inner e f = rw f refl
+
+-- an arm of such a case stops
+pub StopsAt-case : (s : Setting) (there : Option (ℕ × ℕ)) (variable : ℕ × ℕ) (var : Name) (arms : ℕ) (inner : List Breach) (at : Stop) → there ≡ Some variable → nat_eq arms (length (case_stands s there)) ≡ true → StopsAt inner at → StopsAt (case_breaches s there var arms inner) at
+StopsAt-case s there variable var arms inner at e f h = subst (λ z. StopsAt z at) (sym (case-arms s there variable var arms inner e f)) h
+
+pub ruleset stop_steps = (StopsAt-left, StopsAt-right, StopsAt-first, StopsAt-then, none-append, none-or_if_none, StopsAt-pattern, StopsAt-body, StopsAt-case)

@@ -223,9 +223,13 @@ fn variables(alloc: Global, names: &[Name], parts: &[Part]) -> Result<Items<Vari
     Ok(made)
 }
 
-#[tactic(auto, using(crate::proofs::PatternLemmas::no_variables))]
 // Variables of these names, for the factors of a product.
-fn shape_variables(alloc: Global, names: &[Name], shape: &Shape) -> Result<Items<Variable>, AllocError>
+#[tactic(auto, using(crate::proofs::PatternLemmas::no_variables))]
+fn shape_variables(
+    alloc: Global,
+    names: &[Name],
+    shape: &Shape,
+) -> Result<Items<Variable>, AllocError>
     ensures { IfOk result (λ vs. vs ≡ spec.variables names.now (factors shape.now)) }
 {
     match shape {
@@ -234,8 +238,8 @@ fn shape_variables(alloc: Global, names: &[Name], shape: &Shape) -> Result<Items
     }
 }
 
-#[tactic(auto, using(crate::proofs::PatternLemmas::no_variables))]
 // Variables of these names, for the factors of the node.
+#[tactic(auto, using(crate::proofs::PatternLemmas::no_variables))]
 fn factor_variables(
     alloc: Global,
     setting: &Setting,
@@ -272,8 +276,8 @@ fn bound(
     }
 }
 
-#[tactic(auto, using(crate::proofs::PatternLemmas::pattern_steps))]
 /// Opens a pattern in a case on this variable, in an arm that stands for this.
+#[tactic(auto, using(crate::proofs::PatternLemmas::pattern_steps))]
 pub fn pattern(
     alloc: Global,
     setting: &Setting,

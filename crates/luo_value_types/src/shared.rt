@@ -1,7 +1,5 @@
 // Threads may share a setting, and hand on what is said of it.
-use crate::{
-    Breach, Meaning, Names, Opened, Rule, Setting, Signature, Stand, Stop, Variable,
-};
+use crate::{Breach, Meaning, Names, Opened, Rule, Setting, Signature, Stand, Stop, Variable};
 
 fn shared<T: Send + Sync>() {}
 

@@ -1,6 +1,7 @@
 // Breaches, and the uses of names as what they are.
-ghost use Rattle.std.specs.Prelude.{◌≡◌, [], ◌∷◌, Some, IfOk, IfErr, OnOk};
+ghost use Rattle.std.specs.Prelude.{◌≡◌, [], ◌∷◌, Some, is_some, if◌then◌else◌, IfOk, IfErr, OnOk};
 ghost use Rattle.luo_value_types.specs.declared.names.Meaning.TheVariants.{Definition, Procedure};
+ghost use Rattle.luo_value_types.specs.declared.rule.Rule.TheVariants.{Y2, Y3};
 ghost use Rattle.luo_value_types.specs.Breaches.{broken, broken_at, StopsAt};
 ghost use Rattle.luo_value_types.specs.Meanings.{type_use, measure_use, procedure_use, value_of};
 
@@ -36,6 +37,16 @@ pub fn breach_at(alloc: Global, rule: Rule, name: &Name) -> Stop
     breach(alloc, rule, name.at, name.text.as_slice())
 }
 
+// The stop at a name that means something else than it is used as, or nothing.
+fn other_use(alloc: Global, meant: Option<Meaning>, name: &Name) -> Stop
+    ensures { StopsAt (broken_at (if is_some meant then Y3 else Y2) name.now) result }
+{
+    match meant {
+        Some(_) => breach_at(alloc, Rule::Y3, name),
+        None => breach_at(alloc, Rule::Y2, name),
+    }
+}
+
 /// The definition of a name that is used as a type, by its meaning.
 pub fn use_type(alloc: Global, meant: Option<Meaning>, name: &Name) -> Result<usize, Stop>
     ensures ok { OnOk result (type_use meant name.now ≡ []) }
@@ -44,8 +55,7 @@ pub fn use_type(alloc: Global, meant: Option<Meaning>, name: &Name) -> Result<us
 {
     match meant {
         Some(Meaning::Definition(definition)) => Ok(definition),
-        None => Err(breach_at(alloc, Rule::Y2, name)),
-        _ => Err(breach_at(alloc, Rule::Y3, name)),
+        _ => Err(other_use(alloc, meant, name)),
     }
 }
 
@@ -57,8 +67,7 @@ pub fn use_measure(alloc: Global, meant: Option<Meaning>, name: &Name) -> Result
 {
     match meant {
         Some(Meaning::Measure { value, .. }) => Ok(value),
-        None => Err(breach_at(alloc, Rule::Y2, name)),
-        _ => Err(breach_at(alloc, Rule::Y3, name)),
+        _ => Err(other_use(alloc, meant, name)),
     }
 }
 
@@ -70,7 +79,6 @@ pub fn use_procedure(alloc: Global, meant: Option<Meaning>, name: &Name) -> Resu
 {
     match meant {
         Some(Meaning::Procedure(procedure)) => Ok(procedure),
-        None => Err(breach_at(alloc, Rule::Y2, name)),
-        _ => Err(breach_at(alloc, Rule::Y3, name)),
+        _ => Err(other_use(alloc, meant, name)),
     }
 }
