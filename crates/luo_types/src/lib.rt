@@ -8,6 +8,7 @@ mod error;
 mod limits;
 mod links;
 mod naming;
+mod rules;
 mod statement_counts;
 mod types;
 
