@@ -1,5 +1,6 @@
 pub mod CircleLemmas
 pub mod CountLemmas
+pub mod ExpressionLemmas
 pub mod LimitLemmas
 pub mod LinkLemmas
 pub mod StatementNumbers

@@ -3,8 +3,10 @@
 
 mod circles;
 mod counts;
+mod definition_check;
 mod definitions;
 mod error;
+mod expressions;
 mod limits;
 mod links;
 mod naming;
