@@ -7,3 +7,9 @@ pub mod Passing
 pub mod SitesSoFar
 pub mod SitesItems
 pub mod SitesInOrder
+pub mod CircleLemmas
+pub mod CountLemmas
+pub mod ExpressionLemmas
+pub mod LimitLemmas
+pub mod LinkLemmas
+pub mod StatementNumbers
