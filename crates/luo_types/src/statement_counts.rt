@@ -5,7 +5,7 @@ ghost use Rattle.luo_types.specs.Counted.{stmt_statements, body_statements};
 
 use luo_num::marked_add;
 use luo_syntax::{ProcBody, ProcDef, SourceArm, Stmt};
-use luo_value_types::value_statements;
+use luo_value_types::count_statements as value_statements;
 
 // The marked number of statements of a statement.
 #[cycle(statements)]

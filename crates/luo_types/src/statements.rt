@@ -203,7 +203,7 @@ fn collection(
 }
 
 // The scope of a walk's body: a component of this node.
-fn one_variable(alloc: Global, name: &Name, node: usize) -> Result<Items<Variable>, AllocError>
+pub(crate) fn one_variable(alloc: Global, name: &Name, node: usize) -> Result<Items<Variable>, AllocError>
     ensures { IfOk result (λ scope. scope ≡ record { name = name.now.text; node = node } ∷ []) }
 {
     let mut scope = Items::new(alloc);
