@@ -13,3 +13,4 @@ pub mod ExpressionLemmas
 pub mod LimitLemmas
 pub mod LinkLemmas
 pub mod StatementNumbers
+pub mod ProceduresSoFar
