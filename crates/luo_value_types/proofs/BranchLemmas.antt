@@ -1,13 +1,14 @@
 -- Branches of unions by their numbers from 1.
-use Rattle.std.proofs.Common.{◌≡◌, ℕ, zero, suc, ◌+◌, ◌-◌, ◌<◌, ◌≤◌, List, [], ◌∷◌, Option, Some, None, length, get_or, refl, sym, ap, subst, ◌∙◌, arith}
+use Rattle.std.proofs.Common.{◌≡◌, ℕ, zero, suc, ◌-◌, ◌<◌, ◌≤◌, List, [], ◌∷◌, Some, None, length, get_or, refl, sym, ap, subst, ◌∙◌, arith}
 use Rattle.luo_model.specs.declared.program.Part.{Part}
 use Rattle.luo_value_types.specs.ValueBreaches.{branch_at}
 
 pub branch_zero : (parts : List Part) (number : ℕ) → number ≡ 0 → branch_at parts number ≡ None
 branch_zero parts number e = subst (λ z. branch_at parts z ≡ None) (sym e) (at_zero parts)
-    where at_zero : (parts : List Part) → branch_at parts 0 ≡ None
-          at_zero [] = refl
-          at_zero (part ∷ parts) = refl
+  where
+    at_zero : (parts : List Part) → branch_at parts 0 ≡ None
+    at_zero [] = refl
+    at_zero (part ∷ parts) = refl
 
 pub branch_past : (parts : List Part) (number : ℕ) → length parts < number → branch_at parts number ≡ None
 branch_past [] number past = refl

@@ -1,5 +1,5 @@
 -- Items, arms and values one after another.
-use Rattle.std.proofs.Common.{◌≡◌, ℕ, ◌+◌, List, [], ◌∷◌, ◌++◌, refl, ap, sym, ◌∙◌, add_assoc, zero-add, add-zero, arith}
+use Rattle.std.proofs.Common.{◌≡◌, ℕ, ◌+◌, List, [], ◌∷◌, ◌++◌, refl, ap, sym, ◌∙◌, add_assoc, zero-add, add-zero}
 use Rattle.luo_model.specs.declared.body.Arm.{Arm}
 use Rattle.luo_model.specs.declared.body.Item.{Item}
 use Rattle.luo_model.specs.declared.value.Value.{Value}

@@ -1,6 +1,6 @@
 -- Statements that are counted one by one.
-use Rattle.std.proofs.Common.{◌≡◌, ℕ, ◌+◌, ◌<◌, ◌≤◌, List, [], ◌∷◌, ◌++◌, drop, length, get_or, min, refl, ap, sym, subst, ◌∙◌, arith}
-use Rattle.std.proofs.lemmas.List.{drop_more, drop_all}
+use Rattle.std.proofs.Common.{◌≡◌, ℕ, ◌+◌, ◌≤◌, List, drop, length, ap, sym, ◌∙◌, arith}
+use Rattle.std.proofs.lemmas.List.{drop_all}
 use Rattle.luo_num.specs.Mark.{capped}
 use Rattle.luo_syntax.specs.declared.names.Name.{Name}
 use Rattle.luo_syntax.specs.declared.values.SourceValue.{SourceValue}
@@ -9,7 +9,6 @@ use Rattle.luo_syntax.specs.declared.values.SourceValue as source
 use Rattle.luo_value_types.specs.Statements.{value_statements}
 use Rattle.luo_value_types.specs.ValueLists.{parts_statements, arms_statements}
 use Rattle.luo_value_types.proofs.ValueForms.{tuple_statements, branch_statements, case_statements}
-use Rattle.luo_value_types.proofs.ValuesSoFar.{drop_at}
 
 -- all the statements are those so far with those that are left
 pub record CountedSoFar (all sum left : ℕ) : Type 0 where

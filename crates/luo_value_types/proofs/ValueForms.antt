@@ -1,5 +1,5 @@
 -- Values whose parts and arms are in a list or a box.
-use Rattle.std.proofs.Common.{◌≡◌, ℕ, zero, suc, ◌+◌, List, [], ◌∷◌, ◌++◌, Option, Some, None, refl, ap, ◌∙◌, sym, length, codes, decimal}
+use Rattle.std.proofs.Common.{◌≡◌, ℕ, suc, ◌+◌, List, [], ◌∷◌, ◌++◌, Option, Some, None, refl, ap, ◌∙◌, length, codes, decimal}
 use mathlib.Core.Former.{Count}
 use denote.Hole.Carrier.{hidden}
 use Rattle.luo_syntax.specs.declared.names.Name.{Name}
@@ -7,7 +7,6 @@ use Rattle.luo_syntax.specs.declared.values.SourceValueArm.{SourceValueArm}
 use Rattle.luo_syntax.specs.declared.values.SourceValue.{SourceValue, Tuple, Tuple', Branch, Case, Case', Row_of-SourceValue, end_of-SourceValue, more_of-SourceValue, items-the_row-SourceValue, items_hidden-the_row-SourceValue-0, Row_of-SourceValueArm, end_of-SourceValueArm, more_of-SourceValueArm, items-the_row-SourceValueArm, items_hidden-the_row-SourceValueArm-2}
 use Rattle.luo_model.specs.Program as plain
 use Rattle.luo_model.specs.Scopes.{Stand}
-use Rattle.luo_value_types.specs.declared.rule.Breach.{Breach}
 use Rattle.luo_value_types.specs.declared.setting.Setting.{Setting}
 use Rattle.luo_value_types.specs.declared.setting.Variable.{Variable}
 use Rattle.luo_value_types.specs.Settings.{found, place_of, case_stands}

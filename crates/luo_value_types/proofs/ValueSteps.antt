@@ -1,5 +1,5 @@
 -- What is broken and made in the forms of a value.
-use Rattle.std.proofs.Common.{◌≡◌, ℕ, zero, suc, ◌+◌, ◌*◌, ◌^◌, ◌<◌, ◌≤◌, List, [], ◌∷◌, ◌++◌, Option, Some, None, Bool, true, false, Result, Ok, Err, map, length, nat_eq, codes, decimal, eq-eqb, is_some, if◌then◌else◌, refl, ap, sym, subst, ◌∙◌, arith, add-zero}
+use Rattle.std.proofs.Common.{◌≡◌, ℕ, zero, suc, ◌+◌, ◌^◌, ◌<◌, ◌≤◌, List, [], ◌∷◌, ◌++◌, Option, Some, None, true, false, Result, Ok, Err, map, length, nat_eq, codes, decimal, eq-eqb, is_some, if◌then◌else◌, refl, ap, sym, subst, ◌∙◌, arith, add-zero}
 use Rattle.std.specs.Prelude.{IfOk, IfErr}
 use Rattle.std.specs.Result.{IsErrAnd}
 use Rattle.std.proofs.lemmas.Bool.{eqb-true}
@@ -20,7 +20,7 @@ use Rattle.luo_model.specs.declared.value.Value as made
 use Rattle.luo_model.specs.declared.value.ValueArm.{ValueArm}
 use Rattle.luo_model.specs.Invariant.{inner_parts}
 use Rattle.luo_model.specs.Program as plain
-use Rattle.luo_model.specs.Scopes.{Stand, stands, factors, join_items, value_body, value_own, value_items, value_sites, value_arms_sites, value_arm_bodies, values_own, values_items}
+use Rattle.luo_model.specs.Scopes.{Stand, stands, factors, join_items, value_arms_sites, value_arm_bodies}
 use Rattle.luo_model.specs.View.{value_of, body_of, item_list, item_of}
 use Rattle.luo_value_types.specs.declared.rule.Breach.{Breach}
 use Rattle.luo_value_types.specs.declared.rule.Rule.TheVariants.{Y15}
@@ -32,9 +32,9 @@ use Rattle.luo_value_types.specs.Meanings.{procedure_use, procedure_of}
 use Rattle.luo_value_types.specs.Settings.{meant, signature_meant, shape_at, found, place_of, argument_breaches, case_stands}
 use Rattle.luo_value_types.specs.Patterns.{bound, case_breaches, has_factors}
 use Rattle.luo_value_types.specs.Statements.{value_statements, HasFewBranches, HasRoom}
-use Rattle.luo_value_types.specs.ValueBreaches.{value_breaches, given_breaches, result_breaches, charge_use, is_atom, misplaced, has_branch, branch_at, branch_of, inner_node, part_nodes}
+use Rattle.luo_value_types.specs.ValueBreaches.{value_breaches, given_breaches, result_breaches, charge_use, is_atom, misplaced, branch_at, branch_of, part_nodes}
 use Rattle.luo_value_types.specs.ValueCore.{value_core, weight_of, charge_of}
-use Rattle.luo_value_types.specs.ValueLists.{parts_breaches, parts_core, parts_statements, arms_breaches, arms_core, arms_statements, AreMade, ArmsAreMade, value_list, value_arm_list, arm_list}
+use Rattle.luo_value_types.specs.ValueLists.{parts_breaches, parts_core, parts_statements, arms_breaches, arms_core, arms_statements, AreMade, ArmsAreMade}
 use Rattle.luo_value_types.specs.ValueMade.{extended, IsMade}
 use Rattle.luo_value_types.proofs.Joins.{items_none, extended_none, item_list_append}
 use Rattle.luo_value_types.proofs.StopLemmas.{StopsAt-left, none-append, case-arms}

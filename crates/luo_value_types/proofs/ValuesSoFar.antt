@@ -1,16 +1,12 @@
 -- Parts and arms that are made one by one.
-use Rattle.std.proofs.Common.{◌≡◌, ℕ, zero, suc, ◌+◌, ◌*◌, ◌<◌, ◌≤◌, List, [], ◌∷◌, ◌++◌, Option, Some, None, map, drop, length, slice_get, get_or, append_assoc, refl, ap, sym, subst, ◌∙◌, arith, add_assoc, add-zero}
-use Rattle.luo_syntax.specs.declared.names.Name.{Name}
+use Rattle.std.proofs.Common.{◌≡◌, ℕ, ◌+◌, ◌<◌, ◌≤◌, List, [], ◌∷◌, ◌++◌, Option, Some, map, drop, length, get_or, refl, ap, sym, subst, ◌∙◌, arith, add-zero}
 use Rattle.luo_syntax.specs.declared.values.SourceValue.{SourceValue}
-use Rattle.luo_syntax.specs.declared.values.SourceValueArm.{SourceValueArm}
-use Rattle.luo_model.specs.declared.body.Arm.{Arm}
 use Rattle.luo_model.specs.declared.body.Body.{Body}
 use Rattle.luo_model.specs.declared.program.Part.{Part}
 use Rattle.luo_model.specs.declared.value.Value.{Value}
-use Rattle.luo_model.specs.declared.value.ValueArm.{ValueArm}
 use Rattle.luo_model.specs.Program as plain
-use Rattle.luo_model.specs.Scopes.{Stand, join_items, value_own, values_own, value_sites, values_sites, value_items, values_items, value_body, value_arms_sites, value_arm_bodies, greatest_charge}
-use Rattle.luo_model.specs.View.{value_of, body_of}
+use Rattle.luo_model.specs.Scopes.{join_items, value_own, values_own, value_sites, values_sites, value_items, values_items, value_body}
+use Rattle.luo_model.specs.View.{body_of}
 use Rattle.luo_value_types.specs.declared.rule.Stop.{Stop}
 use Rattle.luo_value_types.specs.declared.setting.Setting.{Setting}
 use Rattle.luo_value_types.specs.declared.setting.Variable.{Variable}
@@ -18,12 +14,11 @@ use Rattle.luo_value_types.specs.Breaches.{StopsAt}
 use Rattle.luo_value_types.specs.Statements.{value_statements, HasMeasuresWithin, HasRoom}
 use Rattle.luo_value_types.specs.ValueBreaches.{value_breaches}
 use Rattle.luo_value_types.specs.ValueCore.{value_core}
-use Rattle.luo_value_types.specs.ValueLists.{parts_breaches, parts_core, parts_statements, arms_breaches, arms_core, arms_statements, value_list, value_arm_list, arm_list, AreMade, ArmsAreMade, ArmIsMade}
+use Rattle.luo_value_types.specs.ValueLists.{parts_breaches, parts_core, parts_statements, value_list, AreMade}
 use Rattle.luo_value_types.specs.ValueMade.{extended, IsMade}
-use Rattle.luo_value_types.proofs.Joins.{items_none, extended_none, extended_assoc, join_values, join_value_arms, join_arms, values_none, values_assoc, value_arms_none, value_arms_assoc, values_own_join, values_sites_join, values_items_join, value_arms_sites_join, arm_bodies_join, value_list_append, value_arm_list_append, arm_list_append}
+use Rattle.luo_value_types.proofs.Joins.{items_none, extended_none, extended_assoc, join_values, values_none, values_assoc, values_own_join, values_sites_join, values_items_join, value_list_append}
 use Rattle.std.proofs.lemmas.List.{drop_all, drop_more}
-use Rattle.luo_value_types.proofs.ListFacts.{drop-slice_get}
-use Rattle.luo_value_types.proofs.StopLemmas.{StopsAt-left, StopsAt-right}
+use Rattle.luo_value_types.proofs.StopLemmas.{StopsAt-left}
 use Rattle.luo_value_types.proofs.ValueRoom.{sites_within, own_within}
 
 -- what is left of a list at an element
@@ -75,12 +70,6 @@ parts_core_at s scope factors parts i f p ef ep = ap (λ z. parts_core s scope (
 pub parts_stop : (s : Setting) (scope : List Variable) (factors : List Part) (parts : List SourceValue) (i : ℕ) (made : List Value) (old new : Body) (first next : ℕ) (f : Part) (p : SourceValue) (stop : Stop) → PartsSoFar s scope factors parts i made old new first next → drop i factors ≡ f ∷ drop (i + 1) factors → drop i parts ≡ p ∷ drop (i + 1) parts → StopsAt (value_breaches s scope (Some f.node) p) stop → StopsAt (parts_breaches s scope (map (λ p. p.node) factors) parts) stop
 parts_stop s scope factors parts i made old new first next f p stop so ef ep h =
     subst (λ z. StopsAt z stop) (sym (so.unbroken ∙ parts_breaches_at s scope factors parts i f p ef ep)) (StopsAt-left _ _ stop h)
-
-pub part_room : (s : Setting) (scope : List Variable) (factors : List Part) (parts : List SourceValue) (i : ℕ) (made : List Value) (old new : Body) (first next : ℕ) (p : SourceValue) → PartsSoFar s scope factors parts i made old new first next → drop i parts ≡ p ∷ drop (i + 1) parts → HasRoom (value_statements p) new.own next
-part_room s scope factors parts i made old new first next p so ep = record {
-  charges = omega (arith, so.room.charges, ap parts_statements ep);
-  sites = omega (arith, so.room.sites, ap parts_statements ep);
-}
 
 pub parts_more : (s : Setting) (scope : List Variable) (factors : List Part) (parts : List SourceValue) (i : ℕ) (made made' : List Value) (old mid new : Body) (first next next' : ℕ) (f : Part) (p : SourceValue) (v : Value) → HasMeasuresWithin s → PartsSoFar s scope factors parts i made old mid first next → drop i factors ≡ f ∷ drop (i + 1) factors → drop i parts ≡ p ∷ drop (i + 1) parts → IsMade (value_breaches s scope (Some f.node) p) (value_core s scope (Some f.node) p) v mid new next next' → made' ≡ made ++ v ∷ [] → PartsSoFar s scope factors parts (i + 1) made' old new first next'
 parts_more s scope factors parts i made made' old mid new first next next' f p v within so ef ep m e =

@@ -1,5 +1,5 @@
 -- Parts and arms of values as lists, as the code goes over them.
-use Rattle.std.specs.Prelude.{◌≡◌, ℕ, zero, ◌+◌, List, [], ◌∷◌, ◌++◌, Option, Some, None}
+use Rattle.std.specs.Prelude.{◌≡◌, ℕ, ◌+◌, List, [], ◌∷◌, ◌++◌, Option, Some, None}
 use Rattle.luo_syntax.specs.declared.names.Name.{Name}
 use Rattle.luo_syntax.specs.declared.values.SourceValue.{SourceValue}
 use Rattle.luo_syntax.specs.declared.values.SourceValueArm.{SourceValueArm}

@@ -67,7 +67,12 @@ pub(crate) fn callee_of(
 {
     let meant = setting.meant(callee);
     let procedure = use_procedure(alloc, meant, callee)?;
-    check_result(alloc, expected, setting.signature_meant(meant).result, callee)?;
+    check_result(
+        alloc,
+        expected,
+        setting.signature_meant(meant).result,
+        callee,
+    )?;
     Ok(procedure)
 }
 

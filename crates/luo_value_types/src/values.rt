@@ -54,13 +54,41 @@ pub fn value(
         }
         SourceValue::Atom { charge, at } => atom(alloc, setting, expected, charge, *at, body),
         SourceValue::Tuple { parts, at } => {
-            tuple(alloc, setting, scope, expected, parts.as_slice(), *at, body, next)
+            tuple(
+                alloc,
+                setting,
+                scope,
+                expected,
+                parts.as_slice(),
+                *at,
+                body,
+                next,
+            )
         }
         SourceValue::Branch { number, at, inner } => {
-            branch(alloc, setting, scope, expected, *number, *at, inner.get(), body, next)
+            branch(
+                alloc,
+                setting,
+                scope,
+                expected,
+                *number,
+                *at,
+                inner.get(),
+                body,
+                next,
+            )
         }
         SourceValue::Case { var, arms } => {
-            case(alloc, setting, scope, expected, var, arms.as_slice(), body, next)
+            case(
+                alloc,
+                setting,
+                scope,
+                expected,
+                var,
+                arms.as_slice(),
+                body,
+                next,
+            )
         }
     }
 }
@@ -222,10 +250,11 @@ fn case(
 {
     let there = case_variable(alloc, setting, scope, var, arms.len())?;
     let made = all_arms(alloc, setting, there.1, expected, var, arms, next)?;
+    let site = *next;
     body.items.push(Item::Case {
         var: there.0,
         arms: made.1,
-        site: *next,
+        site,
     })?;
     *next += 1;
     Ok(Value::Case {
