@@ -17,7 +17,7 @@ pub mod ProceduresSoFar
 pub mod Lists
 pub mod NodeLists
 pub mod NameFacts
-pub mod Naming
+pub mod NamingFacts
 pub mod ProperTypes
 pub mod ProperBodies
 pub mod ProperSource
@@ -37,3 +37,6 @@ pub mod CleanSource
 pub mod CoreSites
 pub mod CoreProcs
 pub mod CoreIsProgram
+pub mod CheckedParts
+pub mod WalksSame
+pub mod Exclusive
