@@ -1,6 +1,6 @@
 // The check of a whole source.
 ghost use Rattle.std.specs.Prelude.{◌≡◌, ◌≤◌, IfOk, IfErr, OnOk};
-ghost use Rattle.luo_model.specs.Program.{Program};
+ghost use Rattle.luo_model.specs.Program as plain;
 ghost use Rattle.luo_model.specs.View.{plain_of};
 ghost use Rattle.luo_value_types.specs.declared.rule.Breach.{Breach};
 ghost use Rattle.luo_value_types.specs.Breaches.{StopsAt};
@@ -90,7 +90,7 @@ pub fn check(alloc: Global, source: &Source) -> Result<Program, CheckError>
     ensures limit { (which : CountLimit) → PassesFirst source.now which → IsRefusal (error.Limit which) result }
     ensures rule { (b : Breach) → IsWithinLimits source.now → BreaksFirst source.now b → IsRefusal (error.Rule b.rule b.token b.names) result }
     ensures walks { IsWithinLimits source.now → WalksTooMuch source.now → IsRefusal (error.Limit count.Walks) result }
-    ensures checked { (p : Program) → IsChecked source.now p → IsProgramAnswer result }
+    ensures checked { (p : plain.Program) → IsChecked source.now p → IsProgramAnswer result }
 {
     decide(alloc, source)
 }
