@@ -3,4 +3,5 @@ pub mod CountLemmas
 pub mod ExpressionLemmas
 pub mod LimitLemmas
 pub mod LinkLemmas
+pub mod ListLemmas
 pub mod StatementNumbers

@@ -11,6 +11,7 @@ mod limits;
 mod links;
 mod naming;
 mod rules;
+mod scheme;
 mod statement_counts;
 mod types;
 
