@@ -4,4 +4,5 @@ pub mod ExpressionLemmas
 pub mod LimitLemmas
 pub mod LinkLemmas
 pub mod ListLemmas
+pub mod NodeLemmas
 pub mod StatementNumbers

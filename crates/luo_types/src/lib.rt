@@ -10,6 +10,7 @@ mod expressions;
 mod limits;
 mod links;
 mod naming;
+mod nodes;
 mod rules;
 mod scheme;
 mod statement_counts;

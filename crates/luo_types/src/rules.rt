@@ -86,7 +86,7 @@ pub(crate) fn check_kind(
     }
 }
 
-fn least_of(kind: Kind) -> u128
+pub(crate) fn least_of(kind: Kind) -> u128
     ensures { result ≡ least_of kind }
 {
     match kind {
