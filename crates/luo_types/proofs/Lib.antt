@@ -1,8 +1,10 @@
 pub mod CircleLemmas
 pub mod CountLemmas
+pub mod DefinitionLemmas
 pub mod ExpressionLemmas
 pub mod LimitLemmas
 pub mod LinkLemmas
 pub mod ListLemmas
+pub mod MeanLemmas
 pub mod NodeLemmas
 pub mod StatementNumbers

@@ -20,11 +20,11 @@ use Rattle.luo_types.specs.Nodes.{Spot, behind, part_at, parts_at, boxed_part_at
 use Rattle.luo_types.specs.NodeLists.{parts_of, nodes_of}
 use Rattle.luo_types.proofs.ExpressionLemmas.{collection_breaches}
 
-none-of-append : (xs ys : List Breach) → xs ++ ys ≡ [] → (xs ≡ []) × (ys ≡ [])
+pub none-of-append : (xs ys : List Breach) → xs ++ ys ≡ [] → (xs ≡ []) × (ys ≡ [])
 none-of-append [] ys e = (refl, e)
 none-of-append (x ∷ xs) ys e = cc
 
-drop_at : {X : Type 0} (xs : List X) (i : ℕ) (x : X) → i < length xs → x ≡ get_or xs i x → drop i xs ≡ x ∷ drop (i + 1) xs
+pub drop_at : {X : Type 0} (xs : List X) (i : ℕ) (x : X) → i < length xs → x ≡ get_or xs i x → drop i xs ≡ x ∷ drop (i + 1) xs
 drop_at xs i x h e = drop_more xs i x h ∙ ap (λ y. y ∷ drop (i + 1) xs) (sym e)
 
 -- the next of type expressions, and those behind it

@@ -13,6 +13,7 @@ mod naming;
 mod nodes;
 mod rules;
 mod scheme;
+mod setting;
 mod statement_counts;
 mod types;
 
