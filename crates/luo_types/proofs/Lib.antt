@@ -8,3 +8,4 @@ pub mod ListLemmas
 pub mod MeanLemmas
 pub mod NodeLemmas
 pub mod StatementNumbers
+pub mod TypesLemmas
