@@ -1,5 +1,5 @@
 -- A whole list of lexemes: what an error says of it, with nothing too deep, and with a lexeme that is.
-use Rattle.std.proofs.Common.{◌≡◌, ℕ, List, [], ◌∷◌, ◌++◌, ◌-◌, ◌+◌, ◌≤◌, ◌<◌, refl, sym, subst, ap, ◌∙◌, length, take, arith}
+use Rattle.std.proofs.Common.{◌≡◌, ℕ, List, [], ◌+◌, ◌≤◌, ◌<◌, sym, subst, ap, ◌∙◌, length, take, arith}
 use Rattle.std.proofs.Math.Seq.{take-length}
 use Rattle.std.proofs.lemmas.List.{append-nil, length-take}
 use Rattle.luo_scan.specs.Lexemes.{Lexeme}

@@ -1,7 +1,7 @@
 -- What begins alike keeps what comes next, behind any front.
-use Rattle.std.proofs.Common.{◌≡◌, ℕ, List, [], ◌∷◌, ◌++◌, refl, sym, subst}
+use Rattle.std.proofs.Common.{◌≡◌, List, [], ◌∷◌, ◌++◌, refl, sym, subst}
 use Rattle.luo_scan.specs.declared.token.TokenKind.{TokenKind}
-use Rattle.luo_scan.specs.Lexemes.{Lexeme, lexeme}
+use Rattle.luo_scan.specs.Lexemes.{Lexeme}
 use Rattle.luo_syntax.specs.Next.{IsNext, next, No}
 use Rattle.luo_syntax.proofs.Fronts.{Front, BeginAlike, empty, begin}
 use Rattle.luo_syntax.proofs.Nexts.{no_alike}

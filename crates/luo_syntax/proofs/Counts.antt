@@ -3,8 +3,8 @@ use Rattle.std.proofs.Common.{◌≡◌, ℕ, zero, suc, List, [], ◌∷◌, �
 use Rattle.luo_scan.specs.declared.token.Word.TheVariants.{KwLabelled}
 use Rattle.luo_scan.specs.declared.token.TokenKind.TheVariants as kind
 use Rattle.luo_scan.specs.declared.token.Token.{Token}
-use Rattle.luo_scan.specs.Lexemes.{Lexeme, lexeme, lexemes, lexemes_from}
-use Rattle.luo_syntax.specs.Viable.{opens_kind, closes_kind, opened, closed, IsDeep, IsShallow, IsFirstDeep}
+use Rattle.luo_scan.specs.Lexemes.{lexemes, lexemes_from}
+use Rattle.luo_syntax.specs.Viable.{opens_kind, closes_kind, opened, closed, IsShallow, IsFirstDeep}
 use Rattle.luo_syntax.proofs.Lexemes.{as_many, first_lexemes}
 
 -- what stands for a token behind the last

@@ -7,7 +7,7 @@ use Rattle.luo_syntax.specs.declared.source.Source.{Source}
 use Rattle.luo_syntax.specs.Grammar.{IsProgram}
 use Rattle.luo_syntax.specs.Viable.{AllSpelled, IsNoProgram, IsViable, IsLongestViable}
 use Rattle.luo_syntax.specs.StopsProgram.{ProgramStops}
-use Rattle.luo_syntax.proofs.Fronts.{Front, BeginAlike, begin}
+use Rattle.luo_syntax.proofs.Fronts.{BeginAlike, begin}
 use Rattle.luo_syntax.proofs.ProgramStuck.{program_stuck, program_no}
 
 -- all before the place begins some program, and with what stands there it begins none

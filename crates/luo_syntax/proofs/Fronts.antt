@@ -1,5 +1,5 @@
 -- Fronts of lists of lexemes, as what they put before a list.
-use Rattle.std.proofs.Common.{◌≡◌, ℕ, List, [], ◌∷◌, ◌++◌, append_assoc, refl, ap, sym, ◌∙◌}
+use Rattle.std.proofs.Common.{◌≡◌, List, [], ◌∷◌, ◌++◌, append_assoc, refl, ap, sym, ◌∙◌}
 use Rattle.luo_scan.specs.Lexemes.{Lexeme}
 use Rattle.luo_syntax.specs.Viable.{AllSpelled}
 

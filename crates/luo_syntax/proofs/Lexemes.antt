@@ -1,5 +1,5 @@
 -- Lexemes of tokens, one for each.
-use Rattle.std.proofs.Common.{◌≡◌, ℕ, zero, suc, List, [], ◌∷◌, ◌<◌, ◌+◌, ◌≤◌, ◌-◌, length, take, drop, refl, ap, sym, subst, ◌∙◌, arith}
+use Rattle.std.proofs.Common.{◌≡◌, ℕ, zero, suc, List, [], ◌∷◌, ◌+◌, ◌≤◌, ◌-◌, length, take, drop, refl, ap, arith}
 use Rattle.luo_scan.specs.declared.token.Token.{Token}
 use Rattle.luo_scan.specs.Lexemes.{Lexeme, lexeme, lexemes_from}
 

@@ -1,14 +1,14 @@
 -- Names that are read or stop do so before other lists too.
-use Rattle.std.proofs.Common.{◌≡◌, ℕ, List, [], ◌∷◌, refl, ap, sym, subst, ◌∙◌}
+use Rattle.std.proofs.Common.{◌≡◌, List, ◌∷◌, refl, ap, sym, subst}
 use Rattle.luo_scan.specs.declared.token.Mark.{Mark}
 use Rattle.luo_scan.specs.declared.token.Mark.TheVariants.{Comma}
 use Rattle.luo_scan.specs.declared.token.TokenKind.TheVariants as kind
 use Rattle.luo_scan.specs.Lexemes.{Lexeme, lexeme}
 use Rattle.luo_syntax.specs.declared.names.Name.{Name}
-use Rattle.luo_syntax.specs.Next.{IsNext, next, IsName, next_name, No, Misses, MissesName}
+use Rattle.luo_syntax.specs.Next.{next, next_name, No}
 use Rattle.luo_syntax.specs.GrammarTypes.{AreNames, last_name, more_names}
 use Rattle.luo_syntax.specs.StopsNames.{NamesStop, no_name, past_name, past_names}
-use Rattle.luo_syntax.proofs.Fronts.{Front, nothing, put, both, Moves, BeginAlike, empty, begin, Stuck}
+use Rattle.luo_syntax.proofs.Fronts.{nothing, put, Moves, Stuck}
 use Rattle.luo_syntax.proofs.Nexts.{no_alike, misses_alike, behind}
 use Rattle.luo_syntax.proofs.Spelled.{a_name, a_mark, name_fit, mark_fit}
 

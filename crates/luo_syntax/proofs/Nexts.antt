@@ -1,10 +1,10 @@
 -- What comes next, and what doesn't.
-use Rattle.std.proofs.Common.{◌≡◌, ℕ, Option, None, Some, List, [], ◌∷◌, ◌<◌, length, refl, ap, sym, subst, ◌∙◌, arith}
+use Rattle.std.proofs.Common.{◌≡◌, ℕ, Option, None, Some, List, [], ◌∷◌, ◌<◌, length, refl, sym, subst, ◌∙◌, arith}
 use Rattle.luo_scan.specs.declared.token.TokenKind.{TokenKind}
 use Rattle.luo_scan.specs.declared.token.TokenKind.TheVariants as kind
 use Rattle.luo_scan.specs.Lexemes.{Lexeme, lexeme}
 use Rattle.luo_syntax.specs.declared.names.Name.{Name}
-use Rattle.luo_syntax.specs.Next.{IsNext, next, IsNextAt, next_at, IsName, next_name, No, NoName, NoNumber, Misses, MissesName, MissesNumber, TakesAt, TakesKind, TakesNumber, TakesAnyNumber, first_kind}
+use Rattle.luo_syntax.specs.Next.{IsNext, next, IsNextAt, next_at, IsName, next_name, No, NoNumber, Misses, MissesNumber, TakesAt, TakesKind, TakesNumber, TakesAnyNumber, first_kind}
 use Rattle.luo_syntax.proofs.Fronts.{BeginAlike, empty, begin}
 
 -- what comes next where another kind was missed

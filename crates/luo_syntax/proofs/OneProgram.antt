@@ -1,9 +1,9 @@
 -- Procedures and whole programs are read in one way.
-use Rattle.std.proofs.Common.{◌≡◌, ℕ, List, [], ◌∷◌, refl, ap, sym, subst, ◌∙◌}
-use Rattle.luo_scan.specs.declared.token.Word.TheVariants.{KwAnalyze, KwProcedure, KwMeasure, KwType, KwLabelled, KwUnlabelled}
+use Rattle.std.proofs.Common.{◌≡◌, List, [], refl, sym, subst}
+use Rattle.luo_scan.specs.declared.token.Word.TheVariants.{KwAnalyze, KwProcedure, KwMeasure, KwType}
 use Rattle.luo_scan.specs.declared.token.TokenKind.{TokenKind}
 use Rattle.luo_scan.specs.declared.token.TokenKind.TheVariants as kind
-use Rattle.luo_scan.specs.Lexemes.{Lexeme, lexeme}
+use Rattle.luo_scan.specs.Lexemes.{Lexeme}
 use Rattle.luo_syntax.specs.declared.names.Name.{Name}
 use Rattle.luo_syntax.specs.declared.types.TypeDef.{TypeDef}
 use Rattle.luo_syntax.specs.declared.types.MeasureDef.{MeasureDef}

@@ -1,11 +1,9 @@
 -- Patterns, statements and blocks are read in one way.
-use Rattle.std.proofs.Common.{◌≡◌, ℕ, List, [], ◌∷◌, refl, ap, sym, subst, ◌∙◌}
-use Rattle.luo_scan.specs.declared.token.Word.TheVariants.{KwBegin, KwEnd, KwCase, KwForall, KwSkip}
-use Rattle.luo_scan.specs.declared.token.Mark.TheVariants.{Comma, LeftRound, RightRound, Semicolon, Colon}
+use Rattle.std.proofs.Common.{◌≡◌, List, sym}
+use Rattle.luo_scan.specs.declared.token.Word.TheVariants.{KwBegin, KwEnd, KwSkip}
 use Rattle.luo_scan.specs.declared.token.TokenKind.{TokenKind}
 use Rattle.luo_scan.specs.declared.token.TokenKind.TheVariants as kind
-use Rattle.luo_scan.specs.Lexemes.{Lexeme, lexeme}
-use Rattle.luo_syntax.specs.declared.names.Name.{Name}
+use Rattle.luo_scan.specs.Lexemes.{Lexeme}
 use Rattle.luo_syntax.specs.declared.statements.Pattern.{Pattern}
 use Rattle.luo_syntax.specs.declared.statements.SourceArm.{SourceArm}
 use Rattle.luo_syntax.specs.declared.statements.Stmt.{Stmt}

@@ -1,11 +1,11 @@
 -- Names, bounds and type expressions are read in one way.
-use Rattle.std.proofs.Common.{◌≡◌, ℕ, Option, None, Some, List, [], ◌∷◌, refl, ap, sym, subst, ◌∙◌}
+use Rattle.std.proofs.Common.{◌≡◌, Option, List, refl, sym}
 use Rattle.luo_scan.specs.declared.token.Word.{Word}
 use Rattle.luo_scan.specs.declared.token.Word.TheVariants.{KwEpsilon, KwAtom, KwProduct}
 use Rattle.luo_scan.specs.declared.token.Mark.{Mark}
-use Rattle.luo_scan.specs.declared.token.Mark.TheVariants.{Comma, Bar, Equals, Colon}
+use Rattle.luo_scan.specs.declared.token.Mark.TheVariants.{Comma, Bar}
 use Rattle.luo_scan.specs.declared.token.TokenKind.TheVariants as kind
-use Rattle.luo_scan.specs.Lexemes.{Lexeme, lexeme}
+use Rattle.luo_scan.specs.Lexemes.{Lexeme}
 use Rattle.luo_model.specs.declared.program.Kind.{Kind}
 use Rattle.luo_syntax.specs.declared.names.Name.{Name}
 use Rattle.luo_syntax.specs.declared.types.Range.{Range}

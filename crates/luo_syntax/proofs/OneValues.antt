@@ -1,9 +1,9 @@
 -- Values are read in one way.
-use Rattle.std.proofs.Common.{◌≡◌, ℕ, List, [], ◌∷◌, refl, ap, sym, subst, ◌∙◌}
-use Rattle.luo_scan.specs.Lexemes.{Lexeme, lexeme}
+use Rattle.std.proofs.Common.{◌≡◌, List, sym}
+use Rattle.luo_scan.specs.Lexemes.{Lexeme}
 use Rattle.luo_syntax.specs.declared.values.SourceValue.{SourceValue}
 use Rattle.luo_syntax.specs.declared.values.SourceValueArm.{SourceValueArm}
-use Rattle.luo_syntax.specs.Next.{No, EndsValue}
+use Rattle.luo_syntax.specs.Next.{EndsValue}
 use Rattle.luo_syntax.specs.GrammarValues.{IsValue, branch_value, inner_value, IsBranch, branch, IsInner, given, made, free_atom, charged_atom, bracketed, tuple, case_value, AreParts, last_part, more_parts, AreValueArms, last_value_arm, more_value_arms, IsValueArm, one_value_arm}
 use Rattle.luo_syntax.proofs.Nexts.{behind}
 use Rattle.luo_syntax.proofs.OneStatements.{pattern_one}

@@ -1,21 +1,18 @@
 -- Patterns that are read or stop do so before other lists too.
-use Rattle.std.proofs.Common.{◌≡◌, ℕ, List, [], ◌∷◌, refl, ap, sym, subst, ◌∙◌}
+use Rattle.std.proofs.Common.{◌≡◌, List, ◌∷◌, refl, ap, sym, subst}
 use Rattle.luo_scan.specs.declared.token.Word.TheVariants.{KwAs}
-use Rattle.luo_scan.specs.declared.token.Mark.TheVariants.{LeftRound, RightRound, Underscore, Comma}
+use Rattle.luo_scan.specs.declared.token.Mark.TheVariants.{LeftRound, Underscore}
 use Rattle.luo_scan.specs.declared.token.TokenKind.{TokenKind}
 use Rattle.luo_scan.specs.declared.token.TokenKind.TheVariants as kind
 use Rattle.luo_scan.specs.Lexemes.{Lexeme, lexeme}
-use Rattle.luo_syntax.specs.declared.names.Name.{Name}
 use Rattle.luo_syntax.specs.declared.statements.Pattern.{Pattern}
 use Rattle.luo_syntax.specs.declared.statements.Pattern.TheVariants as pattern
-use Rattle.luo_syntax.specs.Next.{IsNext, next, IsNextAt, next_at, IsName, next_name, No, NoName, Misses, MissesName, EndsPattern}
-use Rattle.luo_syntax.specs.GrammarTypes.{AreNames}
+use Rattle.luo_syntax.specs.Next.{next, next_at, next_name, No, EndsPattern}
 use Rattle.luo_syntax.specs.GrammarStatements.{IsPattern, pattern_named, pattern_whole, pattern_named_parts, pattern_parts, pattern_any, pattern_any_whole}
-use Rattle.luo_syntax.specs.StopsNames.{NamesStop}
 use Rattle.luo_syntax.specs.StopsPatterns.{PatternEnds, PatternStops, no_pattern, in_pattern_parts, past_any_as, past_named_as, in_named_parts}
-use Rattle.luo_syntax.proofs.Fronts.{Front, nothing, put, both, Moves, BeginAlike, empty, begin, Stuck}
+use Rattle.luo_syntax.proofs.Fronts.{nothing, put, Moves, BeginAlike, Stuck}
 use Rattle.luo_syntax.proofs.Nexts.{no_alike, misses_alike, behind}
-use Rattle.luo_syntax.proofs.Spelled.{a_name, a_mark, name_fit, mark_fit}
+use Rattle.luo_syntax.proofs.Spelled.{a_name, name_fit}
 use Rattle.luo_syntax.proofs.OneTypes.{names_one}
 use Rattle.luo_syntax.proofs.NamesMoves.{names_moves, names_stuck, names_no}
 

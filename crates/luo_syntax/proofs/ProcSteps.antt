@@ -1,5 +1,5 @@
 -- Steps of reading procedures and analyses.
-use Rattle.std.proofs.Common.{◌≡◌, List, ◌∷◌, ◌<◌, ◌≤◌, length, ap, subst, ◌∙◌, arith}
+use Rattle.std.proofs.Common.{List, ◌<◌, ◌≤◌, length, ap, subst, ◌∙◌, arith}
 use Rattle.std.proofs.lemmas.List.{length-append}
 use Rattle.luo_scan.specs.declared.token.Mark.TheVariants.{Semicolon, Colon}
 use Rattle.luo_scan.specs.declared.token.TokenKind.TheVariants as kind

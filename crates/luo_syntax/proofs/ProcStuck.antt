@@ -1,5 +1,5 @@
 -- Procedures and analyses that stop do so before other lists too, and can be gone on with up to there.
-use Rattle.std.proofs.Common.{◌≡◌, ℕ, List, [], ◌∷◌, refl, ap, sym, subst, ◌∙◌}
+use Rattle.std.proofs.Common.{◌≡◌, ℕ, List, ◌∷◌, ap, sym, subst, ◌∙◌}
 use Rattle.luo_scan.specs.declared.token.Word.TheVariants.{KwProcedure, KwAnalyze, KwBegin, KwEnd}
 use Rattle.luo_scan.specs.declared.token.Mark.TheVariants.{Semicolon, Colon, LeftRound, RightRound}
 use Rattle.luo_scan.specs.declared.token.TokenKind.TheVariants as kind
@@ -13,7 +13,7 @@ use Rattle.luo_syntax.specs.Grammar.{IsProcBody, statements_body, value_body, Is
 use Rattle.luo_syntax.specs.GrammarStatements.{empty_block}
 use Rattle.luo_syntax.specs.GrammarValues.{inner_value, given}
 use Rattle.luo_syntax.specs.StopsProgram.{IsParam, one_param, ParamStops, no_left, no_param, no_colon, no_on, no_right, IsResult, one_result, ResultStops, no_result, past_result, in_value, past_value, IsWholeBody, whole_statements, whole_value, BodyStops, no_body, in_block, past_block, in_result, ProcStops, no_procedure, no_proc_name, in_param, in_body, AnalyzeStops, no_analyze, no_analyze_name, no_analyze_end}
-use Rattle.luo_syntax.proofs.Fronts.{Front, nothing, put, both, Moves, BeginAlike, Stuck}
+use Rattle.luo_syntax.proofs.Fronts.{nothing, put, both, BeginAlike, Stuck}
 use Rattle.luo_syntax.proofs.Nexts.{no_alike, misses_alike, behind}
 use Rattle.luo_syntax.proofs.Spelled.{a_name, a_mark, a_word, name_fit, mark_fit, word_fit}
 use Rattle.luo_syntax.proofs.OneStatements.{block_one}

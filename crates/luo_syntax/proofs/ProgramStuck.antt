@@ -1,25 +1,23 @@
 -- Programs that stop do so before other lists too, and can be gone on with up to there.
-use Rattle.std.proofs.Common.{◌≡◌, ℕ, List, [], ◌∷◌, refl, ap, sym, subst, ◌∙◌}
+use Rattle.std.proofs.Common.{◌≡◌, ℕ, List, [], ◌∷◌, refl, ap, sym, ◌∙◌}
 use Rattle.luo_scan.specs.declared.token.Word.TheVariants.{KwLabelled, KwUnlabelled, KwType, KwMeasure, KwProcedure, KwAnalyze}
 use Rattle.luo_scan.specs.declared.token.Mark.TheVariants.{Semicolon}
 use Rattle.luo_scan.specs.declared.token.TokenKind.{TokenKind}
 use Rattle.luo_scan.specs.declared.token.TokenKind.TheVariants as kind
 use Rattle.luo_scan.specs.Lexemes.{Lexeme, lexeme}
-use Rattle.luo_model.specs.declared.program.Universe.{Universe}
-use Rattle.luo_model.specs.declared.program.Universe.TheVariants.{Unlabelled, Labelled}
 use Rattle.luo_syntax.specs.declared.names.Name.{Name}
 use Rattle.luo_syntax.specs.declared.types.TypeDef.{TypeDef}
 use Rattle.luo_syntax.specs.declared.types.MeasureDef.{MeasureDef}
 use Rattle.luo_syntax.specs.declared.source.ProcDef.{ProcDef}
 use Rattle.luo_syntax.specs.declared.source.Source.{Source}
-use Rattle.luo_syntax.specs.Next.{IsNext, next, No, Misses}
+use Rattle.luo_syntax.specs.Next.{next}
 use Rattle.luo_syntax.specs.GrammarTypes.{type_def, measure_def}
 use Rattle.luo_syntax.specs.Grammar.{proc, analyze, AreAnalyses, last_analysis, more_analyses, FromProcs, no_procs, more_procs, FromMeasures, no_measures, more_measures, FromTypes, no_types, more_types, IsProgram, labelled, unlabelled, unlabelled_unsaid}
 use Rattle.luo_syntax.specs.Viable.{AllSpelled}
-use Rattle.luo_syntax.specs.StopsProgram.{AnalysesStop, in_analysis, past_analysis, FromProcsStop, in_proc, past_proc, past_procs, FromMeasuresStop, in_measure, past_measure, past_measures, FromTypesStop, in_type, past_type, past_types, IsHead, labelled_said, unlabelled_said, nothing_said, HeadStops, past_labelled, past_unlabelled, ProgramStops, in_head, past_head}
-use Rattle.luo_syntax.proofs.Fronts.{Front, nothing, put, both, Moves, BeginAlike, Stuck}
+use Rattle.luo_syntax.specs.StopsProgram.{AnalysesStop, in_analysis, past_analysis, FromProcsStop, in_proc, past_proc, past_procs, FromMeasuresStop, in_measure, past_measure, past_measures, FromTypesStop, in_type, past_type, past_types, labelled_said, unlabelled_said, nothing_said, past_labelled, past_unlabelled, ProgramStops, in_head, past_head}
+use Rattle.luo_syntax.proofs.Fronts.{nothing, put, both, Stuck}
 use Rattle.luo_syntax.proofs.Begins.{next_before, no_before, some_before}
-use Rattle.luo_syntax.proofs.Nexts.{no_alike, misses_alike, next_no, behind}
+use Rattle.luo_syntax.proofs.Nexts.{misses_alike, next_no, behind}
 use Rattle.luo_syntax.proofs.Spelled.{a_name, a_mark, a_word, name_fit, mark_fit, word_fit}
 use Rattle.luo_syntax.proofs.OneTypes.{type_def_one, measure_one}
 use Rattle.luo_syntax.proofs.OneProgram.{proc_one, analyze_one, analyses_begin, procs_begin, measures_begin, types_begin}

@@ -1,12 +1,12 @@
 -- Lexemes that can be made up, spelled as the language spells them.
-use Rattle.std.proofs.Common.{◌≡◌, ◌≢◌, ℕ, List, [], ◌∷◌, codes, inl, inr, refl, arith}
+use Rattle.std.proofs.Common.{◌≢◌, [], ◌∷◌, inr, refl, arith}
 use Rattle.luo_scan.specs.declared.token.Word.{Word}
 use Rattle.luo_scan.specs.declared.token.Word.TheVariants.{KwLabelled, KwUnlabelled, KwType, KwEpsilon, KwAtom, KwProduct, KwSequence, KwSet, KwCycle, KwMultiset, KwPowerset, KwCard, KwIn, KwMeasure, KwProcedure, KwAnalyze, KwBegin, KwEnd, KwCase, KwOf, KwForall, KwDo, KwSkip, KwAs}
 use Rattle.luo_scan.specs.declared.token.Mark.{Mark}
 use Rattle.luo_scan.specs.declared.token.TokenKind.TheVariants as kind
 use Rattle.luo_scan.specs.Lexemes.{Lexeme, lexeme}
 use Rattle.luo_scan.specs.Spellings.{spelling, sign}
-use Rattle.luo_scan.specs.Tokens.{IsPiece, name, word, number, mark}
+use Rattle.luo_scan.specs.Tokens.{name, word, number, mark}
 use Rattle.luo_scan.specs.Laws.{IsFit}
 
 -- a word, a mark, the name `a` and the number 0, as lexemes

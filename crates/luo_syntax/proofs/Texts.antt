@@ -1,5 +1,5 @@
 -- The lexemes of a text's tokens.
-use Rattle.std.proofs.Common.{◌≡◌, ℕ, zero, suc, List, [], ◌∷◌, ◌+◌, ◌-◌, ◌<◌, ◌≤◌, length, take, refl, ap, sym, subst, ◌∙◌, arith}
+use Rattle.std.proofs.Common.{◌≡◌, ℕ, zero, suc, List, [], ◌∷◌, ◌+◌, ◌-◌, ◌<◌, ◌≤◌, length, take, subst, arith}
 use Rattle.luo_scan.specs.declared.token.Token.{Token}
 use Rattle.luo_scan.specs.Faults.{AllInside}
 use Rattle.luo_scan.specs.Lexemes.{Lexeme, lexemes}
@@ -7,9 +7,9 @@ use Rattle.luo_scan.specs.Tokens.{Tokens}
 use Rattle.luo_scan.proofs.Inside.{tokens_inside, lexemes_fit}
 use Rattle.luo_syntax.specs.declared.source.Source.{Source}
 use Rattle.luo_syntax.specs.declared.error.SyntaxError.{SyntaxError}
-use Rattle.luo_syntax.specs.declared.error.SyntaxError.TheVariants.{Grammar, Depth, NoMemory}
+use Rattle.luo_syntax.specs.declared.error.SyntaxError.TheVariants.{Grammar, Depth}
 use Rattle.luo_syntax.specs.Grammar.{IsProgram, Derives}
-use Rattle.luo_syntax.specs.Viable.{AllSpelled, IsShallow, IsFirstDeep, StopsWhole, Explains}
+use Rattle.luo_syntax.specs.Viable.{IsShallow, IsFirstDeep, StopsWhole, Explains}
 use Rattle.luo_syntax.specs.StopsProgram.{ProgramStops}
 use Rattle.luo_syntax.proofs.Lexemes.{as_many, first_lexemes}
 use Rattle.luo_syntax.proofs.Final.{longest, none_read, stops_within}

@@ -1,25 +1,22 @@
 -- Where reading a value stops, the front before it can be gone on with, and no longer one.
-use Rattle.std.proofs.Common.{◌≡◌, ℕ, List, [], ◌∷◌, refl, ap, sym, subst, ◌∙◌}
-use Rattle.luo_scan.specs.declared.token.Word.TheVariants.{KwAtom, KwProduct, KwCase, KwOf, KwEnd}
+use Rattle.std.proofs.Common.{List, ◌∷◌, refl, ap, sym, subst, ◌∙◌}
+use Rattle.luo_scan.specs.declared.token.Word.TheVariants.{KwProduct, KwCase, KwOf, KwEnd}
 use Rattle.luo_scan.specs.declared.token.Mark.TheVariants.{Semicolon, Comma, LeftRound, RightRound, Colon}
-use Rattle.luo_scan.specs.declared.token.TokenKind.{TokenKind}
 use Rattle.luo_scan.specs.declared.token.TokenKind.TheVariants as kind
 use Rattle.luo_scan.specs.Lexemes.{Lexeme, lexeme}
 use Rattle.luo_syntax.specs.declared.names.Name.{Name}
-use Rattle.luo_syntax.specs.declared.statements.Pattern.{Pattern}
 use Rattle.luo_syntax.specs.declared.values.SourceValue.{SourceValue}
-use Rattle.luo_syntax.specs.declared.values.SourceValue.TheVariants.{Given, Made, Atom, Tuple, Branch, Case}
 use Rattle.luo_syntax.specs.declared.values.SourceValueArm.{SourceValueArm}
-use Rattle.luo_syntax.specs.Next.{IsNext, next, IsNextAt, next_at, IsName, next_name, No, NoName, NoNumber, Misses, MissesName, MissesNumber, EndsValue}
-use Rattle.luo_syntax.specs.GrammarStatements.{IsPattern, pattern_named}
-use Rattle.luo_syntax.specs.GrammarValues.{IsValue, branch_value, inner_value, IsBranch, branch, IsInner, given, made, free_atom, charged_atom, bracketed, tuple, case_value, AreParts, last_part, more_parts, AreValueArms, last_value_arm, more_value_arms, IsValueArm, one_value_arm}
-use Rattle.luo_syntax.specs.StopsPatterns.{PatternEnds, PatternStops}
-use Rattle.luo_syntax.specs.StopsValues.{IsNumbered, numbered, IsBracketed, in_round, IsTuple, parts, IsValueCase, arms_of, IsMade, made_on, InnerEnds, WholeValue, WholeArm, whole_arm, MadeStops, made_name, made_right, ValueStops, in_number, in_inner, NumberedStops, numbered_colon, numbered_inner, InnerStops, no_inner, begun_inner, NoInner, no_value, BegunStops, inner_bracketed, inner_tuple, inner_case, inner_made, BracketedStops, bracketed_number, bracketed_numbered, bracketed_right, TupleStops, tuple_left, tuple_first, tuple_comma, tuple_more, PartsStop, in_part, past_part, past_parts, ValueCaseStops, value_case_name, value_case_of, value_case_arms, ValueArmsStop, in_value_arm, past_value_arm, past_value_arms, ValueArmStops, arm_pattern, arm_colon, arm_value}
-use Rattle.luo_syntax.proofs.Fronts.{Front, nothing, put, both, Moves, BeginAlike, Stuck}
+use Rattle.luo_syntax.specs.Next.{next, next_at, next_name, No, NoNumber}
+use Rattle.luo_syntax.specs.GrammarStatements.{pattern_named}
+use Rattle.luo_syntax.specs.GrammarValues.{IsValue, branch_value, inner_value, branch, IsInner, given, AreParts, last_part, more_parts, AreValueArms, last_value_arm, more_value_arms, IsValueArm, one_value_arm}
+use Rattle.luo_syntax.specs.StopsPatterns.{PatternEnds}
+use Rattle.luo_syntax.specs.StopsValues.{IsNumbered, numbered, IsBracketed, in_round, IsTuple, parts, IsValueCase, arms_of, IsMade, made_on, InnerEnds, MadeStops, made_name, made_right, ValueStops, in_number, in_inner, NumberedStops, numbered_colon, numbered_inner, InnerStops, no_inner, begun_inner, NoInner, no_value, BegunStops, inner_bracketed, inner_tuple, inner_case, inner_made, BracketedStops, bracketed_number, bracketed_numbered, bracketed_right, TupleStops, tuple_left, tuple_first, tuple_comma, tuple_more, PartsStop, in_part, past_part, past_parts, ValueCaseStops, value_case_name, value_case_of, value_case_arms, ValueArmsStop, in_value_arm, past_value_arm, past_value_arms, ValueArmStops, arm_pattern, arm_colon, arm_value}
+use Rattle.luo_syntax.proofs.Fronts.{nothing, put, both, BeginAlike, Stuck}
 use Rattle.luo_syntax.proofs.Nexts.{no_alike, no_number_alike, misses_alike, misses_number_alike}
 use Rattle.luo_syntax.proofs.Spelled.{a_name, a_mark, a_word, a_number, name_fit, mark_fit, word_fit, number_fit}
 use Rattle.luo_syntax.proofs.PatternMoves.{pattern_moves, pattern_ends_alike, pattern_stuck}
-use Rattle.luo_syntax.proofs.ValueMoves.{value_moves, numbered_moves, value_arm_moves, EndMoves, inner_ends_alike, alike_from, whole_moves, whole_arm_moves}
+use Rattle.luo_syntax.proofs.ValueMoves.{value_moves, numbered_moves, value_arm_moves, inner_ends_alike, alike_from, whole_moves, whole_arm_moves}
 use Rattle.luo_syntax.proofs.ValueSteps.{branch_of, inner_of_bracketed, inner_of_tuple, inner_of_case, inner_of_made}
 
 pub made_stuck : {from at : List Lexeme} → MadeStops from at → Stuck Name MadeStops IsMade from at

@@ -1,13 +1,12 @@
 -- Parts and arms that are read one by one.
-use Rattle.std.proofs.Common.{◌≡◌, ℕ, ◌<◌, ◌≤◌, List, [], ◌∷◌, ◌++◌, length, append_assoc, refl, ap, sym, subst, ◌∙◌, arith}
+use Rattle.std.proofs.Common.{◌≡◌, ◌<◌, ◌≤◌, List, [], ◌∷◌, ◌++◌, length, append_assoc, ap, sym, subst, ◌∙◌, arith}
 use Rattle.luo_scan.specs.declared.token.Word.TheVariants.{KwEnd}
 use Rattle.luo_scan.specs.declared.token.Mark.TheVariants.{Semicolon, Comma, RightRound}
-use Rattle.luo_scan.specs.declared.token.TokenKind.{TokenKind}
 use Rattle.luo_scan.specs.declared.token.TokenKind.TheVariants as kind
 use Rattle.luo_scan.specs.Lexemes.{Lexeme}
 use Rattle.luo_syntax.specs.declared.values.SourceValue.{SourceValue}
 use Rattle.luo_syntax.specs.declared.values.SourceValueArm.{SourceValueArm}
-use Rattle.luo_syntax.specs.Next.{IsNext, next, No, Misses}
+use Rattle.luo_syntax.specs.Next.{IsNext, next, Misses}
 use Rattle.luo_syntax.specs.GrammarValues.{IsValue, AreParts, last_part, more_parts, AreValueArms, last_value_arm, more_value_arms, IsValueArm}
 use Rattle.luo_syntax.specs.StopsValues.{WholeValue, WholeArm, ReadsParts, ValueStops, PartsStop, in_part, past_part, past_parts, ValueArmStops, ValueArmsStop, in_value_arm, past_value_arm, past_value_arms}
 use Rattle.luo_syntax.proofs.Nexts.{misses_past, next_past, next_shorter}

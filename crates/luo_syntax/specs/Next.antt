@@ -1,5 +1,5 @@
 -- What comes next among lexemes, and what a step of reading does.
-use Rattle.std.specs.Prelude.{◌≡◌, ℕ, List, [], ◌∷◌, Bool, true, false, Option, None, Some, length}
+use Rattle.std.specs.Prelude.{◌≡◌, ℕ, List, [], ◌∷◌, Bool, true, false, Option, None, Some}
 use Rattle.luo_scan.specs.declared.token.Word.TheVariants.{KwAs, KwAtom}
 use Rattle.luo_scan.specs.declared.token.Mark.TheVariants.{Bar, LeftRound}
 use Rattle.luo_scan.specs.declared.token.TokenKind.{TokenKind}

@@ -1,5 +1,5 @@
 -- Which fronts begin a program, and what an error says.
-use Rattle.std.specs.Prelude.{◌≡◌, ℕ, ◌+◌, ◌≤◌, ◌<◌, List, [], ◌∷◌, ◌++◌, take, length}
+use Rattle.std.specs.Prelude.{ℕ, ◌+◌, ◌≤◌, ◌<◌, List, [], ◌∷◌, ◌++◌, take, length}
 use Rattle.std.specs.List.{AllByRecursion}
 use Rattle.luo_scan.specs.declared.token.Word.TheVariants.{KwBegin, KwCase, KwEnd}
 use Rattle.luo_scan.specs.declared.token.Mark.TheVariants.{LeftRound, RightRound}

@@ -12,7 +12,7 @@ use Rattle.luo_value_types.specs.declared.rule.Stop.{Stop}
 use Rattle.luo_value_types.specs.declared.setting.Setting.{Setting}
 use Rattle.luo_value_types.specs.Breaches.{StopsAt}
 use Rattle.luo_value_types.specs.Patterns.{bound, bind_of}
-use Rattle.luo_value_types.specs.Statements.{HasRoom}
+use Rattle.luo_value_types.specs.Room.{HasRoom}
 use Rattle.luo_value_types.specs.ValueLists.{arm_list}
 use Rattle.luo_value_types.proofs.Joins.{join_arms, arm_list_append}
 use Rattle.luo_value_types.proofs.StopLemmas.{StopsAt-left}

@@ -21,7 +21,7 @@ use Rattle.luo_value_types.specs.Breaches.{◌or_if_none◌, StopsAt}
 use Rattle.luo_value_types.specs.Meanings as meanings
 use Rattle.luo_value_types.specs.Meanings.{procedure_use}
 use Rattle.luo_value_types.specs.Settings.{meant, shape_at, types_of}
-use Rattle.luo_value_types.specs.Statements.{HasMeasuresWithin, HasFewBranches}
+use Rattle.luo_value_types.specs.Room.{HasMeasuresWithin, HasFewBranches}
 use Rattle.luo_value_types.proofs.ListFacts.{get_or-none}
 use Rattle.luo_value_types.proofs.StopLemmas.{StopsAt-left, StopsAt-right, StopsAt-first, StopsAt-then, none-append, none-or_if_none}
 use Rattle.luo_types.specs.Checks.{IsSource, IsWithinLimits, IsChecked, WalksTooMuch}

@@ -9,9 +9,13 @@ pub mod SitesItems
 pub mod SitesInOrder
 pub mod CircleLemmas
 pub mod CountLemmas
+pub mod DefinitionLemmas
 pub mod ExpressionLemmas
 pub mod LimitLemmas
 pub mod LinkLemmas
+pub mod ListLemmas
+pub mod MeanLemmas
+pub mod NodeLemmas
 pub mod StatementNumbers
 pub mod ProceduresSoFar
 pub mod Lists
@@ -40,3 +44,4 @@ pub mod CoreIsProgram
 pub mod CheckedParts
 pub mod WalksSame
 pub mod Exclusive
+pub mod TypesLemmas

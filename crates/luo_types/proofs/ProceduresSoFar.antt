@@ -20,7 +20,7 @@ use Rattle.luo_value_types.specs.Breaches.{StopsAt}
 use Rattle.luo_value_types.specs.Meanings as meanings
 use Rattle.luo_value_types.specs.Meanings.{type_use, procedure_use}
 use Rattle.luo_value_types.specs.Settings.{meant, type_node}
-use Rattle.luo_value_types.specs.Statements.{HasRoom}
+use Rattle.luo_value_types.specs.Room.{HasRoom}
 use Rattle.luo_value_types.specs.ValueBreaches.{value_breaches}
 use Rattle.luo_value_types.proofs.StopLemmas.{StopsAt-left, StopsAt-right}
 use Rattle.luo_value_types.proofs.ValueRoom.{sites_within}

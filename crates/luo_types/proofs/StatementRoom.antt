@@ -5,7 +5,7 @@ use Rattle.luo_model.specs.Scopes.{greatest_charge}
 use Rattle.luo_syntax.specs.declared.statements.SourceArm.{SourceArm}
 use Rattle.luo_syntax.specs.declared.statements.Stmt.{Stmt, Skip, Charge, Call, Block', Case', Forall', Row_of-Stmt, end_of-Stmt, more_of-Stmt, Row_of-SourceArm, end_of-SourceArm, more_of-SourceArm}
 use Rattle.luo_value_types.specs.declared.setting.Setting.{Setting}
-use Rattle.luo_value_types.specs.Statements.{HasMeasuresWithin, HasRoom}
+use Rattle.luo_value_types.specs.Room.{HasMeasuresWithin, HasRoom}
 use Rattle.luo_value_types.proofs.ValueRoom.{charge_within}
 use Rattle.luo_types.specs.Counted.{stmt_statements, stmts_statements, arms_statements}
 use Rattle.luo_types.specs.StatementCore.{stmt_own, stmts_own, stmt_sites, stmts_sites, arms_sites}

@@ -23,7 +23,7 @@ use Rattle.luo_value_types.specs.Breaches.{StopsAt}
 use Rattle.luo_value_types.specs.Meanings.{measure_use, procedure_use, value_of, procedure_of}
 use Rattle.luo_value_types.specs.Patterns.{case_breaches}
 use Rattle.luo_value_types.specs.Settings.{meant, signature_meant, shape_at, found, place_of, argument_breaches, case_stands}
-use Rattle.luo_value_types.specs.Statements.{HasRoom}
+use Rattle.luo_value_types.specs.Room.{HasRoom}
 use Rattle.luo_value_types.specs.ValueLists.{arm_list}
 use Rattle.luo_value_types.specs.ValueMade.{extended}
 use Rattle.luo_value_types.proofs.CoreForms.{case_item}

@@ -11,7 +11,7 @@ use Rattle.luo_value_types.specs.declared.rule.Stop.{Stop}
 use Rattle.luo_value_types.specs.declared.setting.Setting.{Setting}
 use Rattle.luo_value_types.specs.declared.setting.Variable.{Variable}
 use Rattle.luo_value_types.specs.Breaches.{StopsAt}
-use Rattle.luo_value_types.specs.Statements.{HasMeasuresWithin, HasRoom}
+use Rattle.luo_value_types.specs.Room.{HasMeasuresWithin, HasRoom}
 use Rattle.luo_value_types.specs.ValueMade.{extended}
 use Rattle.luo_value_types.proofs.Joins.{extended_none, extended_assoc}
 use Rattle.luo_value_types.proofs.StopLemmas.{StopsAt-left}

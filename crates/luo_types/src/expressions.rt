@@ -13,6 +13,7 @@ use luo_value_types::{Names, Stop, use_type};
 use std::alloc::Global;
 
 /// What right sides are checked by: the universe, and what names mean.
+#[derive(Drop)]
 pub(crate) struct Checker<'n> {
     pub alloc: Global,
     pub universe: Universe,

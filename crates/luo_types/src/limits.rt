@@ -6,7 +6,7 @@ ghost use Rattle.luo_types.specs.Checks.{PassesFirst, IsWithinLimits};
 
 use crate::counts::{TypeCounts, count_expr};
 use crate::error::CountLimit;
-use crate::statement_counts::count_statements;
+use crate::statement_counts::count_procs;
 use luo_num::{marked_add, marked_mul};
 use luo_syntax::{Source, TypeDef};
 
@@ -85,7 +85,7 @@ pub(crate) fn passed_limit(source: &Source) -> Option<CountLimit>
     if source.procs.len() > PROCEDURES {
         return Some(CountLimit::Procedures);
     }
-    if count_statements(source.procs.as_slice()) > STATEMENTS {
+    if count_procs(source.procs.as_slice()) > STATEMENTS {
         return Some(CountLimit::Statements);
     }
     if source.analyses.len() > ANALYSES {

@@ -69,24 +69,16 @@ pub(crate) fn check_kind(
     ensures ok { OnOk result (kind_breaches universe kind at ≡ []) }
     ensures stops { IfErr result (λ s. StopsAt (kind_breaches universe kind at) s) }
 {
-    match (universe, kind) {
-        (Universe::Unlabelled, Kind::Set) => {
-            return Err(breach(alloc, Rule::Y5, at, kind_word(kind)));
-        }
-        (Universe::Unlabelled, Kind::Cycle) => {
-            return Err(breach(alloc, Rule::Y6, at, kind_word(kind)));
-        }
-        (Universe::Labelled, Kind::Multiset) => {
-            return Err(breach(alloc, Rule::Y5, at, kind_word(kind)));
-        }
-        (Universe::Labelled, Kind::Powerset) => {
-            return Err(breach(alloc, Rule::Y5, at, kind_word(kind)));
-        }
+    let rule = match (universe, kind) {
+        (Universe::Unlabelled, Kind::Set) => Rule::Y5,
+        (Universe::Labelled, Kind::Multiset | Kind::Powerset) => Rule::Y5,
+        (Universe::Unlabelled, Kind::Cycle) => Rule::Y6,
         _ => return Ok(()),
-    }
+    };
+    Err(breach(alloc, rule, at, kind_word(kind)))
 }
 
-fn least_of(kind: Kind) -> u128
+pub(crate) fn least_of(kind: Kind) -> u128
     ensures { result ≡ least_of kind }
 {
     match kind {
@@ -148,11 +140,8 @@ pub(crate) fn check_bound(alloc: Global, kind: Kind, bound: Option<Bound>) -> Re
         return Ok(());
     };
     let low = low_in(kind, bound.range);
-    if is_at_most(low, high_in(bound.range)) {
-        if is_low(kind, low) {
-            return Ok(());
-        }
-        return Err(breach(alloc, Rule::Y7, bound.at, kind_word(kind)));
+    if is_at_most(low, high_in(bound.range)) && is_low(kind, low) {
+        return Ok(());
     }
     Err(breach(alloc, Rule::Y7, bound.at, kind_word(kind)))
 }

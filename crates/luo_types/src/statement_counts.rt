@@ -5,7 +5,7 @@ ghost use Rattle.luo_types.specs.Counted.{stmt_statements, body_statements};
 
 use luo_num::marked_add;
 use luo_syntax::{ProcBody, ProcDef, SourceArm, Stmt};
-use luo_value_types::count_statements as value_statements;
+use luo_value_types::count_statements;
 
 // The marked number of statements of a statement.
 #[cycle(statements)]
@@ -60,12 +60,12 @@ fn count_body(body: &ProcBody) -> u128
 {
     match body {
         ProcBody::Statements(stmts) => count_stmts(stmts.as_slice()),
-        ProcBody::Value { value, .. } => value_statements(value),
+        ProcBody::Value { value, .. } => count_statements(value),
     }
 }
 
 /// The marked number of statements of procedures.
-pub(crate) fn count_statements(procs: &[ProcDef]) -> u128
+pub(crate) fn count_procs(procs: &[ProcDef]) -> u128
     ensures { result ≡ capped (sum_by (λ p. body_statements p.body) procs.now) }
 {
     let mut total = 0;

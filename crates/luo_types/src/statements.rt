@@ -9,7 +9,7 @@ ghost use Rattle.luo_value_types.specs.Breaches.{StopsAt};
 ghost use Rattle.luo_value_types.specs.Meanings.{measure_use, value_of};
 ghost use Rattle.luo_value_types.specs.Settings.{meant, shape_at, found};
 ghost use Rattle.luo_value_types.specs.Stands.{stand_of};
-ghost use Rattle.luo_value_types.specs.Statements.{HasMeasuresWithin, HasRoom};
+ghost use Rattle.luo_value_types.specs.Room.{HasMeasuresWithin, HasRoom};
 ghost use Rattle.luo_types.specs.Counted.{stmt_statements};
 ghost use Rattle.luo_types.specs.StatementBreaches.{walk_breaches, stmt_breaches};
 ghost use Rattle.luo_types.specs.StatementLists.{list_breaches, one_arm_breaches, arm_list_breaches, arm_statements};

@@ -11,7 +11,7 @@ use Rattle.luo_value_types.specs.declared.rule.Stop.{Stop}
 use Rattle.luo_value_types.specs.declared.setting.Setting.{Setting}
 use Rattle.luo_value_types.specs.Breaches.{StopsAt}
 use Rattle.luo_value_types.specs.Patterns.{bound, arm_breaches, pattern_breaches}
-use Rattle.luo_value_types.specs.Statements.{HasRoom}
+use Rattle.luo_value_types.specs.Room.{HasRoom}
 use Rattle.luo_value_types.specs.ValueBreaches.{value_breaches}
 use Rattle.luo_value_types.specs.ValueLists.{arms_breaches, arms_core, arms_statements, value_arm_list, arm_list, ArmsAreMade, ArmIsMade}
 use Rattle.luo_value_types.proofs.Joins.{join_value_arms, join_arms, value_arms_none, value_arms_assoc, value_arms_sites_join, arm_bodies_join, value_arm_list_append, arm_list_append}

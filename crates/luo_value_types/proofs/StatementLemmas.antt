@@ -1,5 +1,5 @@
 -- Statements that are counted one by one.
-use Rattle.std.proofs.Common.{◌≡◌, ℕ, ◌+◌, ◌≤◌, List, drop, length, ap, sym, ◌∙◌, arith}
+use Rattle.std.proofs.Common.{◌≡◌, ℕ, suc, ◌+◌, ◌≤◌, List, drop, length, ap, sym, ◌∙◌, arith}
 use Rattle.std.proofs.lemmas.List.{drop_all}
 use Rattle.luo_num.specs.Mark.{capped}
 use Rattle.luo_syntax.specs.declared.names.Name.{Name}
@@ -30,5 +30,5 @@ count_branch v inner held number at n is same e = e ∙ ap (λ z. capped (value_
 pub count_case : (v : SourceValue) (var : Name) (arms items : List SourceValueArm) (n all : ℕ) → v ≡ source.Case var arms → items ≡ arms → n ≡ capped (arms_statements items) → all ≡ capped (1 + n) → all ≡ capped (value_statements v)
 count_case v var arms items n all is same e f =
     let inside : n ≡ capped (arms_statements arms) = e ∙ ap (λ z. capped (arms_statements z)) same in
-    let here : value_statements v ≡ 1 + arms_statements arms = ap value_statements is ∙ case_statements var arms in
+    let here : value_statements v ≡ suc (arms_statements arms) = ap value_statements is ∙ case_statements var arms in
     omega (arith, inside, f, here)

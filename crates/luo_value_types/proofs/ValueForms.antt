@@ -106,7 +106,7 @@ case_core s scope expected var arms =
     let row = arms_in (Case var arms) in
     ap (plain.Chosen (place_of (found scope var))) (arms_core_row s (case_stands s (found scope var)) expected row.0 row.1 ∙ ap (arms_core s (case_stands s (found scope var)) expected) (items_hidden-the_row-SourceValueArm-2 arms))
 
-pub case_statements : (var : Name) (arms : List SourceValueArm) → value_statements (Case var arms) ≡ 1 + arms_statements arms
+pub case_statements : (var : Name) (arms : List SourceValueArm) → value_statements (Case var arms) ≡ suc (arms_statements arms)
 case_statements var arms =
     let row = arms_in (Case var arms) in
-    ap (λ z. 1 + z) (arms_statements_row row.0 row.1 ∙ ap arms_statements (items_hidden-the_row-SourceValueArm-2 arms))
+    ap suc (arms_statements_row row.0 row.1 ∙ ap arms_statements (items_hidden-the_row-SourceValueArm-2 arms))

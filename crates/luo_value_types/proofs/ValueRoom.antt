@@ -10,7 +10,8 @@ use Rattle.luo_value_types.specs.declared.setting.Variable.{Variable}
 use Rattle.luo_value_types.specs.Meanings as meanings
 use Rattle.luo_value_types.specs.Settings.{meant, found, case_stands}
 use Rattle.luo_value_types.specs.Patterns.{bound}
-use Rattle.luo_value_types.specs.Statements.{value_statements, values_statements, boxed_value_statements, value_arms_statements, HasMeasuresWithin}
+use Rattle.luo_value_types.specs.Room.{HasMeasuresWithin}
+use Rattle.luo_value_types.specs.Statements.{value_statements, values_statements, boxed_value_statements, value_arms_statements}
 use Rattle.luo_value_types.specs.ValueBreaches.{part_nodes, inner_node, count_values}
 use Rattle.luo_value_types.specs.ValueCore.{value_core, values_core, boxed_value_core, value_arms_core, charge_of}
 

@@ -31,7 +31,8 @@ use Rattle.luo_value_types.specs.Breaches.{◌or_if_none◌, broken, StopsAt}
 use Rattle.luo_value_types.specs.Meanings.{procedure_use, procedure_of}
 use Rattle.luo_value_types.specs.Settings.{meant, signature_meant, shape_at, found, place_of, argument_breaches, case_stands}
 use Rattle.luo_value_types.specs.Patterns.{bound, case_breaches, has_factors}
-use Rattle.luo_value_types.specs.Statements.{value_statements, HasFewBranches, HasRoom}
+use Rattle.luo_value_types.specs.Room.{HasFewBranches, HasRoom}
+use Rattle.luo_value_types.specs.Statements.{value_statements}
 use Rattle.luo_value_types.specs.ValueBreaches.{value_breaches, given_breaches, result_breaches, charge_use, is_atom, misplaced, branch_at, branch_of, part_nodes}
 use Rattle.luo_value_types.specs.ValueCore.{value_core, weight_of, charge_of}
 use Rattle.luo_value_types.specs.ValueLists.{parts_breaches, parts_core, parts_statements, arms_breaches, arms_core, arms_statements, AreMade, ArmsAreMade}
@@ -211,7 +212,7 @@ tuple_room parts at own next room = subst (λ z. HasRoom z own next) (tuple_stat
 pub branch_room : (number at : ℕ) (inner : SourceValue) (own next : ℕ) → HasRoom (value_statements (source.Branch number at inner)) own next → HasRoom (value_statements inner) own next
 branch_room number at inner own next room = subst (λ z. HasRoom z own next) (branch_statements number at inner) room
 
-pub case_room : (var : Name) (arms : List SourceValueArm) (own next : ℕ) → HasRoom (value_statements (source.Case var arms)) own next → HasRoom (1 + arms_statements arms) own next
+pub case_room : (var : Name) (arms : List SourceValueArm) (own next : ℕ) → HasRoom (value_statements (source.Case var arms)) own next → HasRoom (suc (arms_statements arms)) own next
 case_room var arms own next room = subst (λ z. HasRoom z own next) (case_statements var arms) room
 
 pub case_room_inside : (var : Name) (arms : List SourceValueArm) (own next : ℕ) → HasRoom (value_statements (source.Case var arms)) own next → HasRoom (arms_statements arms) 0 next

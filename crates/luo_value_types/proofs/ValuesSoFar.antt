@@ -11,7 +11,8 @@ use Rattle.luo_value_types.specs.declared.rule.Stop.{Stop}
 use Rattle.luo_value_types.specs.declared.setting.Setting.{Setting}
 use Rattle.luo_value_types.specs.declared.setting.Variable.{Variable}
 use Rattle.luo_value_types.specs.Breaches.{StopsAt}
-use Rattle.luo_value_types.specs.Statements.{value_statements, HasMeasuresWithin, HasRoom}
+use Rattle.luo_value_types.specs.Room.{HasMeasuresWithin, HasRoom}
+use Rattle.luo_value_types.specs.Statements.{value_statements}
 use Rattle.luo_value_types.specs.ValueBreaches.{value_breaches}
 use Rattle.luo_value_types.specs.ValueCore.{value_core}
 use Rattle.luo_value_types.specs.ValueLists.{parts_breaches, parts_core, parts_statements, value_list, AreMade}

@@ -6,5 +6,6 @@ pub mod Patterns
 pub mod ValueBreaches
 pub mod ValueCore
 pub mod Statements
+pub mod Room
 pub mod ValueMade
 pub mod ValueLists

@@ -1,4 +1,4 @@
-use Rattle.std.proofs.Common.{arith, ◌+◌, ◌≤◌, length}
+use Rattle.std.proofs.Common.{arith, ◌+◌}
 use Rattle.luo_syntax.proofs.Texts.{deep_within, text_stops_first, text_deep, text_deep_read}
 use Rattle.std.proofs.lemmas.List.{length-take}
 use Rattle.luo_syntax.proofs.parsing.parse.Goals as goal

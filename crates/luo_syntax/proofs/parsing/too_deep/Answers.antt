@@ -1,4 +1,4 @@
-use Rattle.std.proofs.Common.{arith, ◌≡◌, ◌≤◌, ℕ, ◌+◌, ◌<◌, length, take, refl, subst}
+use Rattle.std.proofs.Common.{arith, ◌≡◌, length, subst}
 use Rattle.luo_syntax.proofs.Counts.{IsShallowTo, any_token, opened_more, closed_more, shallow_more, shallow_text, first_deep}
 use Rattle.luo_syntax.proofs.parsing.too_deep.Goals as goal
 

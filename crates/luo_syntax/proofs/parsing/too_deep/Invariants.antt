@@ -1,4 +1,4 @@
-use Rattle.std.proofs.Common.{◌≡◌, ◌≤◌, ℕ, take}
+use Rattle.std.proofs.Common.{◌≡◌, ◌≤◌, take}
 use Rattle.luo_syntax.proofs.Counts.{kinds_opened, kinds_closed, IsShallowTo}
 use Rattle.luo_syntax.proofs.parsing.too_deep.Given as goal
 

@@ -2,7 +2,7 @@ use Rattle.std.proofs.Common.{◌≡◌, ◌≤◌, sym, ◌∙◌, ap, subst, l
 use Rattle.luo_value_types.specs.Breaches.{StopsAt}
 use Rattle.luo_value_types.specs.Meanings.{procedure_use}
 use Rattle.luo_value_types.specs.Settings.{meant}
-use Rattle.luo_value_types.specs.Statements.{HasMeasuresWithin, HasFewBranches}
+use Rattle.luo_value_types.specs.Room.{HasMeasuresWithin, HasFewBranches}
 use Rattle.luo_types.specs.Counted.{body_statements}
 use Rattle.luo_types.specs.Nodes.{setting_of}
 use Rattle.luo_types.specs.Whole.{procs_breaches}

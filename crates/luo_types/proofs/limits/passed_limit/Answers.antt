@@ -21,8 +21,8 @@ returns-then-counts-gt-MULTISETS-clause-some c = first_multisets c.args.source.n
 pub returns-then-len-gt-PROCEDURES-clause-some : goal.returns-then-len-gt-PROCEDURES-clause-some
 returns-then-len-gt-PROCEDURES-clause-some c = first_procedures c.args.source.now (grind (arith, common_steps)) (grind (arith, common_steps))
 
-pub returns-then-count_statements-gt-STATEMENTS-clause-some : goal.returns-then-count_statements-gt-STATEMENTS-clause-some
-returns-then-count_statements-gt-STATEMENTS-clause-some c = first_statements c.args.source.now (grind (arith, common_steps)) (grind (arith, common_steps))
+pub returns-then-count_procs-gt-STATEMENTS-clause-some : goal.returns-then-count_procs-gt-STATEMENTS-clause-some
+returns-then-count_procs-gt-STATEMENTS-clause-some c = first_statements c.args.source.now (grind (arith, common_steps)) (grind (arith, common_steps))
 
 pub returns-then-len-gt-ANALYSES-clause-some : goal.returns-then-len-gt-ANALYSES-clause-some
 returns-then-len-gt-ANALYSES-clause-some c = first_analyses c.args.source.now (grind (arith, common_steps)) (grind (arith, common_steps))

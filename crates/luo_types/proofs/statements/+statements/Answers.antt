@@ -4,7 +4,7 @@ use Rattle.luo_model.specs.View.{body_of}
 use Rattle.luo_syntax.specs.declared.statements.Stmt.{Skip, Charge, Call, Block, Case, Forall}
 use Rattle.luo_value_types.specs.Breaches.{StopsAt}
 use Rattle.luo_value_types.specs.Settings.{shape_at}
-use Rattle.luo_value_types.specs.Statements.{HasRoom}
+use Rattle.luo_value_types.specs.Room.{HasRoom}
 use Rattle.luo_value_types.specs.Stands.{stand_of}
 use Rattle.luo_value_types.proofs.StopLemmas.{StopsAt-pattern, StopsAt-body, arm-body}
 use Rattle.luo_syntax.specs.declared.statements.Stmt.TheFolds.{the_lemmas}
