@@ -40,6 +40,18 @@ pub record Clean (source : Source) : Type 0 where
 from_zero : (i : ℕ) → 0 + i ≡ i
 from_zero i = omega arith
 
+-- definitions without breach are sound
+pub sound_all : (source : Source) → ProperSource source.types source.measures source.procs → types_breaches source.universe (names_of source) (definitions source) 0 source.types ≡ [] → SoundAll source.universe (names_of source) (definitions source)
+sound_all source p types =
+    let names = names_of source in
+    let defs = definitions source in
+    let within : NamesWithin (length defs) (10 ^ 35) (length source.procs) names = names_within source (10 ^ 35) (all_within (10 ^ 35) source.measures p.values) in
+    record {
+      each = λ i d h. subst (λ n. Sound source.universe names defs n d) (from_zero i) (sound source.universe names defs 0 source.types i d types h);
+      proper = λ i d h. let c = copy_of source.types i d h in subst (λ r. ProperDef (record { names = []; body = r })) (sym c.right) (all_get ProperDef source.types c.k c.t p.right_sides c.is);
+      below = λ text i h. within text (mean.Definition i) h;
+    }
+
 pub clean : (source : Source) → ProperSource source.types source.measures source.procs → breaches source ≡ [] → Clean source
 clean source p e =
     let names = names_of source in
@@ -52,11 +64,7 @@ clean source p e =
     let rest = none_then (first ++ second) (third ++ fourth) e in
     let within : NamesWithin (length defs) (10 ^ 35) (length source.procs) names = names_within source (10 ^ 35) (all_within (10 ^ 35) source.measures p.values) in
     record {
-      all = record {
-        each = λ i d h. subst (λ n. Sound source.universe names defs n d) (from_zero i) (sound source.universe names defs 0 source.types i d types h);
-        proper = λ i d h. let c = copy_of source.types i d h in subst (λ r. ProperDef (record { names = []; body = r })) (sym c.right) (all_get ProperDef source.types c.k c.t p.right_sides c.is);
-        below = λ text i h. within text (mean.Definition i) h;
-      };
+      all = sound_all source p types;
       within = within;
       procedures = nil_left third fourth rest;
       analyses = nil_right third fourth rest;

@@ -14,7 +14,7 @@ use Rattle.luo_types.specs.Definitions.{Definition, first_node, node_of, named_a
 use Rattle.luo_types.specs.Nodes.{behind, part_at, nodes_at, start, defs_from, nodes_from}
 use Rattle.luo_types.proofs.Lists.{some_same, none_some, get_below, below_get}
 use Rattle.luo_types.proofs.NodeLists.{first_within, first_behind, def_at, def_get, def_back, node_of_def, node_there, nodes_length, nodes_from_length}
-use Rattle.luo_types.proofs.Naming.{EndsBy}
+use Rattle.luo_types.proofs.NamingFacts.{EndsBy}
 use Rattle.luo_types.proofs.DefinitionFacts.{SoundAll, right_sort, node_of_below, whole_node, all_end}
 use Rattle.luo_types.proofs.NodeFacts.{Stands, PartOf, expr_stands, head_owner, head_part}
 

@@ -16,7 +16,7 @@ use Rattle.luo_types.specs.Nodes.{Spot, named_part, part_at, start}
 use Rattle.luo_types.proofs.Lists.{some_same, none_some, get_below}
 use Rattle.luo_types.proofs.NodeLists.{first_within}
 use Rattle.luo_types.proofs.NameFacts.{NoCircle, Sound}
-use Rattle.luo_types.proofs.Naming.{after, EndsBy, NoWays, NextsThere, no_way, ends_by, node_same}
+use Rattle.luo_types.proofs.NamingFacts.{after, EndsBy, NoWays, NextsThere, no_way, ends_by, node_same}
 use Rattle.luo_types.proofs.ProperTypes.{ProperType}
 
 -- all definitions are without breach

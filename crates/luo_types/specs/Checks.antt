@@ -1,11 +1,14 @@
 -- The answers of a check.
-use Rattle.std.specs.Prelude.{◌≡◌, ℕ, ◌≤◌, ◌<◌, List, [], ◌∷◌}
+use Rattle.std.specs.Prelude.{◌≡◌, ◌⊎◌, ℕ, ◌≤◌, ◌<◌, List, [], ◌∷◌, Result, Ok, Err}
 use Rattle.luo_model.specs.Program.{Program}
+use Rattle.luo_model.specs.View.{Held}
 use Rattle.luo_scan.specs.declared.token.Token.{Token}
 use Rattle.luo_scan.specs.Tokens.{Tokens}
 use Rattle.luo_syntax.specs.declared.source.Source.{Source}
 use Rattle.luo_syntax.specs.Grammar.{Derives}
 use Rattle.luo_value_types.specs.declared.rule.Breach.{Breach}
+use Rattle.luo_value_types.specs.declared.rule.Stop.TheVariants as stop
+use Rattle.luo_value_types.specs.declared.rule.Stop.{Stop}
 use Rattle.luo_types.specs.declared.error.CountLimit.{CountLimit}
 use Rattle.luo_types.specs.declared.error.CountLimit.TheVariants as count
 use Rattle.luo_types.specs.declared.error.CheckError.{CheckError}
@@ -46,3 +49,18 @@ IsUnchecked source (Limit count.Walks) = IsWithinLimits source × WalksTooMuch s
 IsUnchecked source (Limit which) = PassesFirst source which
 IsUnchecked source (Rule rule token names) = IsWithinLimits source × BreaksFirst source (record { rule = rule; token = token; names = names })
 IsUnchecked source NoMemory = Unit {0}
+
+-- the error that a stop gives
+abbrev pub error_of : Stop → CheckError
+error_of (stop.Breach b) = Rule b.rule b.token b.names
+error_of stop.NoMemory = NoMemory
+
+-- the answer is this error, or want of memory
+abbrev pub IsRefusal : CheckError → Result Held CheckError → Type 0
+IsRefusal e (Ok p) = ⊥
+IsRefusal e (Err given) = (given ≡ e) ⊎ (given ≡ NoMemory)
+
+-- the answer is a program, or want of memory
+abbrev pub IsProgramAnswer : Result Held CheckError → Type 0
+IsProgramAnswer (Ok p) = Unit {0}
+IsProgramAnswer (Err given) = given ≡ NoMemory

@@ -11,13 +11,14 @@ use Rattle.luo_syntax.specs.declared.types.Range.TheVariants.{Exactly, AtMost, A
 use Rattle.luo_syntax.specs.declared.types.Bound.{Bound}
 use Rattle.luo_syntax.specs.declared.types.TypeExpr.{TypeExpr, Named, Epsilon, Atom, Union', Product', Coll', Row_of-TypeExpr, end_of-TypeExpr, more_of-TypeExpr}
 use Rattle.luo_syntax.specs.declared.types.TypeDef.{TypeDef}
+use Rattle.luo_syntax.specs.declared.source.Source.{Source}
 use Rattle.luo_value_types.specs.declared.names.Meaning.{Meaning}
 use Rattle.luo_value_types.specs.declared.names.Meaning.TheVariants as mean
 use Rattle.luo_value_types.specs.declared.rule.Breach.{Breach}
 use Rattle.luo_value_types.specs.declared.rule.Rule.TheVariants.{Y1, Y4, Y5, Y6, Y7, Y8}
 use Rattle.luo_value_types.specs.Breaches.{broken, broken_at, ◌or_if_none◌}
 use Rattle.luo_value_types.specs.Meanings.{meaning, type_use}
-use Rattle.luo_types.specs.Definitions.{Definition, circle}
+use Rattle.luo_types.specs.Definitions.{Definition, circle, definitions, measures, names_of}
 
 -- the meaning is this one
 abbrev pub is_meaning : Option Meaning → Meaning → Bool
@@ -134,3 +135,7 @@ types_breaches universe names defs i (d ∷ ds) = type_breaches universe names d
 abbrev pub measures_breaches : List (List ℕ × Meaning) → ℕ → List (Name × ℕ) → List Breach
 measures_breaches names k [] = []
 measures_breaches names k (m ∷ ms) = name_breaches names m.0 (mean.Measure k m.1) ++ measures_breaches names (suc k) ms
+
+-- the breaches of the definitions and measures of a source, in text order
+abbrev pub first_breaches : Source → List Breach
+first_breaches source = types_breaches source.universe (names_of source) (definitions source) 0 source.types ++ measures_breaches (names_of source) 0 (measures source)

@@ -1,6 +1,10 @@
 // Why a source is no program.
+ghost use Rattle.std.specs.Prelude.{◌≡◌};
+ghost use Rattle.luo_types.specs.declared.error.CheckError.TheVariants.{NoMemory};
+ghost use Rattle.luo_types.specs.Checks.{error_of};
+
 use luo_num::{Items, Text};
-use luo_value_types::Rule;
+use luo_value_types::{Rule, Stop};
 use std::alloc::{AllocError, AllocFailed};
 
 /// What is counted in a source, and has a greatest number.
@@ -43,13 +47,32 @@ pub enum CheckError {
 }
 
 impl From<AllocError> for CheckError {
+    ghost from_gives = { λ _ e. e ≡ NoMemory };
+
     fn from(_: AllocError) -> Self {
         CheckError::NoMemory
     }
 }
 
 impl<T: Drop> From<AllocFailed<T>> for CheckError {
+    ghost from_gives = { λ _ e. e ≡ NoMemory };
+
     fn from(_: AllocFailed<T>) -> Self {
         CheckError::NoMemory
+    }
+}
+
+impl From<Stop> for CheckError {
+    ghost from_gives = { λ stop e. e ≡ error_of stop };
+
+    fn from(stop: Stop) -> Self {
+        match stop {
+            Stop::Breach(breach) => CheckError::Rule {
+                rule: breach.rule,
+                token: breach.token,
+                names: breach.names,
+            },
+            Stop::NoMemory => CheckError::NoMemory,
+        }
     }
 }

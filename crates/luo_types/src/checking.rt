@@ -1,0 +1,96 @@
+// The check of a whole source.
+ghost use Rattle.std.specs.Prelude.{◌≡◌, ◌≤◌, IfOk, IfErr, OnOk};
+ghost use Rattle.luo_model.specs.Program as plain;
+ghost use Rattle.luo_model.specs.View.{plain_of};
+ghost use Rattle.luo_value_types.specs.declared.rule.Breach.{Breach};
+ghost use Rattle.luo_value_types.specs.Breaches.{StopsAt};
+ghost use Rattle.luo_types.specs.declared.error.CheckError.TheVariants as error;
+ghost use Rattle.luo_types.specs.declared.error.CountLimit.{CountLimit};
+ghost use Rattle.luo_types.specs.declared.error.CountLimit.TheVariants as count;
+ghost use Rattle.luo_types.specs.Checks.{IsSource, IsWithinLimits, PassesFirst, BreaksFirst, WalksTooMuch, IsChecked, IsUnchecked, IsRefusal, IsProgramAnswer};
+ghost use Rattle.luo_types.specs.Typed.{IsTyped};
+ghost use Rattle.luo_types.specs.Whole.{breaches};
+
+use crate::error::{CheckError, CountLimit};
+use crate::limits::passed_limit;
+use crate::procedure_sites::sites_of;
+use crate::procedures::{analyses, procedures};
+use crate::types::types;
+use luo_model::{Proc, Program};
+use luo_num::Items;
+use luo_syntax::Source;
+use luo_value_types::{Setting, Stop};
+use std::alloc::Global;
+
+/// The most walks over multisets and powersets.
+const WALKS: usize = 32;
+
+/// The parts of a source that breaks no rule.
+#[derive(Drop)]
+pub(crate) struct Typed {
+    pub setting: Setting,
+    pub procs: Items<Proc>,
+    pub analyses: Items<usize>,
+}
+
+// Checks definitions, measures, procedures and analyze lines, and makes what the core form has of them.
+fn check_parts(alloc: Global, source: &Source) -> Result<Typed, Stop>
+    requires source { IsSource source.now }
+    requires within { IsWithinLimits source.now }
+    ensures ok { IfOk result (λ t. IsTyped source.now t) }
+    ensures stops { IfErr result (λ e. StopsAt (breaches source.now) e) }
+{
+    let setting = types(alloc, source)?;
+    let procs = procedures(alloc, &setting, source.procs.as_slice())?;
+    let lines = analyses(alloc, &setting, source.analyses.as_slice())?;
+    Ok(Typed {
+        setting,
+        procs,
+        analyses: lines,
+    })
+}
+
+// Decides between the program of a source and an error.
+fn decide(alloc: Global, source: &Source) -> Result<Program, CheckError>
+    requires { IsSource source.now }
+    ensures ok { IfOk result (λ p. IsChecked source.now (plain_of p)) }
+    ensures err { IfErr result (λ e. IsUnchecked source.now e) }
+{
+    if let Some(which) = passed_limit(source) {
+        return Err(CheckError::Limit { which });
+    }
+    let Typed { setting, procs, analyses } = check_parts(alloc, source)?;
+    let (sites, walks) = sites_of(alloc, &setting, procs.as_slice())?;
+    if walks > WALKS {
+        return Err(CheckError::Limit {
+            which: CountLimit::Walks,
+        });
+    }
+    let Setting { universe, defs, nodes, .. } = setting;
+    Ok(Program {
+        universe,
+        defs,
+        nodes,
+        procs,
+        sites,
+        analyses,
+    })
+}
+
+/// Checks a source, and makes its program.
+///
+/// `Limit` says the first limit that is passed, in the order of `CountLimit`; `Walks` comes only where no
+/// other limit is passed and no rule is broken. `Rule` says the first breach of a rule in the text, where no
+/// limit is passed but perhaps that on walks: its token, and what it is about. `NoMemory` says that memory
+/// was refused.
+pub fn check(alloc: Global, source: &Source) -> Result<Program, CheckError>
+    requires { IsSource source.now }
+    ensures ok { IfOk result (λ p. IsChecked source.now (plain_of p)) }
+    ensures err { IfErr result (λ e. IsUnchecked source.now e) }
+    ensures limit { (which : CountLimit) → PassesFirst source.now which → IsRefusal (error.Limit which) result }
+    ensures rule { (b : Breach) → IsWithinLimits source.now → BreaksFirst source.now b → IsRefusal (error.Rule b.rule b.token b.names) result }
+    ensures walks { IsWithinLimits source.now → WalksTooMuch source.now → IsRefusal (error.Limit count.Walks) result }
+    ensures checked { (p : plain.Program) → IsChecked source.now p → IsProgramAnswer result }
+{
+    decide(alloc, source)
+}
