@@ -1,0 +1,3 @@
+pub mod RiseLists
+pub mod RiseNames
+pub mod RiseTypes
