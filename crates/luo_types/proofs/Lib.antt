@@ -1,3 +1,5 @@
 pub mod RiseLists
 pub mod RiseNames
 pub mod RiseTypes
+pub mod RisePatterns
+pub mod RiseStatements
