@@ -3,3 +3,4 @@ pub mod RiseNames
 pub mod RiseTypes
 pub mod RisePatterns
 pub mod RiseStatements
+pub mod RiseValues
