@@ -4,3 +4,4 @@ pub mod RiseTypes
 pub mod RisePatterns
 pub mod RiseStatements
 pub mod RiseValues
+pub mod RiseSource

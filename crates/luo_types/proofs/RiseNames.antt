@@ -34,6 +34,10 @@ pub record Spans (low : ℕ) (to : List Lexeme) (bs : List Breach) : Type 0 wher
 pub behind : {low j : ℕ} {kind : TokenKind} {bytes : List ℕ} {mid to : List Lexeme} {xs ys : List Breach} → Spans low (lexeme kind bytes j ∷ mid) xs → Spans (j + 1) to ys → Spans low to (xs ++ ys)
 behind one two = record { next = two.next; left = two.left; within = joined one.within (omega (arith, one.left.0)) two.within }
 
+-- one thing directly behind another
+pub follows : {low : ℕ} {to : List Lexeme} {xs ys : List Breach} (next : ℕ) → Within low next xs → Spans next to ys → Spans low to (xs ++ ys)
+follows next w one = record { next = one.next; left = one.left; within = joined {mid = next} {next = next} w (omega arith) one.within }
+
 -- with the lexeme behind it
 pub past : {low j : ℕ} {kind : TokenKind} {bytes : List ℕ} {to : List Lexeme} {xs : List Breach} → Spans low (lexeme kind bytes j ∷ to) xs → Spans low to xs
 past {j} one = record { next = j + 1; left = one.left.1; within = higher one.within (omega (arith, one.left.0)) }
@@ -84,6 +88,10 @@ pub names_lower : {low mid high : ℕ} {ns : List Name} → low ≤ mid → Name
 names_lower l (no_name m) = no_name (omega (arith, l, m))
 names_lower l (name m w) = name (omega (arith, l, m)) w
 
+names_higher : {low mid high : ℕ} {ns : List Name} → NamesWithin low mid ns → mid ≤ high → NamesWithin low high ns
+names_higher (no_name l) h = no_name (omega (arith, l, h))
+names_higher (name l w) h = name l (names_higher w h)
+
 -- names that are read from this number on
 pub record NamesLeft (low : ℕ) (to : List Lexeme) (ns : List Name) : Type 0 where
   pub next : ℕ
@@ -95,6 +103,10 @@ names_left low (last_name {at} {k = j}) h = record { next = j + 1; left = h.1.1;
 names_left low (more_names {at} {k = j} p) h =
     let rest = names_left (j + 1) p h.1.1 in
     record { next = rest.next; left = rest.left; within = name h.0 (names_lower (omega (arith, h.1.0)) rest.within) }
+
+-- with the lexeme behind them
+pub names_past : {low j : ℕ} {kind : TokenKind} {bytes : List ℕ} {to : List Lexeme} {ns : List Name} → NamesLeft low (lexeme kind bytes j ∷ to) ns → NamesLeft low to ns
+names_past {j} one = record { next = j + 1; left = one.left.1; within = names_higher one.within (omega (arith, one.left.0)) }
 
 -- the breaches of names one behind the other
 pub new_types_within : (names : List (List ℕ × Meaning)) (i : ℕ) {low high : ℕ} {ns : List Name} → NamesWithin low high ns → Within low high (new_types names i ns)

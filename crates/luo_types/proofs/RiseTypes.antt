@@ -21,7 +21,7 @@ use Rattle.luo_value_types.specs.Meanings.{meaning}
 use Rattle.luo_types.specs.Definitions.{Definition}
 use Rattle.luo_types.specs.TypeBreaches.{kind_breaches, is_at_most, low_in, high_in, is_low, bound_breaches, expr_breaches, exprs_breaches, first_circle, circle_breach, circle_breaches}
 use Rattle.luo_types.proofs.RiseLists.{At, none, single, at_if, at_or, Within, nothing, borders, joined, placed, within_or}
-use Rattle.luo_types.proofs.RiseNames.{From, Spans, behind, past, alone, from_lower, led_by, type_use_at}
+use Rattle.luo_types.proofs.RiseNames.{From, Spans, behind, past, alone, from_lower, follows, led_by, type_use_at}
 
 kind_breaches_at : (u : Universe) (kind : Kind) (at : ℕ) → At at (kind_breaches u kind at)
 kind_breaches_at Unlabelled Sequence at = none
@@ -78,10 +78,6 @@ coll_spans : (u : Universe) (names : List (List ℕ × Meaning)) (kind : Kind) (
 unfolding Rattle.luo_syntax.specs.declared.types.TypeExpr.TheBlock.hidden-the_row-TypeExpr-1 hidden
 coll_spans u names kind e bound at one = one
 
--- the end of a collection directly behind its component
-with_end : {low : ℕ} {to : List Lexeme} {xs ys : List Breach} (next : ℕ) → Within low next xs → Spans next to ys → Spans low to (xs ++ ys)
-with_end next w one = record { next = one.next; left = one.left; within = joined {mid = next} {next = next} w (omega arith) one.within }
-
 mutual
   pub expr_spans : (u : Universe) (names : List (List ℕ × Meaning)) (low : ℕ) {from to : List Lexeme} {t : TypeExpr} → IsExpr from to t → From low from → Spans low to (expr_breaches u names t)
   expr_spans u names low (one_term p) h = term_spans u names low p h
@@ -106,7 +102,7 @@ mutual
       subst (Spans low _) (sym (product_breaches u names (t ∷ ts) at)) (from_lower (omega (arith, h.0, h.1.0)) (behind one (factors_spans u names (l + 1) ps one.left.1)))
   term_spans u names low (collection {of} {at} {k = j} {t} {bound} w p x) h =
       let one = led_by (kind_breaches_at u of at) h.0 (from_lower (omega (arith, h.1.0)) (alone (expr_spans u names (j + 1) p h.1.1))) in
-      coll_spans u names of t bound at (with_end one.next one.within (ends_spans of one.next x one.left))
+      coll_spans u names of t bound at (follows one.next one.within (ends_spans of one.next x one.left))
 
   factors_spans : (u : Universe) (names : List (List ℕ × Meaning)) (low : ℕ) {from to : List Lexeme} {ts : List TypeExpr} → AreFactors from to ts → From low from → Spans low to (parts_breaches u names ts)
   factors_spans u names low (last_factor p) h = alone (past (expr_spans u names low p h))
