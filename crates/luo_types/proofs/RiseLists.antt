@@ -1,5 +1,5 @@
 -- Lists of breaches at rising tokens between two borders.
-use Rattle.std.proofs.Common.{◌≡◌, ℕ, ◌+◌, ◌<◌, ◌≤◌, List, [], ◌∷◌, ◌++◌, sym, subst, ⊎_elim, Bool, true, false, arith}
+use Rattle.std.proofs.Common.{◌≡◌, ℕ, ◌+◌, ◌<◌, ◌≤◌, List, [], ◌∷◌, ◌++◌, inl, inr, ap, sym, ◌∙◌, subst, ⊎_elim, Bool, true, false, arith}
 use Rattle.std.specs.Prelude.{if◌then◌else◌}
 use Rattle.luo_finite.specs.Listing.{In}
 use Rattle.luo_value_types.specs.declared.rule.Breach.{Breach}
@@ -69,3 +69,16 @@ above {low} (first {b = c} l w) b i = ⊎_elim (λ e. subst (λ z. low ≤ z.tok
 pub rises : {low high : ℕ} {bs : List Breach} → Within low high bs → Rises bs
 rises (nothing l) = tt
 rises (first {b} l w) = ((λ later i. let m = above w later i in omega (arith, m)), rises w)
+
+-- the first of a list that rises has the least token
+pub first_is_least : (one other : Breach) (bs : List Breach) → Rises (one ∷ bs) → In other (one ∷ bs) → one.token ≤ other.token
+first_is_least one other bs r (inl e) = omega (arith, ap (λ (z : Breach). z.token) e)
+first_is_least one other bs r (inr i) = let m = r.0 other i in omega (arith, m)
+
+-- a list that rises has at most one breach at a token
+pub single_at : (bs : List Breach) → Rises bs → (one other : Breach) → In one bs → In other bs → one.token ≡ other.token → one ≡ other
+single_at [] r one other i j e = absurd i
+single_at (b ∷ bs) r one other (inl f) (inl g) e = f ∙ sym g
+single_at (b ∷ bs) r one other (inl f) (inr j) e = let m = r.0 other j in absurd (omega (arith, m, e, ap (λ (z : Breach). z.token) f))
+single_at (b ∷ bs) r one other (inr i) (inl g) e = let m = r.0 one i in absurd (omega (arith, m, e, ap (λ (z : Breach). z.token) g))
+single_at (b ∷ bs) r one other (inr i) (inr j) e = single_at bs r.1 one other i j e

@@ -1,5 +1,5 @@
 -- Lexemes at rising numbers, and the breaches of names one behind the other.
-use Rattle.std.proofs.Common.{◌≡◌, ℕ, suc, ◌+◌, ◌<◌, ◌≤◌, List, [], ◌∷◌, ◌++◌, map, refl, Bool, Option, Some, None, arith}
+use Rattle.std.proofs.Common.{ℕ, suc, ◌+◌, ◌<◌, ◌≤◌, List, [], ◌∷◌, ◌++◌, map, refl, Option, Some, None, arith}
 use Rattle.luo_scan.specs.declared.token.Token.{Token}
 use Rattle.luo_scan.specs.declared.token.Mark.{Mark}
 use Rattle.luo_scan.specs.declared.token.TokenKind.{TokenKind}
@@ -9,11 +9,10 @@ use Rattle.luo_syntax.specs.GrammarTypes.{AreNames, last_name, more_names}
 use Rattle.luo_value_types.specs.declared.names.Meaning.{Meaning}
 use Rattle.luo_value_types.specs.declared.names.Meaning.TheVariants.{Definition, Measure, Procedure}
 use Rattle.luo_value_types.specs.declared.rule.Breach.{Breach}
-use Rattle.luo_value_types.specs.Breaches.{broken_at}
 use Rattle.luo_value_types.specs.Meanings.{meaning, type_use, measure_use, procedure_use}
 use Rattle.luo_value_types.specs.Patterns.{is_among, repeated}
 use Rattle.luo_types.specs.TypeBreaches.{is_meaning, name_breaches, new_types, measures_breaches}
-use Rattle.luo_types.proofs.RiseLists.{At, none, single, at_if, Within, nothing, first, borders, lower, higher, joined, placed, led}
+use Rattle.luo_types.proofs.RiseLists.{At, none, single, at_if, Within, nothing, borders, lower, higher, joined, placed, led}
 
 -- lexemes at rising numbers, the first at this number or behind it
 abbrev pub From : ℕ → List Lexeme → Type 0

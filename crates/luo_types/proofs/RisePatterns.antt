@@ -1,5 +1,5 @@
 -- The breaches of patterns, of variables and of cases stand at rising tokens.
-use Rattle.std.proofs.Common.{◌≡◌, ℕ, ◌+◌, ◌<◌, ◌≤◌, List, [], ◌∷◌, ◌++◌, length, refl, Bool, true, false, Option, Some, None, nat_eq, arith}
+use Rattle.std.proofs.Common.{ℕ, ◌+◌, ◌<◌, ◌≤◌, List, [], ◌∷◌, length, refl, Bool, true, false, Option, Some, None, nat_eq, arith}
 use Rattle.std.specs.Prelude.{if◌then◌else◌}
 use Rattle.luo_model.specs.Scopes.{Stand}
 use Rattle.luo_scan.specs.declared.token.TokenKind.{TokenKind}

@@ -1,6 +1,7 @@
 -- The breaches of a source stand at rising tokens.
-use Rattle.std.proofs.Common.{◌≡◌, ℕ, suc, ◌+◌, ◌<◌, ◌≤◌, List, [], ◌∷◌, ◌++◌, length, refl, Option, Some, None, arith}
+use Rattle.std.proofs.Common.{◌≡◌, ℕ, suc, ◌+◌, ◌≤◌, List, [], ◌++◌, length, refl, subst, Option, Some, None, arith}
 use Rattle.std.specs.List.{flat_map}
+use Rattle.luo_finite.specs.Listing.{In}
 use Rattle.luo_model.specs.declared.program.Universe.{Universe}
 use Rattle.luo_model.specs.declared.program.Universe.TheVariants.{Unlabelled, Labelled}
 use Rattle.luo_scan.specs.Lexemes.{Lexeme}
@@ -22,10 +23,10 @@ use Rattle.luo_types.specs.Definitions.{Definition, definitions, names_of, value
 use Rattle.luo_types.specs.TypeBreaches.{type_breaches, types_breaches, measures_breaches}
 use Rattle.luo_types.specs.Nodes.{setting_of}
 use Rattle.luo_types.specs.Whole.{result_breaches, parameter, body_breaches, proc_breaches, procs_breaches, breaches}
-use Rattle.luo_types.specs.Checks.{IsSource}
+use Rattle.luo_types.specs.Checks.{IsSource, BreaksFirst}
 use Rattle.luo_types.specs.Rising.{Rises}
-use Rattle.luo_types.proofs.RiseLists.{At, none, single, Within, nothing, borders, lower, higher, joined, placed, led, within_or, rises}
-use Rattle.luo_types.proofs.RiseNames.{From, numbered, Spans, past, follows, led_by, alone, from_lower, NamesLeft, names_lower, names_left, names_past, new_types_within, measures_within, type_use_at, procedure_use_at, name_breaches_at}
+use Rattle.luo_types.proofs.RiseLists.{At, none, single, Within, nothing, borders, lower, higher, joined, placed, led, within_or, rises, first_is_least, single_at}
+use Rattle.luo_types.proofs.RiseNames.{From, numbered, Spans, past, follows, alone, from_lower, NamesLeft, names_lower, names_left, names_past, new_types_within, measures_within, type_use_at, procedure_use_at, name_breaches_at}
 use Rattle.luo_types.proofs.RiseTypes.{side_spans}
 use Rattle.luo_types.proofs.RisePatterns.{emptied}
 use Rattle.luo_types.proofs.RiseStatements.{block_spans}
@@ -64,7 +65,7 @@ proc_spans s f low (proc {text} {param} {type} {at} {param_at} {type_at} {n} {bo
     let name : Name = record { text = text; at = at } in
     let on : Name = record { text = type; at = type_at } in
     let def : ProcDef = record { name = name; param = record { text = param; at = param_at }; on = on; body = body } in
-    let typed = placed (type_use_at (meant s on) on) (omega (arith, h.1.1.0, h.1.1.1.0, h.1.1.1.1.0, h.1.1.1.1.1.0)) (omega (arith, h.1.1.1.1.1.1.0)) in
+    let typed = placed {low = at + 1} {high = n + 1} (type_use_at (meant s on) on) (omega (arith, h.1.1.0, h.1.1.1.0, h.1.1.1.1.0, h.1.1.1.1.1.0)) (omega (arith, h.1.1.1.1.1.1.0)) in
     follows (n + 1) (led (name_breaches_at s.names name (mean.Procedure f)) (omega (arith, h.0, h.1.0)) typed) (past (body_spans s def (type_node s on) (n + 1) q h.1.1.1.1.1.1.1))
 
 abbrev analysed : Setting → List Name → List Breach
@@ -134,6 +135,13 @@ program_rises low (labelled {l} {types} {measures} {procs} {names} p) h = source
 program_rises low (unlabelled {l} {types} {measures} {procs} {names} p) h = source_rises (record { universe = Unlabelled; types = types; measures = measures; procs = procs; analyses = names }) (l + 1) p h.1.1
 program_rises low (unlabelled_unsaid {types} {measures} {procs} {names} p) h = source_rises (record { universe = Unlabelled; types = types; measures = measures; procs = procs; analyses = names }) low p h
 
--- at one token at most one rule is broken, and the list is in the order of the text
+-- the breaches of a source are in the order of the text, each at a token of its own
 pub breaches_rise : (source : Source) → IsSource source → Rises (breaches source)
 breaches_rise source is = program_rises 0 is.derived (numbered 0 is.text is.tokens)
+
+pub first_breach_is_least : (source : Source) (one other : Breach) → IsSource source → BreaksFirst source one → In other (breaches source) → one.token ≤ other.token
+first_breach_is_least source one other is (rest, e) i =
+    first_is_least one other rest (subst Rises e (breaches_rise source is)) (subst (In other) e i)
+
+pub breaches_are_single : (source : Source) (one other : Breach) → IsSource source → In one (breaches source) → In other (breaches source) → one.token ≡ other.token → one ≡ other
+breaches_are_single source one other is i j e = single_at (breaches source) (breaches_rise source is) one other i j e

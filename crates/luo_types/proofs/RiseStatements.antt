@@ -16,9 +16,9 @@ use Rattle.luo_value_types.specs.declared.rule.Breach.{Breach}
 use Rattle.luo_value_types.specs.declared.setting.Setting.{Setting}
 use Rattle.luo_value_types.specs.declared.setting.Variable.{Variable}
 use Rattle.luo_value_types.specs.Settings.{meant, signature_meant, shape_at, found, case_stands}
-use Rattle.luo_value_types.specs.Patterns.{bound, arm_breaches, case_breaches}
+use Rattle.luo_value_types.specs.Patterns.{bound, arm_breaches}
 use Rattle.luo_types.specs.StatementBreaches.{count_arms, walked, walk_into, walk_breaches, stmt_breaches, stmts_breaches, arms_breaches}
-use Rattle.luo_types.proofs.RiseLists.{single, nothing, borders, placed, led}
+use Rattle.luo_types.proofs.RiseLists.{single, nothing, placed, led}
 use Rattle.luo_types.proofs.RiseNames.{From, Spans, behind, past, alone, from_lower, in_place, measure_use_at, procedure_use_at}
 use Rattle.luo_types.proofs.RisePatterns.{emptied, pattern_spans, arm_spans, argument_at, case_spans}
 

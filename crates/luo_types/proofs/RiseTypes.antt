@@ -1,5 +1,5 @@
 -- The breaches of a right side stand at rising tokens.
-use Rattle.std.proofs.Common.{◌≡◌, ℕ, ◌+◌, ◌<◌, ◌≤◌, List, [], ◌∷◌, ◌++◌, length, refl, sym, ap, ◌∙◌, subst, Option, Some, None, nat_le, arith}
+use Rattle.std.proofs.Common.{◌≡◌, ℕ, ◌+◌, ◌≤◌, List, [], ◌∷◌, ◌++◌, refl, sym, ap, ◌∙◌, subst, Option, Some, None, nat_le, arith}
 use Rattle.std.specs.List.{flat_map}
 use mathlib.Core.Former.{Count}
 use denote.Hole.Carrier.{hidden}
@@ -20,7 +20,7 @@ use Rattle.luo_value_types.specs.Breaches.{◌or_if_none◌}
 use Rattle.luo_value_types.specs.Meanings.{meaning}
 use Rattle.luo_types.specs.Definitions.{Definition}
 use Rattle.luo_types.specs.TypeBreaches.{kind_breaches, is_at_most, low_in, high_in, is_low, bound_breaches, expr_breaches, exprs_breaches, first_circle, circle_breach, circle_breaches}
-use Rattle.luo_types.proofs.RiseLists.{At, none, single, at_if, at_or, Within, nothing, borders, joined, placed, within_or}
+use Rattle.luo_types.proofs.RiseLists.{At, none, single, at_if, at_or, nothing, borders, placed, within_or}
 use Rattle.luo_types.proofs.RiseNames.{From, Spans, behind, past, alone, from_lower, follows, led_by, type_use_at}
 
 kind_breaches_at : (u : Universe) (kind : Kind) (at : ℕ) → At at (kind_breaches u kind at)

@@ -2,6 +2,7 @@
 #![tactic(auto)]
 
 mod error;
+pub mod laws;
 
 pub use error::{CheckError, CountLimit};
 pub use luo_value_types::Rule;
