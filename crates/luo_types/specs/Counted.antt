@@ -114,9 +114,10 @@ abbrev pub body_statements : ProcBody → ℕ
 body_statements (Statements stmts) = sum_by stmt_statements stmts
 body_statements (Value colon result value) = value_statements value
 
-abbrev pub greatest_by : (TypeDef → ℕ) → List TypeDef → ℕ
+-- the greatest number of the elements
+abbrev pub greatest_by : {A : Type 0} → (A → ℕ) → List A → ℕ
 greatest_by f [] = 0
-greatest_by f (d ∷ ds) = max (f d) (greatest_by f ds)
+greatest_by f (x ∷ xs) = max (f x) (greatest_by f xs)
 
 -- each name of a definition counts, with its copy of the right side
 abbrev pub definition_count : Source → ℕ

@@ -1,5 +1,14 @@
+pub mod Joins
+pub mod ValueForms
+pub mod CoreForms
+pub mod ValueRoom
 pub mod ListFacts
 pub mod NameLemmas
 pub mod SettingLemmas
 pub mod StopLemmas
 pub mod PatternLemmas
+pub mod BranchLemmas
+pub mod ValuesSoFar
+pub mod ArmsSoFar
+pub mod ValueSteps
+pub mod StatementLemmas

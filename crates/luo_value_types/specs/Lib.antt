@@ -6,3 +6,5 @@ pub mod Patterns
 pub mod ValueBreaches
 pub mod ValueCore
 pub mod Statements
+pub mod ValueMade
+pub mod ValueLists

@@ -9,6 +9,9 @@ mod setting;
 mod shared;
 mod stands;
 mod uses;
+mod value_leaves;
+mod value_statements;
+mod values;
 
 pub use names::{Meaning, Names};
 pub use patterns::{Opened, has_factors, pattern};
@@ -17,3 +20,5 @@ pub use scope::{argument, find, variable};
 pub use setting::{Setting, Signature, Variable};
 pub use stands::{Stand, case_variable, stand_at, stand_count};
 pub use uses::{breach, breach_at, use_measure, use_procedure, use_type};
+pub use value_statements::count_statements;
+pub use values::value;

@@ -70,3 +70,11 @@ impl<T: Drop> From<AllocFailed<T>> for Stop {
         Stop::NoMemory
     }
 }
+
+impl From<luo_num::NoMemory> for Stop {
+    ghost from_gives = { λ _ e. e ≡ NoMemory };
+
+    fn from(_: luo_num::NoMemory) -> Self {
+        Stop::NoMemory
+    }
+}

@@ -1,0 +1,175 @@
+-- How single statements are checked and added.
+use Rattle.std.proofs.Common.{◌≡◌, ℕ, zero, suc, ◌+◌, ◌*◌, ◌<◌, ◌≤◌, List, [], ◌∷◌, ◌++◌, Option, Some, None, true, length, nat_eq, sum_by, refl, sym, ◌∙◌, ap, subst, add-zero, add_assoc, arith}
+use Rattle.std.proofs.lemmas.Bool.{eqb-true}
+use mathlib.Core.Former.{Count}
+use Rattle.luo_model.specs.declared.body.Arm.{Arm}
+use Rattle.luo_model.specs.declared.body.Body.{Body}
+use Rattle.luo_model.specs.declared.body.Item.{Item, Row_of-Item, end_of-Item, more_of-Item, Forall', items-the_row-Item, items_hidden-the_row-Item-0}
+use Rattle.luo_model.specs.declared.body.Item as done
+use Rattle.luo_model.specs.declared.program.Shape.{Shape}
+use Rattle.luo_model.specs.Program as plain
+use Rattle.luo_model.specs.Scopes.{stands, join_items}
+use Rattle.luo_model.specs.View.{body_of, item_of, item_list, items_of}
+use Rattle.luo_syntax.specs.declared.names.Name.{Name}
+use Rattle.luo_syntax.specs.declared.statements.SourceArm.{SourceArm}
+use Rattle.luo_syntax.specs.declared.statements.Stmt.{Stmt, Skip, Charge, Call, Block, Case, Forall}
+use Rattle.luo_value_types.specs.declared.names.Meaning.TheVariants.{Procedure}
+use Rattle.luo_value_types.specs.declared.names.Meaning.{Meaning}
+use Rattle.luo_value_types.specs.declared.rule.Breach.{Breach}
+use Rattle.luo_value_types.specs.declared.rule.Stop.{Stop}
+use Rattle.luo_value_types.specs.declared.setting.Setting.{Setting}
+use Rattle.luo_value_types.specs.declared.setting.Variable.{Variable}
+use Rattle.luo_value_types.specs.Breaches.{StopsAt}
+use Rattle.luo_value_types.specs.Meanings.{measure_use, procedure_use, value_of, procedure_of}
+use Rattle.luo_value_types.specs.Patterns.{case_breaches}
+use Rattle.luo_value_types.specs.Settings.{meant, signature_meant, shape_at, found, place_of, argument_breaches, case_stands}
+use Rattle.luo_value_types.specs.Statements.{HasRoom}
+use Rattle.luo_value_types.specs.ValueLists.{arm_list}
+use Rattle.luo_value_types.specs.ValueMade.{extended}
+use Rattle.luo_value_types.proofs.CoreForms.{case_item}
+use Rattle.luo_value_types.proofs.Joins.{items_none, item_list_append, extended_none, extended_empty}
+use Rattle.luo_value_types.proofs.StopLemmas.{none-append, case-arms}
+use Rattle.luo_types.specs.Counted.{stmt_statements}
+use Rattle.luo_types.specs.StatementBreaches.{walked, walk_breaches, stmt_breaches}
+use Rattle.luo_types.specs.StatementCore.{stmt_sites}
+use Rattle.luo_types.specs.StatementLists.{list_breaches, stmt_does, list_does, arm_list_breaches, arm_sites, arm_statements, arm_list_core}
+use Rattle.luo_types.specs.StatementsMade.{IsStmtAdded, AreStmtsAdded, AreArmsMade, IsWalked, HasItem}
+use Rattle.luo_types.proofs.StatementRoom.{sites-within, sum_sites-within, room-inside}
+use Rattle.luo_types.proofs.StatementForms.{block-breaches, block-does, block-sites, block-statements, case-breaches, case-does, case-sites, case-statements, walk_scope, walk-breaches, walk-does, walk-sites, walk-statements}
+
+item_row : (k : _) (row : Row_of-Item k) → items_of row ≡ item_list (items-the_row-Item k row)
+item_row k end_of-Item = refl
+item_row k (more_of-Item i rest) = ap (plain.item (item_of i)) (item_row _ rest)
+
+abbrev items_in : Item → (k : Count) × Row_of-Item k
+items_in (Forall' _ _ _ row _ _) = (_, row)
+items_in _ = (_, end_of-Item)
+
+pub walk-item : (var : ℕ) (body : Body) (body_site site : ℕ) → item_of (done.Forall var body body_site site) ≡ plain.Forall var (body_of body) body_site site
+walk-item var body body_site site =
+    let row = items_in (done.Forall var body body_site site) in
+    ap (λ is. plain.Forall var (plain.Does body.own is) body_site site) (item_row row.0 row.1 ∙ ap item_list (items_hidden-the_row-Item-0 body.items))
+
+pub has-item : (own : ℕ) (old items : List Item) (item : Item) → items ≡ old ++ item ∷ [] → HasItem (item_of item) (record { own = own; items = old }) (record { own = own; items = items })
+has-item own old items item e =
+    ap (λ is. plain.Does own (item_list is)) e
+    ∙ ap (plain.Does own) (item_list_append old (item ∷ []))
+    ∙ ap (λ n. plain.Does n (join_items (item_list old) (plain.item (item_of item) plain.no_items))) (sym (add-zero own))
+
+module _ (s : Setting) (scope : List Variable) (old new : Body) (first : ℕ) where
+  pub skip-added : IsStmtAdded s scope Skip old old first first
+  skip-added = record { unbroken = refl; behind = sym (extended_none (body_of old)); numbered = sym (add-zero first) }
+
+  pub charge-added : (measure : Name) → measure_use (meant s measure) measure ≡ [] → new ≡ record { own = old.own + value_of (meant s measure); items = old.items } → IsStmtAdded s scope (Charge measure) old new first first
+  charge-added measure e same = record {
+    unbroken = e;
+    behind = ap body_of same ∙ ap (plain.Does (old.own + value_of (meant s measure))) (sym (items_none (item_list old.items)));
+    numbered = sym (add-zero first)
+  }
+
+  pub call-added : (callee arg : Name) (f place : ℕ) → procedure_use (meant s callee) callee ≡ [] → meant s callee ≡ Some (Procedure f)
+      → argument_breaches (found scope arg) (signature_meant s (meant s callee)).on arg callee ≡ [] → place ≡ place_of (found scope arg)
+      → HasItem (plain.Call place f first) old new → IsStmtAdded s scope (Call callee arg) old new first (first + 1)
+  call-added callee arg f place u m a p has = record {
+    unbroken = none-append _ _ u a;
+    behind = has ∙ ap (λ n. extended (body_of old) (plain.Does 0 (plain.item (plain.Call n f first) plain.no_items))) p
+      ∙ ap (λ n. extended (body_of old) (plain.Does 0 (plain.item (plain.Call (place_of (found scope arg)) n first) plain.no_items))) (sym (ap procedure_of m));
+    numbered = refl
+  }
+
+  inner_breaches : (var : Name) (arms : List SourceArm) (v : ℕ × ℕ) → found scope var ≡ Some v → nat_eq (length arms) (length (case_stands s (found scope var))) ≡ true
+      → stmt_breaches s scope (Case var arms) ≡ arm_list_breaches s (stands v.1 (shape_at s v.1)) var arms
+  inner_breaches var arms v e f =
+      case-breaches s scope var arms ∙ case-arms s (found scope var) v var (length arms) _ e f ∙ ap (λ o. arm_list_breaches s (case_stands s o) var arms) e
+
+  pub case-added : (var : Name) (arms : List SourceArm) (v : ℕ × ℕ) (made : List Arm) (mid : ℕ) → found scope var ≡ Some v → nat_eq (length arms) (length (case_stands s (found scope var))) ≡ true
+      → AreArmsMade s (stands v.1 (shape_at s v.1)) var arms made first mid → (site next : ℕ) → site ≡ mid → next ≡ mid + 1 → HasItem (item_of (done.Case v.0 made site)) old new → IsStmtAdded s scope (Case var arms) old new first next
+  case-added var arms v made mid e f are site next here left has =
+      let core = arm_list_core s (stands v.1 (shape_at s v.1)) first arms in
+      record {
+        unbroken = inner_breaches var arms v e f ∙ are.unbroken;
+        behind =
+          has
+          ∙ ap (λ n. extended (body_of old) (plain.Does 0 (plain.item (item_of (done.Case v.0 made n)) plain.no_items))) here
+          ∙ ap (λ i. extended (body_of old) (plain.Does 0 (plain.item i plain.no_items)))
+          (case_item v.0 made mid ∙ ap (λ l. plain.Case v.0 l mid) are.formed ∙ ap (plain.Case v.0 core) are.numbered
+            ∙ ap (λ o. plain.Case (place_of o) (arm_list_core s (case_stands s o) first arms) (first + sum_by arm_sites arms)) (sym e))
+          ∙ ap (extended (body_of old)) (sym (case-does s scope first var arms));
+        numbered = omega (arith, left, are.numbered, case-sites var arms)
+      }
+
+  pub case-stops : (var : Name) (arms : List SourceArm) (v : ℕ × ℕ) (at : Stop) → found scope var ≡ Some v → nat_eq (length arms) (length (case_stands s (found scope var))) ≡ true
+      → StopsAt (arm_list_breaches s (stands v.1 (shape_at s v.1)) var arms) at → StopsAt (stmt_breaches s scope (Case var arms)) at
+  case-stops var arms v at e f h = subst (λ bs. StopsAt bs at) (sym (inner_breaches var arms v e f)) h
+
+  pub walk-added : (var source : Name) (inner : Stmt) (w : ℕ × ℕ) (empty body : Body) (mid : ℕ) → IsWalked s (found scope source) source w → body_of empty ≡ plain.Does 0 plain.no_items
+      → IsStmtAdded s (record { name = var.text; node = w.1 } ∷ []) inner empty body first mid
+      → (body_site site next : ℕ) → body_site ≡ mid → site ≡ mid + 1 → next ≡ mid + 2 → HasItem (item_of (done.Forall w.0 body body_site site)) old new → IsStmtAdded s scope (Forall var source inner) old new first next
+  walk-added var source inner w empty body mid is none added body_site site next here there left has =
+      let inside = walk_scope s scope var source in
+      let same : record { name = var.text; node = w.1 } ∷ [] ≡ inside = ap (λ n. record { name = var.text; node = n } ∷ []) is.node in
+      let added' = subst (λ sc. IsStmtAdded s sc inner empty body first mid) same added in
+      let does : body_of body ≡ stmt_does s inside first inner = added'.behind ∙ ap (λ b. extended b (stmt_does s inside first inner)) none ∙ extended_empty _ in
+      record {
+        unbroken = walk-breaches s scope var source inner ∙ is.into _ ∙ added'.unbroken;
+        behind =
+          has
+          ∙ ap (λ n. extended (body_of old) (plain.Does 0 (plain.item (item_of (done.Forall w.0 body n site)) plain.no_items))) here
+          ∙ ap (λ n. extended (body_of old) (plain.Does 0 (plain.item (item_of (done.Forall w.0 body mid n)) plain.no_items))) there
+          ∙ ap (λ i. extended (body_of old) (plain.Does 0 (plain.item i plain.no_items)))
+          (walk-item w.0 body mid (mid + 1) ∙ ap (λ b. plain.Forall w.0 b mid (mid + 1)) does ∙ ap (λ n. plain.Forall w.0 (stmt_does s inside first inner) n (n + 1)) added'.numbered
+            ∙ ap (λ n. plain.Forall n (stmt_does s inside first inner) (first + stmt_sites inner) (first + stmt_sites inner + 1)) is.place)
+          ∙ ap (extended (body_of old)) (sym (walk-does s scope first var source inner));
+        numbered = omega (arith, left, added'.numbered, walk-sites var source inner)
+      }
+
+  pub walk-stops : (var source : Name) (inner : Stmt) (w : ℕ × ℕ) (at : Stop) → IsWalked s (found scope source) source w → StopsAt (stmt_breaches s (record { name = var.text; node = w.1 } ∷ []) inner) at
+      → StopsAt (stmt_breaches s scope (Forall var source inner)) at
+  walk-stops var source inner w at is h =
+      let inside = walk_scope s scope var source in
+      let same : record { name = var.text; node = w.1 } ∷ [] ≡ inside = ap (λ n. record { name = var.text; node = n } ∷ []) is.node in
+      subst (λ bs. StopsAt bs at) (sym (walk-breaches s scope var source inner ∙ is.into _)) (subst (λ sc. StopsAt (stmt_breaches s sc inner) at) same h)
+
+  pub block-added : (stmts : List Stmt) (next : ℕ) → AreStmtsAdded s scope stmts old new first next → IsStmtAdded s scope (Block stmts) old new first next
+  block-added stmts next are = record {
+    unbroken = block-breaches s scope stmts ∙ are.unbroken;
+    behind = are.behind ∙ ap (extended (body_of old)) (sym (block-does s scope first stmts));
+    numbered = are.numbered ∙ ap (λ n. first + n) (sym (block-sites stmts))
+  }
+
+pub block-stops : (s : Setting) (scope : List Variable) (stmts : List Stmt) (at : Stop) → StopsAt (list_breaches s scope stmts) at → StopsAt (stmt_breaches s scope (Block stmts)) at
+block-stops s scope stmts at h = subst (λ bs. StopsAt bs at) (sym (block-breaches s scope stmts)) h
+
+pub block-room : (stmts items : List Stmt) (stmt : Stmt) (own next : ℕ) → stmt ≡ Block stmts → items ≡ stmts → HasRoom (stmt_statements stmt) own next → HasRoom (sum_by stmt_statements items) own next
+block-room stmts items stmt own next e f room = subst (λ n. HasRoom n own next) (ap stmt_statements e ∙ block-statements stmts ∙ ap (sum_by stmt_statements) (sym f)) room
+
+pub case-room : (var : Name) (arms : List SourceArm) (own next : ℕ) → HasRoom (stmt_statements (Case var arms)) own next → HasRoom (sum_by arm_statements arms) 0 next
+case-room var arms own next room = room-inside _ own next (subst (λ n. HasRoom n own next) (case-statements var arms) room)
+
+pub walk-room : (var source : Name) (inner : Stmt) (own next : ℕ) → HasRoom (stmt_statements (Forall var source inner)) own next → HasRoom (stmt_statements inner) 0 next
+walk-room var source inner own next room = room-inside _ own next (subst (λ n. HasRoom n own next) (walk-statements var source inner) room)
+
+-- sites are within their limit behind the arms of a case and the body of a walk
+pub case-site : (var : Name) (arms : List SourceArm) (own next after : ℕ) → HasRoom (stmt_statements (Case var arms)) own next → after ≡ next + sum_by arm_sites arms → after < 8589934592
+case-site var arms own next after room e = omega (arith, room.sites, case-statements var arms, sum_sites-within arms, e)
+
+pub walk-site : (var source : Name) (inner : Stmt) (own next after : ℕ) → HasRoom (stmt_statements (Forall var source inner)) own next → after ≡ next + stmt_sites inner → after + 1 < 8589934592
+walk-site var source inner own next after room e = omega (arith, room.sites, walk-statements var source inner, sites-within inner, e)
+
+-- a case has an arm for each thing to stand for
+pub case-even : (s : Setting) (scope : List Variable) (var : Name) (count : ℕ) (v : ℕ × ℕ) → found scope var ≡ Some v → nat_eq count (length (case_stands s (found scope var))) ≡ true → count ≡ length (stands v.1 (shape_at s v.1))
+case-even s scope var count v e f = eqb-true count _ f ∙ ap (λ o. length (case_stands s o)) e
+
+-- the statement at hand is this one
+pub stmt-is : (s : Setting) (scope : List Variable) (stmt one : Stmt) (old new body : Body) (first next after : ℕ) → stmt ≡ one → body ≡ new → after ≡ next → IsStmtAdded s scope one old new first next → IsStmtAdded s scope stmt old body first after
+stmt-is s scope stmt one old new body first next after e f g added =
+    subst (λ z. IsStmtAdded s scope z old body first after) (sym e) (subst (λ z. IsStmtAdded s scope one old z first after) (sym f) (subst (λ z. IsStmtAdded s scope one old new first z) (sym g) added))
+
+-- a case stops at its variable
+pub case-variable_stops : (s : Setting) (scope : List Variable) (var : Name) (arms : List SourceArm) (count : ℕ) (at : Stop) → count ≡ length arms → ((inner : List Breach) → StopsAt (case_breaches s (found scope var) var count inner) at)
+    → StopsAt (stmt_breaches s scope (Case var arms)) at
+case-variable_stops s scope var arms count at e h = subst (λ bs. StopsAt bs at) (ap (λ n. case_breaches s (found scope var) var n (arm_list_breaches s (case_stands s (found scope var)) var arms)) e ∙ sym (case-breaches s scope var arms)) (h (arm_list_breaches s (case_stands s (found scope var)) var arms))
+
+-- a walk stops at its variable
+pub walk-variable_stops : (s : Setting) (scope : List Variable) (var source : Name) (inner : Stmt) (at : Stop) → ((inside : List Breach) → StopsAt (walk_breaches s (found scope source) source inside) at) → StopsAt (stmt_breaches s scope (Forall var source inner)) at
+walk-variable_stops s scope var source inner at h = subst (λ bs. StopsAt bs at) (sym (walk-breaches s scope var source inner)) (h _)

@@ -1,0 +1,14 @@
+use Rattle.std.proofs.Common.{drop}
+use Rattle.luo_model.specs.Scopes.{stands}
+use Rattle.luo_value_types.specs.Settings.{shape_at}
+use Rattle.luo_types.proofs.ArmsSoFar.{ArmsSoFar}
+use Rattle.luo_types.proofs.StatementsSoFar.{StmtsSoFar}
+use Rattle.luo_types.proofs.statements.+statements.Given as goal
+
+abbrev pub invariant-stmts-loop-one : goal.invariant-stmts-loop-one
+invariant-stmts-loop-one l = StmtsSoFar l.setting l.scope l.stmts (drop l.one-index l.stmts) l.initial.body l.body l.initial.next l.next
+
+abbrev pub invariant-arms-loop-place : goal.invariant-arms-loop-place
+invariant-arms-loop-place l =
+    let all = stands l.node (shape_at l.setting l.node) in
+    ArmsSoFar l.setting all (drop l.place all) l.var l.arms (drop l.place l.arms) l.made l.initial.next l.next

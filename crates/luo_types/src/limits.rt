@@ -1,0 +1,95 @@
+// The limits that a source passes.
+ghost use Rattle.std.specs.Prelude.{◌≡◌, ◌*◌, ◌<◌, length, sum_by, IfSome, IfNone};
+ghost use Rattle.luo_num.specs.Mark.{capped};
+ghost use Rattle.luo_types.specs.Counted.{own_nodes, own_multisets, most_parts, greatest_bound, greatest_by, definition_count};
+ghost use Rattle.luo_types.specs.Checks.{PassesFirst, IsWithinLimits};
+
+use crate::counts::{TypeCounts, count_expr};
+use crate::error::CountLimit;
+use crate::statement_counts::count_statements;
+use luo_num::{marked_add, marked_mul};
+use luo_syntax::{Source, TypeDef};
+
+const DEFINITIONS: u128 = 64;
+const NODES: u128 = 128;
+const PARTS: usize = 64;
+const BOUNDS: u128 = 100;
+const MULTISETS: u128 = 32;
+const PROCEDURES: usize = 64;
+const STATEMENTS: u128 = 1024;
+const ANALYSES: usize = 16;
+
+// Counts in a definition, with a copy of the right side for each name.
+fn count_type(def: &TypeDef) -> TypeCounts
+    ensures nodes { result.nodes ≡ capped (length def.now.names * own_nodes def.now.body) }
+    ensures multisets { result.multisets ≡ capped (length def.now.names * own_multisets def.now.body) }
+    ensures parts { result.parts ≡ most_parts def.now.body }
+    ensures bound { result.bound ≡ greatest_bound def.now.body }
+{
+    let names = def.names.len() as u128;
+    let right = count_expr(&def.body);
+    TypeCounts {
+        nodes: marked_mul(names, right.nodes),
+        multisets: marked_mul(names, right.multisets),
+        ..right
+    }
+}
+
+// Counts in definitions.
+fn count_types(types: &[TypeDef]) -> TypeCounts
+    ensures nodes { result.nodes ≡ capped (sum_by (λ d. length d.names * own_nodes d.body) types.now) }
+    ensures multisets { result.multisets ≡ capped (sum_by (λ d. length d.names * own_multisets d.body) types.now) }
+    ensures parts { result.parts ≡ greatest_by (λ d. most_parts d.body) types.now }
+    ensures bound { result.bound ≡ greatest_by (λ d. greatest_bound d.body) types.now }
+{
+    let mut all = TypeCounts::NOTHING;
+    for def in types {
+        all = all.beside(count_type(def));
+    }
+    all
+}
+
+// The marked number of names that are defined.
+fn count_names(types: &[TypeDef]) -> u128
+    ensures { result ≡ capped (sum_by (λ d. length d.names) types.now) }
+{
+    let mut total = 0;
+    for def in types {
+        total = marked_add(total, def.names.len() as u128);
+    }
+    total
+}
+
+/// The first limit that a source passes, in the order of `CountLimit`, if any. Walks are not counted here.
+pub(crate) fn passed_limit(source: &Source) -> Option<CountLimit>
+    ensures some { IfSome result (λ which. PassesFirst source.now which) }
+    ensures none { IfNone result (IsWithinLimits source.now) }
+{
+    let types = source.types.as_slice();
+    if count_names(types) > DEFINITIONS {
+        return Some(CountLimit::Definitions);
+    }
+    let counts = count_types(types);
+    if counts.nodes > NODES {
+        return Some(CountLimit::Nodes);
+    }
+    if counts.parts > PARTS {
+        return Some(CountLimit::Parts);
+    }
+    if counts.bound > BOUNDS {
+        return Some(CountLimit::Bounds);
+    }
+    if counts.multisets > MULTISETS {
+        return Some(CountLimit::Multisets);
+    }
+    if source.procs.len() > PROCEDURES {
+        return Some(CountLimit::Procedures);
+    }
+    if count_statements(source.procs.as_slice()) > STATEMENTS {
+        return Some(CountLimit::Statements);
+    }
+    if source.analyses.len() > ANALYSES {
+        return Some(CountLimit::Analyses);
+    }
+    None
+}

@@ -1,0 +1,76 @@
+// Where names lead from definition to definition.
+ghost use Rattle.std.specs.Prelude.{◌≡◌, ◌+◌, ◌<◌, ◌≤◌, length, sum_by, suc};
+ghost use Rattle.luo_types.specs.Counted.{own_nodes};
+ghost use Rattle.luo_types.specs.Definitions.{definition_meant, named_by, next, first_node, node_of};
+
+use crate::counts::count_expr;
+use crate::definitions::Entry;
+use luo_syntax::TypeExpr;
+use luo_value_types::{Meaning, Names};
+
+/// The definition that a name means, by its meaning.
+pub(crate) fn definition_meant(meant: Option<Meaning>) -> Option<usize>
+    ensures { result ≡ definition_meant meant }
+{
+    match meant {
+        Some(Meaning::Definition(i)) => Some(i),
+        _ => None,
+    }
+}
+
+// The definition that a right side names, where it is a name.
+fn named_by(names: &Names, right: &TypeExpr) -> Option<usize>
+    ensures { result ≡ named_by names.now right.now }
+{
+    match right {
+        TypeExpr::Named(name) => definition_meant(names.meaning(name.text.as_slice())),
+        _ => None,
+    }
+}
+
+/// The definition that this definition names, where its right side is a name.
+pub(crate) fn next(names: &Names, defs: &[Entry], i: usize) -> Option<usize>
+    ensures { result ≡ next names.now defs.now i }
+{
+    match defs.get(i) {
+        Some(def) => named_by(names, def.right),
+        None => None,
+    }
+}
+
+// The number of nodes of definitions.
+fn total_nodes(defs: &[Entry]) -> usize
+    requires { sum_by (λ d. own_nodes d.right) defs.now ≤ 128 }
+    ensures { result ≡ sum_by (λ d. own_nodes d.right) defs.now }
+{
+    let mut total = 0;
+    for def in defs {
+        total += count_expr(def.right).nodes as usize;
+    }
+    total
+}
+
+// The first node of a definition.
+fn first_node(defs: &[Entry], i: usize) -> usize
+    requires { sum_by (λ d. own_nodes d.right) defs.now ≤ 128 }
+    ensures { result ≡ first_node defs.now i }
+{
+    total_nodes(&defs[..i.min(defs.len())])
+}
+
+/// The node of a definition, and 0 where names lead round and round.
+pub(crate) fn node_of(names: &Names, defs: &[Entry], i: usize) -> usize
+    requires { sum_by (λ d. own_nodes d.right) defs.now ≤ 128 }
+    ensures { result ≡ node_of names.now defs.now i }
+{
+    let mut at = i;
+    let mut steps = defs.len();
+    while let Some(named) = next(names, defs, at) {
+        if steps == 0 {
+            return 0;
+        }
+        steps -= 1;
+        at = named;
+    }
+    first_node(defs, at)
+}

@@ -1,0 +1,185 @@
+// The typing and core form of procedures and analyze lines.
+#![tactic(auto, using(luo_value_types::proofs::StopLemmas::stop_steps))]
+
+ghost use Rattle.std.specs.Prelude.{◌≡◌, [], ◌∷◌, ◌++◌, ◌+◌, ◌*◌, ◌≤◌, Some, map, flat_map, length, sum_by, IfOk, IfErr, OnOk};
+ghost use Rattle.luo_model.specs.Scopes.{value_body, value_sites};
+ghost use Rattle.luo_model.specs.View as model;
+ghost use Rattle.luo_value_types.specs.Breaches.{StopsAt};
+ghost use Rattle.luo_value_types.specs.Meanings.{type_use, procedure_use, procedure_of};
+ghost use Rattle.luo_value_types.specs.Settings.{meant, type_node, part_meant};
+ghost use Rattle.luo_value_types.specs.Statements.{value_statements, HasMeasuresWithin, HasFewBranches, HasRoom};
+ghost use Rattle.luo_value_types.specs.ValueBreaches.{value_breaches};
+ghost use Rattle.luo_value_types.specs.ValueCore.{value_core};
+ghost use Rattle.luo_types.specs.Counted.{stmt_statements, body_statements};
+ghost use Rattle.luo_types.specs.ProceduresMade.{IsDone, IsBodyMade, IsProcMade, AreProcsMade};
+ghost use Rattle.luo_types.specs.StatementCore.{stmt_sites};
+ghost use Rattle.luo_types.specs.StatementLists.{list_breaches, list_does};
+ghost use Rattle.luo_types.specs.Whole.{result_breaches, parameter, body_breaches, proc_breaches, procs_breaches};
+
+use crate::rules::check_name;
+use crate::statements::{no_body, one_variable, stmts, take_site};
+use luo_model::{Body, Made, Proc, Universe};
+use luo_num::Items;
+use luo_syntax::{Name, ProcBody, ProcDef, SourceValue, Stmt};
+use luo_value_types::{Meaning, Rule, Setting, Stop, breach, use_procedure, use_type, value};
+use std::alloc::Global;
+
+// A procedure with a result stands in an unlabelled program.
+fn check_universe(
+    alloc: Global,
+    universe: Universe,
+    colon: usize,
+    name: &Name,
+) -> Result<(), Stop>
+    ensures ok { OnOk result (result_breaches universe colon name.now ≡ []) }
+    ensures stops { IfErr result (λ e. StopsAt (result_breaches universe colon name.now) e) }
+{
+    match universe {
+        Universe::Unlabelled => Ok(()),
+        Universe::Labelled => Err(breach(alloc, Rule::Y14, colon, name.text.as_slice())),
+    }
+}
+
+// The body that runs statements, with a parameter of this node.
+fn run_body(
+    alloc: Global,
+    setting: &Setting,
+    param: &Name,
+    node: usize,
+    inner: &[Stmt],
+    next: &mut usize,
+) -> Result<Body, Stop>
+    requires room { HasRoom (sum_by stmt_statements inner.now) 0 next.old }
+    requires within { HasMeasuresWithin setting.now }
+    ensures ok { IfOk result (λ body. IsDone (list_breaches setting.now (parameter param.now node) inner.now) (list_does setting.now (parameter param.now node) next.old inner.now) (sum_by stmt_sites inner.now) body next.old next.new) }
+    ensures stops { IfErr result (λ e. StopsAt (list_breaches setting.now (parameter param.now node) inner.now) e) }
+{
+    let scope = one_variable(alloc, param, node)?;
+    let mut body = no_body(alloc);
+    stmts(alloc, setting, scope.as_slice(), inner, &mut body, next)?;
+    Ok(body)
+}
+
+// The body that makes a value of this node, with a parameter of this node, and the value.
+fn made_body(
+    alloc: Global,
+    setting: &Setting,
+    param: &Name,
+    node: usize,
+    expected: usize,
+    source: &SourceValue,
+    next: &mut usize,
+) -> Result<(Body, luo_model::Value), Stop>
+    requires room { HasRoom (value_statements source.now) 0 next.old }
+    requires within { HasMeasuresWithin setting.now }
+    requires branches { HasFewBranches setting.now }
+    ensures ok { IfOk result (λ made. IsDone (value_breaches setting.now (parameter param.now node) (Some expected) source.now) (value_body next.old (value_core setting.now (parameter param.now node) (Some expected) source.now))
+        (value_sites (value_core setting.now (parameter param.now node) (Some expected) source.now)) made.0 next.old next.new) }
+    ensures formed { IfOk result (λ made. model.value_of made.1 ≡ value_core setting.now (parameter param.now node) (Some expected) source.now) }
+    ensures stops { IfErr result (λ e. StopsAt (value_breaches setting.now (parameter param.now node) (Some expected) source.now) e) }
+{
+    let scope = one_variable(alloc, param, node)?;
+    let mut body = no_body(alloc);
+    let made = value(alloc, setting, scope.as_slice(), expected, source, &mut body, next)?;
+    Ok((body, made))
+}
+
+// What a procedure does, whose parameter has this node, and its result.
+fn body(
+    alloc: Global,
+    setting: &Setting,
+    proc: &ProcDef,
+    node: usize,
+    next: &mut usize,
+) -> Result<(Body, Option<Made>), Stop>
+    requires on { type_node setting.now proc.now.on ≡ Some node }
+    requires room { HasRoom (body_statements proc.now.body) 0 next.old }
+    requires within { HasMeasuresWithin setting.now }
+    requires branches { HasFewBranches setting.now }
+    ensures ok { IfOk result (λ made. IsBodyMade setting.now proc.now node made.0 made.1 next.old next.new) }
+    ensures stops { IfErr result (λ e. StopsAt (body_breaches setting.now proc.now (Some node) proc.now.body) e) }
+{
+    match &proc.body {
+        ProcBody::Statements(inner) => {
+            let body = run_body(alloc, setting, &proc.param, node, inner.as_slice(), next)?;
+            Ok((body, None))
+        }
+        ProcBody::Value { colon, result, value: source } => {
+            check_universe(alloc, setting.universe, *colon, &proc.name)?;
+            let meant = setting.meant(result);
+            use_type(alloc, meant, result)?;
+            let on = setting.part_meant(meant);
+            let (body, value) = made_body(alloc, setting, &proc.param, node, on.node, source, next)?;
+            Ok((body, Some(Made { on, value })))
+        }
+    }
+}
+
+// Checks procedure `number` and makes it, with the next sites.
+fn procedure(
+    alloc: Global,
+    setting: &Setting,
+    number: usize,
+    proc: &ProcDef,
+    next: &mut usize,
+) -> Result<Proc, Stop>
+    requires room { HasRoom (body_statements proc.now.body) 0 next.old }
+    requires within { HasMeasuresWithin setting.now }
+    requires branches { HasFewBranches setting.now }
+    ensures ok { IfOk result (λ made. IsProcMade setting.now number proc.now made next.old next.new) }
+    ensures stops { IfErr result (λ e. StopsAt (proc_breaches setting.now number proc.now) e) }
+{
+    check_name(alloc, &setting.names, &proc.name, Meaning::Procedure(number))?;
+    let meant = setting.meant(&proc.on);
+    use_type(alloc, meant, &proc.on)?;
+    let on = setting.part_meant(meant);
+    let (body, result) = body(alloc, setting, proc, on.node, next)?;
+    let name = Items::from_slice(alloc, proc.name.text.as_slice())?;
+    Ok(Proc {
+        name,
+        on,
+        body,
+        site: take_site(next),
+        result,
+    })
+}
+
+/// Checks procedures and makes them, with sites from 0. It stops at the first breach.
+pub(crate) fn procedures(
+    alloc: Global,
+    setting: &Setting,
+    procs: &[ProcDef],
+) -> Result<Items<Proc>, Stop>
+    requires statements { sum_by (λ p. body_statements p.body) procs.now ≤ 1024 }
+    requires few { length procs.now ≤ 64 }
+    requires within { HasMeasuresWithin setting.now }
+    requires branches { HasFewBranches setting.now }
+    ensures ok { IfOk result (λ made. AreProcsMade setting.now procs.now made) }
+    ensures stops { IfErr result (λ e. StopsAt (procs_breaches setting.now 0 procs.now) e) }
+{
+    let mut made = Items::new(alloc);
+    let mut next = 0;
+    for (number, proc) in procs.iter().enumerate() {
+        let done = procedure(alloc, setting, number, proc, &mut next)?;
+        made.push(done)?;
+    }
+    Ok(made)
+}
+
+/// The procedures that analyze lines name. It stops at the first breach.
+pub(crate) fn analyses(
+    alloc: Global,
+    setting: &Setting,
+    names: &[Name],
+) -> Result<Items<usize>, Stop>
+    ensures ok { OnOk result (flat_map (λ name. procedure_use (meant setting.now name) name) names.now ≡ []) }
+    ensures formed { IfOk result (λ made. made ≡ map (λ name. procedure_of (meant setting.now name)) names.now) }
+    ensures stops { IfErr result (λ e. StopsAt (flat_map (λ name. procedure_use (meant setting.now name) name) names.now) e) }
+{
+    let mut made = Items::new(alloc);
+    for name in names {
+        let procedure = use_procedure(alloc, setting.meant(name), name)?;
+        made.push(procedure)?;
+    }
+    Ok(made)
+}

@@ -1,0 +1,12 @@
+use Rattle.std.proofs.Common.{Some}
+use Rattle.luo_model.specs.Scopes.{stands}
+use Rattle.luo_value_types.specs.Settings.{shape_at}
+use Rattle.luo_value_types.proofs.ArmsSoFar.{ArmsSoFar}
+use Rattle.luo_value_types.proofs.ValuesSoFar.{PartsSoFar}
+use Rattle.luo_value_types.proofs.values.+values.Given as goal
+
+abbrev pub invariant-all_parts-loop-i : goal.invariant-all_parts-loop-i
+invariant-all_parts-loop-i l = PartsSoFar l.setting l.scope l.factors l.parts l.i l.made l.initial.body l.body l.initial.next l.next
+
+abbrev pub invariant-all_arms-loop-i : goal.invariant-all_arms-loop-i
+invariant-all_arms-loop-i l = ArmsSoFar l.setting (stands l.node (shape_at l.setting l.node)) (Some l.expected) l.var l.arms l.i l.values l.bodies l.initial.next l.next

@@ -1,0 +1,142 @@
+// Checks of single places of a value.
+ghost use Rattle.std.specs.Prelude.{◌≡◌, [], Some, false, length, decimal, IfOk, IfErr, OnOk, IfSome, IfNone};
+ghost use Rattle.luo_model.specs.declared.program.Shape.TheVariants.{Atom, Product};
+ghost use Rattle.luo_value_types.specs.Breaches.{◌or_if_none◌, broken, StopsAt};
+ghost use Rattle.luo_value_types.specs.Meanings.{procedure_use, procedure_of};
+ghost use Rattle.luo_value_types.specs.Settings.{meant, signature_meant, shape_at, found, place_of};
+ghost use Rattle.luo_value_types.specs.Patterns.{has_factors};
+ghost use Rattle.luo_value_types.specs.declared.rule.Rule.TheVariants.{Y15};
+ghost use Rattle.luo_value_types.specs.ValueBreaches.{given_breaches, result_breaches, charge_use, is_atom, branch_at, branch_of};
+ghost use Rattle.luo_value_types.specs.ValueCore.{charge_of};
+
+use crate::rule::{Rule, Stop};
+use crate::scope::variable;
+use crate::setting::{Setting, Variable};
+use crate::uses::{breach, breach_at, use_measure, use_procedure};
+use itoa::Buffer;
+use luo_model::{Part, Shape};
+use luo_syntax::Name;
+use std::alloc::Global;
+
+// The place of a variable that is handed on where this node is expected.
+pub(crate) fn given(
+    alloc: Global,
+    scope: &[Variable],
+    expected: usize,
+    name: &Name,
+) -> Result<usize, Stop>
+    ensures unbroken { OnOk result (given_breaches (found scope.now name.now) (Some expected) name.now ≡ []) }
+    ensures place { IfOk result (λ i. i ≡ place_of (found scope.now name.now)) }
+    ensures stops { IfErr result (λ s. StopsAt (given_breaches (found scope.now name.now) (Some expected) name.now) s) }
+{
+    let there = variable(alloc, scope, name)?;
+    if there.1 == expected {
+        Ok(there.0)
+    } else {
+        Err(breach_at(alloc, Rule::Y15, name))
+    }
+}
+
+// A callee's result, which there has to be, and of the node that is expected.
+fn check_result(
+    alloc: Global,
+    expected: usize,
+    made: Option<Option<usize>>,
+    callee: &Name,
+) -> Result<(), Stop>
+    ensures unbroken { OnOk result (result_breaches (Some expected) made callee.now ≡ []) }
+    ensures stops { IfErr result (λ s. StopsAt (result_breaches (Some expected) made callee.now) s) }
+{
+    match made {
+        None => Err(breach_at(alloc, Rule::Y15, callee)),
+        Some(Some(node)) if node != expected => Err(breach_at(alloc, Rule::Y15, callee)),
+        _ => Ok(()),
+    }
+}
+
+// The procedure that is called where this node is expected.
+pub(crate) fn callee_of(
+    alloc: Global,
+    setting: &Setting,
+    expected: usize,
+    callee: &Name,
+) -> Result<usize, Stop>
+    ensures unbroken { OnOk result ((procedure_use (meant setting.now callee.now) callee.now or_if_none result_breaches (Some expected) (signature_meant setting.now (meant setting.now callee.now)).result callee.now) ≡ []) }
+    ensures procedure { IfOk result (λ f. f ≡ procedure_of (meant setting.now callee.now)) }
+    ensures stops { IfErr result (λ s. StopsAt (procedure_use (meant setting.now callee.now) callee.now or_if_none result_breaches (Some expected) (signature_meant setting.now (meant setting.now callee.now)).result callee.now) s) }
+{
+    let meant = setting.meant(callee);
+    let procedure = use_procedure(alloc, meant, callee)?;
+    check_result(alloc, expected, setting.signature_meant(meant).result, callee)?;
+    Ok(procedure)
+}
+
+// The value of the measure that is charged at an atom, and 0 where none is.
+pub(crate) fn charge_at(
+    alloc: Global,
+    setting: &Setting,
+    charge: &Option<Name>,
+) -> Result<u128, Stop>
+    ensures unbroken { OnOk result (charge_use setting.now charge.now ≡ []) }
+    ensures value { IfOk result (λ own. own ≡ charge_of setting.now charge.now) }
+    ensures stops { IfErr result (λ s. StopsAt (charge_use setting.now charge.now) s) }
+{
+    match charge {
+        None => Ok(0),
+        Some(measure) => use_measure(alloc, setting.meant(measure), measure),
+    }
+}
+
+// The weight of the atom that a node is, if it is one.
+pub(crate) fn weight_at(setting: &Setting, node: usize) -> Option<u32>
+    ensures atom { IfSome result (λ w. shape_at setting.now node ≡ Atom w) }
+    ensures other { IfNone result (is_atom (shape_at setting.now node) ≡ false) }
+{
+    match setting.shape(node) {
+        Some(Shape::Atom { weight }) => Some(*weight),
+        _ => None,
+    }
+}
+
+// The factors of a node, if it is a product of so many.
+pub(crate) fn factors_at(setting: &Setting, node: usize, count: usize) -> Option<&[Part]>
+    ensures product { IfSome result (λ parts. (shape_at setting.now node ≡ Product parts.now) × (length parts.now ≡ count)) }
+    ensures other { IfNone result (has_factors count (shape_at setting.now node) ≡ false) }
+{
+    match setting.shape(node) {
+        Some(Shape::Product { parts }) if parts.len() == count => Some(parts.as_slice()),
+        _ => None,
+    }
+}
+
+// The node of the branch of this number, counted from 1, if the node is a union with such a branch.
+pub(crate) fn branch_node(setting: &Setting, node: usize, number: u128) -> Option<usize>
+    ensures { result ≡ branch_of (shape_at setting.now node) number }
+{
+    match setting.shape(node) {
+        Some(Shape::Union { parts }) => branch_in(parts.as_slice(), number),
+        _ => None,
+    }
+}
+
+// The node of the part of this number, counted from 1.
+#[tactic(auto, using(crate::proofs::BranchLemmas::branches))]
+fn branch_in(parts: &[Part], number: u128) -> Option<usize>
+    ensures { result ≡ branch_at parts.now number }
+{
+    if number == 0 {
+        return None;
+    }
+    if number > parts.len() as u128 {
+        return None;
+    }
+    Some(parts[(number - 1) as usize].node)
+}
+
+// The stop at a branch of a number that there isn't where it stands.
+pub(crate) fn no_branch(alloc: Global, at: usize, number: u128) -> Stop
+    ensures { StopsAt (broken Y15 at (decimal number)) result }
+{
+    let mut buffer = Buffer::new();
+    breach(alloc, Rule::Y15, at, buffer.format(number).as_bytes())
+}
