@@ -1,68 +1,24 @@
 -- The breaches of statements stand at rising tokens.
-use Rattle.std.proofs.Common.{◌≡◌, ℕ, ◌+◌, ◌<◌, ◌≤◌, List, [], ◌∷◌, ◌++◌, refl, sym, ap, ◌∙◌, subst, Option, Some, None, arith}
-use Rattle.std.specs.List.{flat_map}
-use mathlib.Core.Former.{Count}
-use denote.Hole.Carrier.{hidden}
+use Rattle.std.proofs.Common.{ℕ, ◌+◌, ◌<◌, ◌≤◌, List, [], ◌∷◌, length, refl, sym, subst, Option, Some, None, arith}
 use Rattle.luo_model.specs.Scopes.{Stand, inside}
 use Rattle.luo_model.specs.declared.program.Shape.{Shape}
 use Rattle.luo_model.specs.declared.program.Shape.TheVariants as shape
 use Rattle.luo_scan.specs.Lexemes.{Lexeme}
 use Rattle.luo_syntax.specs.declared.names.Name.{Name}
 use Rattle.luo_syntax.specs.declared.statements.SourceArm.{SourceArm}
-use Rattle.luo_syntax.specs.declared.statements.Stmt as stmt
-use Rattle.luo_syntax.specs.declared.statements.Stmt.{Stmt, Row_of-Stmt, end_of-Stmt, more_of-Stmt, items-the_row-Stmt, items_hidden-the_row-Stmt-0, Row_of-SourceArm, end_of-SourceArm, more_of-SourceArm, items-the_row-SourceArm, items_hidden-the_row-SourceArm-1}
+use Rattle.luo_syntax.specs.declared.statements.Stmt.{Stmt}
 use Rattle.luo_syntax.specs.GrammarStatements.{IsBlock, empty_block, full_block, AreStmts, last_stmt, more_stmts, IsStmt, simple_stmt, case_stmt, forall_stmt, IsSimple, block_stmt, skip_stmt, charge_stmt, call_stmt, AreArms, last_arm, more_arms, IsArm, one_arm}
 use Rattle.luo_value_types.specs.declared.rule.Breach.{Breach}
 use Rattle.luo_value_types.specs.declared.setting.Setting.{Setting}
 use Rattle.luo_value_types.specs.declared.setting.Variable.{Variable}
 use Rattle.luo_value_types.specs.Settings.{meant, signature_meant, shape_at, found, case_stands}
-use Rattle.luo_value_types.specs.Patterns.{bound, arm_breaches}
-use Rattle.luo_types.specs.StatementBreaches.{count_arms, walked, walk_into, walk_breaches, stmt_breaches, stmts_breaches, arms_breaches}
+use Rattle.luo_value_types.specs.Patterns.{bound}
+use Rattle.luo_types.specs.StatementBreaches.{walk_into, walk_breaches, stmt_breaches}
+use Rattle.luo_types.specs.StatementLists.{list_breaches, one_arm_breaches, arm_list_breaches}
+use Rattle.luo_types.proofs.StatementForms.{walk_scope, block-breaches, case-breaches, walk-breaches}
 use Rattle.luo_types.proofs.RiseLists.{single, nothing, placed, led}
 use Rattle.luo_types.proofs.RiseNames.{From, Spans, behind, past, alone, from_lower, in_place, measure_use_at, procedure_use_at}
 use Rattle.luo_types.proofs.RisePatterns.{emptied, pattern_spans, arm_spans, argument_at, case_spans}
-
--- statements and arms as lists
-abbrev pub list_breaches : Setting → List Variable → List Stmt → List Breach
-list_breaches s scope stmts = flat_map (stmt_breaches s scope) stmts
-
-abbrev one_arm_breaches : Setting → Stand → Name → SourceArm → List Breach
-one_arm_breaches s stand var arm = arm_breaches s stand var arm.pattern (stmt_breaches s (bound s stand arm.pattern) arm.body)
-
-abbrev arm_list_breaches : Setting → List Stand → Name → List SourceArm → List Breach
-arm_list_breaches s stands var [] = []
-arm_list_breaches s [] var (arm ∷ arms) = []
-arm_list_breaches s (stand ∷ stands) var (arm ∷ arms) = one_arm_breaches s stand var arm ++ arm_list_breaches s stands var arms
-
-row_stmts : (s : Setting) (scope : List Variable) (n : _) (row : Row_of-Stmt n) → stmts_breaches s scope row ≡ list_breaches s scope (items-the_row-Stmt n row)
-row_stmts s scope n end_of-Stmt = refl
-row_stmts s scope n (more_of-Stmt one rest) = ap (λ z. stmt_breaches s scope one ++ z) (row_stmts s scope _ rest)
-
-row_arms : (s : Setting) (stands : List Stand) (var : Name) (n : _) (row : Row_of-SourceArm n) → arms_breaches s stands var row ≡ arm_list_breaches s stands var (items-the_row-SourceArm n row)
-row_arms s stands var n end_of-SourceArm = refl
-row_arms s [] var n (more_of-SourceArm p body rest) = refl
-row_arms s (stand ∷ stands) var n (more_of-SourceArm p body rest) =
-    ap (λ z. arm_breaches s stand var p (stmt_breaches s (bound s stand p) body) ++ z) (row_arms s stands var _ rest)
-
-abbrev stmts_in : Stmt → (k : Count) × Row_of-Stmt k
-stmts_in (stmt.Block' _ row) = (_, row)
-stmts_in _ = (_, end_of-Stmt)
-
-abbrev arms_in : Stmt → (k : Count) × Row_of-SourceArm k
-arms_in (stmt.Case' _ _ row) = (_, row)
-arms_in _ = (_, end_of-SourceArm)
-
-block_breaches : (s : Setting) (scope : List Variable) (stmts : List Stmt) → stmt_breaches s scope (stmt.Block stmts) ≡ list_breaches s scope stmts
-block_breaches s scope stmts =
-    let row = stmts_in (stmt.Block stmts) in
-    row_stmts s scope row.0 row.1 ∙ ap (list_breaches s scope) (items_hidden-the_row-Stmt-0 stmts)
-
-case_of : (s : Setting) (scope : List Variable) (var : Name) (arms : List SourceArm) {low mid : ℕ} {to : List Lexeme} → low ≤ var.at → var.at < mid → Spans mid to (arm_list_breaches s (case_stands s (found scope var)) var arms) → Spans low to (stmt_breaches s scope (stmt.Case var arms))
-case_of s scope var arms {mid} {to} l m one =
-    let row = arms_in (stmt.Case var arms) in
-    let stands = case_stands s (found scope var) in
-    let same = row_arms s stands var row.0 row.1 ∙ ap (arm_list_breaches s stands var) (items_hidden-the_row-SourceArm-1 arms) in
-    case_spans s (found scope var) var (count_arms row.1) l m (subst (Spans mid to) (sym same) one)
 
 -- a walk before its body
 walk_into_spans : (form : Shape) (source : Name) {low mid : ℕ} {to : List Lexeme} {inner : List Breach} → low ≤ source.at → source.at < mid → Spans mid to inner → Spans low to (walk_into form source inner)
@@ -72,13 +28,6 @@ walk_into_spans _ source l m one = in_place (single refl) l m one
 walk_spans : (s : Setting) (there : Option (ℕ × ℕ)) (source : Name) {low mid : ℕ} {to : List Lexeme} {inner : List Breach} → low ≤ source.at → source.at < mid → Spans mid to inner → Spans low to (walk_breaches s there source inner)
 walk_spans s None source l m one = in_place (single refl) l m one
 walk_spans s (Some variable) source l m one = walk_into_spans (shape_at s variable.1) source l m one
-
-abbrev walk_scope : Setting → List Variable → Name → Name → List Variable
-walk_scope s scope var source = record { name = var.text; node = walked s (found scope source) } ∷ []
-
-forall_of : (s : Setting) (scope : List Variable) (var source : Name) (body : Stmt) {low : ℕ} {to : List Lexeme} → Spans low to (walk_breaches s (found scope source) source (stmt_breaches s (walk_scope s scope var source) body ++ [])) → Spans low to (stmt_breaches s scope (stmt.Forall var source body))
-unfolding Rattle.luo_syntax.specs.declared.statements.Stmt.TheBlock.hidden-the_row-Stmt-2 hidden
-forall_of s scope var source body one = one
 
 mutual
   pub block_spans : (s : Setting) (scope : List Variable) (low : ℕ) {from to : List Lexeme} {stmts : List Stmt} → IsBlock from to stmts → From low from → Spans low to (list_breaches s scope stmts)
@@ -95,15 +44,16 @@ mutual
   stmt_spans s scope low (simple_stmt p) h = simple_spans s scope low p h
   stmt_spans s scope low (case_stmt {text} {at} {l} {arms} p) h =
       let var : Name = record { text = text; at = at } in
-      case_of s scope var arms {mid = l + 1} (omega (arith, h.0, h.1.0)) (omega (arith, h.1.1.0)) (arms_spans s (case_stands s (found scope var)) var (l + 1) p h.1.1.1)
+      let inner = arms_spans s (case_stands s (found scope var)) var (l + 1) p h.1.1.1 in
+      subst (Spans low _) (sym (case-breaches s scope var arms)) (case_spans s (found scope var) var (length arms) (omega (arith, h.0, h.1.0)) (omega (arith, h.1.1.0)) inner)
   stmt_spans s scope low (forall_stmt {text} {source} {at} {source_at} {m} {body} p) h =
       let var : Name = record { text = text; at = at } in
       let over : Name = record { text = source; at = source_at } in
-      let inner = alone (simple_spans s (walk_scope s scope var over) (m + 1) p h.1.1.1.1.1) in
-      forall_of s scope var over body (walk_spans s (found scope over) over {mid = m + 1} (omega (arith, h.0, h.1.0, h.1.1.0, h.1.1.1.0)) (omega (arith, h.1.1.1.1.0)) inner)
+      let inner = simple_spans s (walk_scope s scope var over) (m + 1) p h.1.1.1.1.1 in
+      subst (Spans low _) (sym (walk-breaches s scope var over body)) (walk_spans s (found scope over) over (omega (arith, h.0, h.1.0, h.1.1.0, h.1.1.1.0)) (omega (arith, h.1.1.1.1.0)) inner)
 
   simple_spans : (s : Setting) (scope : List Variable) (low : ℕ) {from to : List Lexeme} {one : Stmt} → IsSimple from to one → From low from → Spans low to (stmt_breaches s scope one)
-  simple_spans s scope low (block_stmt {stmts} p) h = subst (Spans low _) (sym (block_breaches s scope stmts)) (block_spans s scope low p h)
+  simple_spans s scope low (block_stmt {stmts} p) h = subst (Spans low _) (sym (block-breaches s scope stmts)) (block_spans s scope low p h)
   simple_spans s scope low (skip_stmt {k = j}) h = record { next = j + 1; left = h.1; within = nothing (omega (arith, h.0)) }
   simple_spans s scope low (charge_stmt {text} {at}) h =
       let name : Name = record { text = text; at = at } in
