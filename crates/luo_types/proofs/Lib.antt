@@ -1,3 +1,10 @@
+pub mod RiseLists
+pub mod RiseNames
+pub mod RiseTypes
+pub mod RisePatterns
+pub mod RiseStatements
+pub mod RiseValues
+pub mod RiseSource
 pub mod StatementForms
 pub mod StatementRoom
 pub mod StatementsSoFar

@@ -1,11 +1,14 @@
 -- What holds of all sources.
-use Rattle.std.specs.Prelude.{◌≡◌}
+use Rattle.std.specs.Prelude.{◌≡◌, ◌≤◌}
 use Rattle.luo_model.specs.Program.{Program}
 use Rattle.luo_syntax.specs.declared.source.Source.{Source}
 use Rattle.luo_types.specs.declared.error.CheckError.{CheckError}
 use Rattle.luo_types.specs.declared.error.CheckError.TheVariants.{NoMemory}
-use Rattle.luo_types.specs.Checks.{IsChecked, IsUnchecked}
-use Rattle.luo_types.specs.Whole.{IsCore}
+use Rattle.luo_types.specs.Checks.{IsChecked, IsUnchecked, IsSource, BreaksFirst}
+use Rattle.luo_types.specs.Whole.{IsCore, breaches}
+use Rattle.luo_finite.specs.Listing.{In}
+use Rattle.luo_value_types.specs.declared.rule.Breach.{Breach}
+use Rattle.luo_types.specs.Rising.{Rises}
 
 -- a source has at most one core form
 abbrev pub HasOneCore : Type 0
@@ -18,3 +21,15 @@ HasOneError = (source : Source) (e f : CheckError) → IsUnchecked source e → 
 -- a source of a program has no error but for want of memory
 abbrev pub ProgramsHaveNoError : Type 0
 ProgramsHaveNoError = (source : Source) (p : Program) (e : CheckError) → IsChecked source p → IsUnchecked source e → e ≡ NoMemory
+
+-- the breaches stand in the order of the text, each at a token of its own
+abbrev pub BreachesRise : Type 0
+BreachesRise = (source : Source) → IsSource source → Rises (breaches source)
+
+-- no breach stands before the first of the list
+abbrev pub FirstBreachIsLeast : Type 0
+FirstBreachIsLeast = (source : Source) (one other : Breach) → IsSource source → BreaksFirst source one → In other (breaches source) → one.token ≤ other.token
+
+-- breaches at one token are the same
+abbrev pub BreachesAreSingle : Type 0
+BreachesAreSingle = (source : Source) (one other : Breach) → IsSource source → In one (breaches source) → In other (breaches source) → one.token ≡ other.token → one ≡ other
