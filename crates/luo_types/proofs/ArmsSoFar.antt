@@ -74,18 +74,18 @@ module _ (s : Setting) (stands : List Stand) (var : Name) (arms : List SourceArm
       record {
         unbroken = so.unbroken ∙ ap (λ bs. bs ++ arm_list_breaches s stands_left var rest) is.unbroken;
         formed =
-          ap (λ l. join_arms (arm_list l) (arm_list_core s stands_left after rest)) e
-          ∙ ap (λ l. join_arms l (arm_list_core s stands_left after rest)) (arm_list_append made (one ∷ []))
-          ∙ arms_assoc (arm_list made) (arm_list (one ∷ [])) (arm_list_core s stands_left after rest)
-          ∙ ap (λ b. join_arms (arm_list made) (plain.arm b (body_of one.body) (arm_list_core s stands_left after rest))) is.binds
-          ∙ ap (λ b. join_arms (arm_list made) (plain.arm (bind_of arm.pattern) b (arm_list_core s stands_left after rest))) is.does
-          ∙ ap (λ n. join_arms (arm_list made) (plain.arm (bind_of arm.pattern) one_core (arm_list_core s stands_left n rest))) is.numbered
-          ∙ so.formed;
+            ap (λ l. join_arms (arm_list l) (arm_list_core s stands_left after rest)) e
+            ∙ ap (λ l. join_arms l (arm_list_core s stands_left after rest)) (arm_list_append made (one ∷ []))
+            ∙ arms_assoc (arm_list made) (arm_list (one ∷ [])) (arm_list_core s stands_left after rest)
+            ∙ ap (λ b. join_arms (arm_list made) (plain.arm b (body_of one.body) (arm_list_core s stands_left after rest))) is.binds
+            ∙ ap (λ b. join_arms (arm_list made) (plain.arm (bind_of arm.pattern) b (arm_list_core s stands_left after rest))) is.does
+            ∙ ap (λ n. join_arms (arm_list made) (plain.arm (bind_of arm.pattern) one_core (arm_list_core s stands_left n rest))) is.numbered
+            ∙ so.formed;
         numbered = omega (arith, so.numbered, is.numbered, sum_by-cons arm_sites arm rest);
         room = record {
           charges = omega (arith, so.room.charges, sum_by-cons arm_statements arm rest);
-          sites = omega (arith, so.room.sites, sum_by-cons arm_statements arm rest, is.numbered, sites-within arm.body)
-        }
+          sites = omega (arith, so.room.sites, sum_by-cons arm_statements arm rest, is.numbered, sites-within arm.body);
+        };
       }
 
   pub arms-all : (i : ℕ) (made : List Arm) (next : ℕ) → ArmsSoFar s stands (drop i stands) var arms (drop i arms) made first next → length arms ≤ i → AreArmsMade s stands var arms made first next
@@ -94,5 +94,5 @@ module _ (s : Setting) (stands : List Stand) (var : Name) (arms : List SourceArm
       record {
         unbroken = so.unbroken;
         formed = sym (arms_none (arm_list made)) ∙ so.formed;
-        numbered = sym (add-zero next) ∙ so.numbered
+        numbered = sym (add-zero next) ∙ so.numbered;
       }

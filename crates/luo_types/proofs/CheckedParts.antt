@@ -91,7 +91,7 @@ module _ (source : Source) where
         unbroken = none-or_if_none _ (later source) e (none-append (procs_breaches (setting_of source) 0 source.procs) _ made.unbroken (ap (λ s. flat_map (λ name. procedure_use (meant s name) name) source.analyses) (sym same) ∙ lines));
         setting = same;
         procs = made.formed;
-        analyses = f ∙ ap (λ s. map (λ name. meanings.procedure_of (meant s name)) source.analyses) same
+        analyses = f ∙ ap (λ s. map (λ name. meanings.procedure_of (meant s name)) source.analyses) same;
       }
 
 module _ (source : Source) (t : Typed) (is : IsTyped source t) where

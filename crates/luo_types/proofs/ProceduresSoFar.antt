@@ -77,7 +77,7 @@ module _ (s : Setting) (procs : List ProcDef) where
   pub proc-room : (p : ProcDef) (rest : List ProcDef) (number : ℕ) (made : List Proc) (next : ℕ) → ProcsSoFar s procs (p ∷ rest) number made next → HasRoom (proc_statements p) 0 next
   proc-room p rest number made next so = record {
     charges = omega (arith, so.statements, sum_by-cons proc_statements p rest);
-    sites = omega (arith, so.sites, sum_by-cons proc_statements p rest)
+    sites = omega (arith, so.sites, sum_by-cons proc_statements p rest);
   }
 
   pub so_far-stop : (p : ProcDef) (rest : List ProcDef) (number : ℕ) (made : List Proc) (next : ℕ) (at : Stop) → ProcsSoFar s procs (p ∷ rest) number made next → StopsAt (proc_breaches s number p) at → StopsAt (procs_breaches s 0 procs) at
@@ -88,14 +88,14 @@ module _ (s : Setting) (procs : List ProcDef) where
   so_far-more p rest number made new one next after so is e = record {
     unbroken = so.unbroken ∙ ap (λ bs. bs ++ procs_breaches s (suc number) rest) is.unbroken ∙ ap (λ n. procs_breaches s n rest) (sym (add-one number));
     formed =
-      ap (λ l. map procedure_of l ++ procs_core s after rest) e
-      ∙ ap (λ l. l ++ procs_core s after rest) (map-append procedure_of made (one ∷ []))
-      ∙ append_assoc (map procedure_of made) (procedure_of one ∷ []) (procs_core s after rest)
-      ∙ ap (λ P. map procedure_of made ++ P ∷ procs_core s after rest) is.formed
-      ∙ ap (λ n. map procedure_of made ++ proc_core s next p ∷ procs_core s n rest) is.numbered
-      ∙ so.formed;
+        ap (λ l. map procedure_of l ++ procs_core s after rest) e
+        ∙ ap (λ l. l ++ procs_core s after rest) (map-append procedure_of made (one ∷ []))
+        ∙ append_assoc (map procedure_of made) (procedure_of one ∷ []) (procs_core s after rest)
+        ∙ ap (λ P. map procedure_of made ++ P ∷ procs_core s after rest) is.formed
+        ∙ ap (λ n. map procedure_of made ++ proc_core s next p ∷ procs_core s n rest) is.numbered
+        ∙ so.formed;
     statements = omega (arith, so.statements, sum_by-cons proc_statements p rest);
-    sites = omega (arith, so.sites, sum_by-cons proc_statements p rest, is.numbered, body_sites-within s p p.body)
+    sites = omega (arith, so.sites, sum_by-cons proc_statements p rest, is.numbered, body_sites-within s p p.body);
   }
 
   pub so_far-all : (i : ℕ) (made : List Proc) (next : ℕ) → ProcsSoFar s procs (drop i procs) i made next → length procs ≤ i → AreProcsMade s procs made
@@ -126,8 +126,8 @@ module _ (s : Setting) (names : List Name) where
   names-more name rest made new f so none m e = record {
     unbroken = so.unbroken ∙ ap (λ bs. bs ++ uses s rest) none;
     formed =
-      ap (λ l. l ++ used s rest) e ∙ append_assoc made (f ∷ []) (used s rest)
-      ∙ ap (λ n. made ++ n ∷ used s rest) (sym (ap meanings.procedure_of m)) ∙ so.formed
+        ap (λ l. l ++ used s rest) e ∙ append_assoc made (f ∷ []) (used s rest)
+        ∙ ap (λ n. made ++ n ∷ used s rest) (sym (ap meanings.procedure_of m)) ∙ so.formed;
   }
 
   pub names-all : (i : ℕ) (made : List ℕ) → NamesSoFar s names (drop i names) made → length names ≤ i → (uses s names ≡ []) × (made ≡ used s names)

@@ -92,12 +92,12 @@ module _ (p : Program) (procs : List Proc) where
       let here = sites_at caller 0 (nodes_of (procedure_sites p (procedure_of P))) in
       record {
         sites_are =
-          ap (λ l. l ++ sites_in p (caller + 1) (map procedure_of rest)) e
-          ∙ append_assoc sites here (sites_in p (caller + 1) (map procedure_of rest))
-          ∙ ap (λ l. sites ++ l) (sym (sites_in-cons p caller (procedure_of P) (map procedure_of rest)))
-          ∙ so.sites_are;
+            ap (λ l. l ++ sites_in p (caller + 1) (map procedure_of rest)) e
+            ∙ append_assoc sites here (sites_in p (caller + 1) (map procedure_of rest))
+            ∙ ap (λ l. sites ++ l) (sym (sites_in-cons p caller (procedure_of P) (map procedure_of rest)))
+            ∙ so.sites_are;
         walks_are = omega (arith, so.walks_are, f, sum_by-cons (procedure_walks p) (procedure_of P) (map procedure_of rest));
-        room = omega (arith, so.room, f, sum_by-cons procedure_items (procedure_of P) (map procedure_of rest), walks-within p (P.on.node ∷ []) (body_of P.body))
+        room = omega (arith, so.room, f, sum_by-cons procedure_items (procedure_of P) (map procedure_of rest), walks-within p (P.on.node ∷ []) (body_of P.body));
       }
 
   pub procs-all : (i : ℕ) (sites : List Site) (walks : ℕ) → ProcsFound p procs (drop i procs) i sites walks → length procs ≤ i → (sites ≡ sites_in p 0 (map procedure_of procs)) × (walks ≡ sum_by (procedure_walks p) (map procedure_of procs))

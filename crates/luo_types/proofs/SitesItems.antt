@@ -38,8 +38,8 @@ module _ (p : Program) (vars : List ℕ) (item : Item) (old : Found) where
       let walks = ap (λ l. arms_walks p (stands node (shape_of p node)) (arm_list l)) f ∙ ap (λ n. arms_walks p (stands n (shape_of p n)) (arm_list arms)) g ∙ sym (ap (item_walks p vars) form) in
       record {
         nodes_are =
-          h ∙ ap (λ l. l ++ node ∷ []) is.nodes_are ∙ append_assoc old.nodes (nodes_of here) (node ∷ []) ∙ ap (λ l. old.nodes ++ l) (sym (map-append (λ z. z.1) here ((site, node) ∷ [])) ∙ sites);
-        walks_are = is.walks_are ∙ ap (λ n. old.walks + n) walks
+            h ∙ ap (λ l. l ++ node ∷ []) is.nodes_are ∙ append_assoc old.nodes (nodes_of here) (node ∷ []) ∙ ap (λ l. old.nodes ++ l) (sym (map-append (λ z. z.1) here ((site, node) ∷ [])) ∙ sites);
+        walks_are = is.walks_are ∙ ap (λ n. old.walks + n) walks;
       }
 
   pub walk-found : (var : ℕ) (body : Body) (body_site site node : ℕ) (new : Found) → item ≡ Forall var body body_site site → node ≡ node_at vars var
@@ -49,6 +49,6 @@ module _ (p : Program) (vars : List ℕ) (item : Item) (old : Found) where
       let form = ap item_of e ∙ walk-item var body body_site site in
       let here = body_sites p (component (shape_of p node) ∷ []) (body_of body) in
       let sites = sym (map-append (λ z. z.1) here ((body_site, component (shape_of p node)) ∷ (site, node) ∷ []))
-        ∙ ap (λ n. nodes_of (body_sites p (component (shape_of p n) ∷ []) (body_of body) ++ (body_site, component (shape_of p n)) ∷ (site, n) ∷ [])) g ∙ sym (ap (λ i. nodes_of (item_sites p vars i)) form) in
+      ∙ ap (λ n. nodes_of (body_sites p (component (shape_of p n) ∷ []) (body_of body) ++ (body_site, component (shape_of p n)) ∷ (site, n) ∷ [])) g ∙ sym (ap (λ i. nodes_of (item_sites p vars i)) form) in
       let walks = ap (λ n. walk_of (shape_of p n) + body_walks p (component (shape_of p n) ∷ []) (body_of body)) g ∙ sym (ap (item_walks p vars) form) in
       record { nodes_are = is.nodes_are ∙ ap (λ l. old.nodes ++ l) sites; walks_are = is.walks_are ∙ ap (λ n. old.walks + n) walks }

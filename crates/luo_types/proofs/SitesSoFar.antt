@@ -63,12 +63,12 @@ module _ (p : Program) (vars : List ℕ) (items : List Item) (old : Found) where
   pub items-more : (item : Item) (rest : List Item) (now new : Found) → ItemsSoFar p vars items (item ∷ rest) old now → IsFound (nodes_of (item_sites p vars (item_of item))) (item_walks p vars (item_of item)) now new → ItemsSoFar p vars items rest old new
   items-more item rest now new so is = record {
     nodes_are =
-      ap (λ l. l ++ nodes_of (items_sites p vars (item_list rest))) is.nodes_are
-      ∙ append_assoc now.nodes (nodes_of (item_sites p vars (item_of item))) (nodes_of (items_sites p vars (item_list rest)))
-      ∙ ap (λ l. now.nodes ++ l) (sym (map-append (λ site. site.1) (item_sites p vars (item_of item)) (items_sites p vars (item_list rest))))
-      ∙ so.nodes_are;
+        ap (λ l. l ++ nodes_of (items_sites p vars (item_list rest))) is.nodes_are
+        ∙ append_assoc now.nodes (nodes_of (item_sites p vars (item_of item))) (nodes_of (items_sites p vars (item_list rest)))
+        ∙ ap (λ l. now.nodes ++ l) (sym (map-append (λ site. site.1) (item_sites p vars (item_of item)) (items_sites p vars (item_list rest))))
+        ∙ so.nodes_are;
     walks_are = omega (arith, is.walks_are, so.walks_are);
-    room = omega (arith, so.room, is.walks_are, item_walks-within p vars (item_of item))
+    room = omega (arith, so.room, is.walks_are, item_walks-within p vars (item_of item));
   }
 
   pub items-all : (i : ℕ) (now : Found) → ItemsSoFar p vars items (drop i items) old now → length items ≤ i → IsFound (nodes_of (items_sites p vars (item_list items))) (items_walks p vars (item_list items)) old now
@@ -117,19 +117,19 @@ module _ (p : Program) (all : List Stand) (arms : List Arm) (old : Found) where
       let behind = arms_sites p stands_left (arm_list rest) in
       record {
         nodes_are =
-          ap (λ l. l ++ nodes_of behind) is.nodes_are
-          ∙ append_assoc now.nodes (nodes_of here) (nodes_of behind)
-          ∙ ap (λ l. now.nodes ++ l) (sym (map-append (λ site. site.1) here behind))
-          ∙ so.nodes_are;
+            ap (λ l. l ++ nodes_of behind) is.nodes_are
+            ∙ append_assoc now.nodes (nodes_of here) (nodes_of behind)
+            ∙ ap (λ l. now.nodes ++ l) (sym (map-append (λ site. site.1) here behind))
+            ∙ so.nodes_are;
         walks_are = omega (arith, is.walks_are, so.walks_are);
-        room = omega (arith, so.room, is.walks_are, walks-within p (bound_nodes p stand arm.bind) (body_of arm.body))
+        room = omega (arith, so.room, is.walks_are, walks-within p (bound_nodes p stand arm.bind) (body_of arm.body));
       }
 
   found_none : (stands_left : List Stand) (left : List Arm) (now : Found) → arms_sites p stands_left (arm_list left) ≡ [] → arms_walks p stands_left (arm_list left) ≡ 0 → FoundSoFar p all stands_left arms left old now
       → IsFound (nodes_of (arms_sites p all (arm_list arms))) (arms_walks p all (arm_list arms)) old now
   found_none stands_left left now e f so = record {
     nodes_are = sym (append-nil now.nodes) ∙ ap (λ l. now.nodes ++ nodes_of l) (sym e) ∙ so.nodes_are;
-    walks_are = omega (arith, so.walks_are, f)
+    walks_are = omega (arith, so.walks_are, f);
   }
 
   pub found-all : (i : ℕ) (now : Found) → FoundSoFar p all (drop i all) arms (drop i arms) old now → length arms ≤ i → IsFound (nodes_of (arms_sites p all (arm_list arms))) (arms_walks p all (arm_list arms)) old now

@@ -64,7 +64,7 @@ module _ (s : Setting) (scope : List Variable) (old new : Body) (first : ℕ) wh
   charge-added measure e same = record {
     unbroken = e;
     behind = ap body_of same ∙ ap (plain.Does (old.own + value_of (meant s measure))) (sym (items_none (item_list old.items)));
-    numbered = sym (add-zero first)
+    numbered = sym (add-zero first);
   }
 
   pub call-added : (callee arg : Name) (f place : ℕ) → procedure_use (meant s callee) callee ≡ [] → meant s callee ≡ Some (Procedure f)
@@ -73,8 +73,8 @@ module _ (s : Setting) (scope : List Variable) (old new : Body) (first : ℕ) wh
   call-added callee arg f place u m a p has = record {
     unbroken = none-append _ _ u a;
     behind = has ∙ ap (λ n. extended (body_of old) (plain.Does 0 (plain.item (plain.Call n f first) plain.no_items))) p
-      ∙ ap (λ n. extended (body_of old) (plain.Does 0 (plain.item (plain.Call (place_of (found scope arg)) n first) plain.no_items))) (sym (ap procedure_of m));
-    numbered = refl
+        ∙ ap (λ n. extended (body_of old) (plain.Does 0 (plain.item (plain.Call (place_of (found scope arg)) n first) plain.no_items))) (sym (ap procedure_of m));
+    numbered = refl;
   }
 
   inner_breaches : (var : Name) (arms : List SourceArm) (v : ℕ × ℕ) → found scope var ≡ Some v → nat_eq (length arms) (length (case_stands s (found scope var))) ≡ true
@@ -89,13 +89,13 @@ module _ (s : Setting) (scope : List Variable) (old new : Body) (first : ℕ) wh
       record {
         unbroken = inner_breaches var arms v e f ∙ are.unbroken;
         behind =
-          has
-          ∙ ap (λ n. extended (body_of old) (plain.Does 0 (plain.item (item_of (done.Case v.0 made n)) plain.no_items))) here
-          ∙ ap (λ i. extended (body_of old) (plain.Does 0 (plain.item i plain.no_items)))
-          (case_item v.0 made mid ∙ ap (λ l. plain.Case v.0 l mid) are.formed ∙ ap (plain.Case v.0 core) are.numbered
+            has
+            ∙ ap (λ n. extended (body_of old) (plain.Does 0 (plain.item (item_of (done.Case v.0 made n)) plain.no_items))) here
+            ∙ ap (λ i. extended (body_of old) (plain.Does 0 (plain.item i plain.no_items)))
+            (case_item v.0 made mid ∙ ap (λ l. plain.Case v.0 l mid) are.formed ∙ ap (plain.Case v.0 core) are.numbered
             ∙ ap (λ o. plain.Case (place_of o) (arm_list_core s (case_stands s o) first arms) (first + sum_by arm_sites arms)) (sym e))
-          ∙ ap (extended (body_of old)) (sym (case-does s scope first var arms));
-        numbered = omega (arith, left, are.numbered, case-sites var arms)
+            ∙ ap (extended (body_of old)) (sym (case-does s scope first var arms));
+        numbered = omega (arith, left, are.numbered, case-sites var arms);
       }
 
   pub case-stops : (var : Name) (arms : List SourceArm) (v : ℕ × ℕ) (at : Stop) → found scope var ≡ Some v → nat_eq (length arms) (length (case_stands s (found scope var))) ≡ true
@@ -113,14 +113,14 @@ module _ (s : Setting) (scope : List Variable) (old new : Body) (first : ℕ) wh
       record {
         unbroken = walk-breaches s scope var source inner ∙ is.into _ ∙ added'.unbroken;
         behind =
-          has
-          ∙ ap (λ n. extended (body_of old) (plain.Does 0 (plain.item (item_of (done.Forall w.0 body n site)) plain.no_items))) here
-          ∙ ap (λ n. extended (body_of old) (plain.Does 0 (plain.item (item_of (done.Forall w.0 body mid n)) plain.no_items))) there
-          ∙ ap (λ i. extended (body_of old) (plain.Does 0 (plain.item i plain.no_items)))
-          (walk-item w.0 body mid (mid + 1) ∙ ap (λ b. plain.Forall w.0 b mid (mid + 1)) does ∙ ap (λ n. plain.Forall w.0 (stmt_does s inside first inner) n (n + 1)) added'.numbered
+            has
+            ∙ ap (λ n. extended (body_of old) (plain.Does 0 (plain.item (item_of (done.Forall w.0 body n site)) plain.no_items))) here
+            ∙ ap (λ n. extended (body_of old) (plain.Does 0 (plain.item (item_of (done.Forall w.0 body mid n)) plain.no_items))) there
+            ∙ ap (λ i. extended (body_of old) (plain.Does 0 (plain.item i plain.no_items)))
+            (walk-item w.0 body mid (mid + 1) ∙ ap (λ b. plain.Forall w.0 b mid (mid + 1)) does ∙ ap (λ n. plain.Forall w.0 (stmt_does s inside first inner) n (n + 1)) added'.numbered
             ∙ ap (λ n. plain.Forall n (stmt_does s inside first inner) (first + stmt_sites inner) (first + stmt_sites inner + 1)) is.place)
-          ∙ ap (extended (body_of old)) (sym (walk-does s scope first var source inner));
-        numbered = omega (arith, left, added'.numbered, walk-sites var source inner)
+            ∙ ap (extended (body_of old)) (sym (walk-does s scope first var source inner));
+        numbered = omega (arith, left, added'.numbered, walk-sites var source inner);
       }
 
   pub walk-stops : (var source : Name) (inner : Stmt) (w : ℕ × ℕ) (at : Stop) → IsWalked s (found scope source) source w → StopsAt (stmt_breaches s (record { name = var.text; node = w.1 } ∷ []) inner) at
@@ -134,7 +134,7 @@ module _ (s : Setting) (scope : List Variable) (old new : Body) (first : ℕ) wh
   block-added stmts next are = record {
     unbroken = block-breaches s scope stmts ∙ are.unbroken;
     behind = are.behind ∙ ap (extended (body_of old)) (sym (block-does s scope first stmts));
-    numbered = are.numbered ∙ ap (λ n. first + n) (sym (block-sites stmts))
+    numbered = are.numbered ∙ ap (λ n. first + n) (sym (block-sites stmts));
   }
 
 pub block-stops : (s : Setting) (scope : List Variable) (stmts : List Stmt) (at : Stop) → StopsAt (list_breaches s scope stmts) at → StopsAt (stmt_breaches s scope (Block stmts)) at

@@ -54,13 +54,13 @@ module _ (s : Setting) (scope : List Variable) (stmts : List Stmt) (old : Body) 
       record {
         unbroken = so.unbroken ∙ ap (λ bs. bs ++ list_breaches s scope rest) added.unbroken;
         behind =
-          ap (λ b. extended b (list_does s scope after rest)) added.behind
-          ∙ extended_assoc (body_of body) (stmt_does s scope next stmt) (list_does s scope after rest)
-          ∙ ap (λ n. extended (body_of body) (extended (stmt_does s scope next stmt) (list_does s scope n rest))) added.numbered
-          ∙ ap (extended (body_of body)) (sym (list_does-cons stmt rest next))
-          ∙ so.behind;
+            ap (λ b. extended b (list_does s scope after rest)) added.behind
+            ∙ extended_assoc (body_of body) (stmt_does s scope next stmt) (list_does s scope after rest)
+            ∙ ap (λ n. extended (body_of body) (extended (stmt_does s scope next stmt) (list_does s scope n rest))) added.numbered
+            ∙ ap (extended (body_of body)) (sym (list_does-cons stmt rest next))
+            ∙ so.behind;
         numbered = omega (arith, so.numbered, added.numbered, sum_by-cons stmt_sites stmt rest);
-        room = subst (λ n. HasRoom (sum_by stmt_statements rest) n after) (sym (ap own_of added.behind)) (subst (HasRoom (sum_by stmt_statements rest) (body.own + stmt_own s stmt)) (sym added.numbered) room)
+        room = subst (λ n. HasRoom (sum_by stmt_statements rest) n after) (sym (ap own_of added.behind)) (subst (HasRoom (sum_by stmt_statements rest) (body.own + stmt_own s stmt)) (sym added.numbered) room);
       }
 
   -- what is left at a statement
@@ -73,5 +73,5 @@ module _ (s : Setting) (scope : List Variable) (stmts : List Stmt) (old : Body) 
       record {
         unbroken = so.unbroken;
         behind = sym (extended_none (body_of body)) ∙ so.behind;
-        numbered = sym (add-zero next) ∙ so.numbered
+        numbered = sym (add-zero next) ∙ so.numbered;
       }

@@ -59,14 +59,23 @@ fn decide(alloc: Global, source: &Source) -> Result<Program, CheckError>
     if let Some(which) = passed_limit(source) {
         return Err(CheckError::Limit { which });
     }
-    let Typed { setting, procs, analyses } = check_parts(alloc, source)?;
+    let Typed {
+        setting,
+        procs,
+        analyses,
+    } = check_parts(alloc, source)?;
     let (sites, walks) = sites_of(alloc, &setting, procs.as_slice())?;
     if walks > WALKS {
         return Err(CheckError::Limit {
             which: CountLimit::Walks,
         });
     }
-    let Setting { universe, defs, nodes, .. } = setting;
+    let Setting {
+        universe,
+        defs,
+        nodes,
+        ..
+    } = setting;
     Ok(Program {
         universe,
         defs,

@@ -44,7 +44,13 @@ fn push_procedure(
         nodes: Items::new(alloc),
         walks: 0,
     };
-    items(alloc, setting, vars.as_slice(), proc.body.items.as_slice(), &mut found)?;
+    items(
+        alloc,
+        setting,
+        vars.as_slice(),
+        proc.body.items.as_slice(),
+        &mut found,
+    )?;
     found.nodes.push(proc.on.node)?;
     push_sites(sites, caller, found.nodes.as_slice())?;
     Ok(found.walks)

@@ -26,12 +26,7 @@ use luo_value_types::{Meaning, Rule, Setting, Stop, breach, use_procedure, use_t
 use std::alloc::Global;
 
 // A procedure with a result stands in an unlabelled program.
-fn check_universe(
-    alloc: Global,
-    universe: Universe,
-    colon: usize,
-    name: &Name,
-) -> Result<(), Stop>
+fn check_universe(alloc: Global, universe: Universe, colon: usize, name: &Name) -> Result<(), Stop>
     ensures ok { OnOk result (result_breaches universe colon name.now ≡ []) }
     ensures stops { IfErr result (λ e. StopsAt (result_breaches universe colon name.now) e) }
 {
@@ -81,7 +76,15 @@ fn made_body(
 {
     let scope = one_variable(alloc, param, node)?;
     let mut body = no_body(alloc);
-    let made = value(alloc, setting, scope.as_slice(), expected, source, &mut body, next)?;
+    let made = value(
+        alloc,
+        setting,
+        scope.as_slice(),
+        expected,
+        source,
+        &mut body,
+        next,
+    )?;
     Ok((body, made))
 }
 
@@ -105,12 +108,24 @@ fn body(
             let body = run_body(alloc, setting, &proc.param, node, inner.as_slice(), next)?;
             Ok((body, None))
         }
-        ProcBody::Value { colon, result, value: source } => {
+        ProcBody::Value {
+            colon,
+            result,
+            value: source,
+        } => {
             check_universe(alloc, setting.universe, *colon, &proc.name)?;
             let meant = setting.meant(result);
             use_type(alloc, meant, result)?;
             let on = setting.part_meant(meant);
-            let (body, value) = made_body(alloc, setting, &proc.param, node, on.node, source, next)?;
+            let (body, value) = made_body(
+                alloc,
+                setting,
+                &proc.param,
+                node,
+                on.node,
+                source,
+                next,
+            )?;
             Ok((body, Some(Made { on, value })))
         }
     }
@@ -130,7 +145,12 @@ fn procedure(
     ensures ok { IfOk result (λ made. IsProcMade setting.now number proc.now made next.old next.new) }
     ensures stops { IfErr result (λ e. StopsAt (proc_breaches setting.now number proc.now) e) }
 {
-    check_name(alloc, &setting.names, &proc.name, Meaning::Procedure(number))?;
+    check_name(
+        alloc,
+        &setting.names,
+        &proc.name,
+        Meaning::Procedure(number),
+    )?;
     let meant = setting.meant(&proc.on);
     use_type(alloc, meant, &proc.on)?;
     let on = setting.part_meant(meant);

@@ -124,7 +124,13 @@ fn arm(
         (scopes.body_walks (types_of setting.now) (scopes.bound_nodes (types_of setting.now) (stand_of stand) arm.now.bind) (body_of arm.now.body)) found.old found.new) }
 {
     let vars = bound_nodes(alloc, setting, stand, arm.bind)?;
-    items(alloc, setting, vars.as_slice(), arm.body.items.as_slice(), found)?;
+    items(
+        alloc,
+        setting,
+        vars.as_slice(),
+        arm.body.items.as_slice(),
+        found,
+    )?;
     Ok(())
 }
 
@@ -166,7 +172,13 @@ fn walk(
     let (component, walks) = walked(setting, node);
     let vars = one_node(alloc, component)?;
     found.walks += walks;
-    items(alloc, setting, vars.as_slice(), body.items.as_slice(), found)?;
+    items(
+        alloc,
+        setting,
+        vars.as_slice(),
+        body.items.as_slice(),
+        found,
+    )?;
     found.nodes.push(component)?;
     found.nodes.push(node)?;
     Ok(())
@@ -189,7 +201,11 @@ fn item(
             found.nodes.push(node_at(vars, *var))?;
             Ok(())
         }
-        Item::Case { var, arms: branches, .. } => {
+        Item::Case {
+            var,
+            arms: branches,
+            ..
+        } => {
             let node = node_at(vars, *var);
             arms(alloc, setting, node, branches.as_slice(), found)?;
             found.nodes.push(node)?;

@@ -123,7 +123,14 @@ fn arm(
 {
     let opened = pattern(alloc, setting, stand, var, &arm.pattern)?;
     let mut body = no_body(alloc);
-    stmt(alloc, setting, opened.scope.as_slice(), &arm.body, &mut body, next)?;
+    stmt(
+        alloc,
+        setting,
+        opened.scope.as_slice(),
+        &arm.body,
+        &mut body,
+        next,
+    )?;
     Ok(Arm {
         bind: opened.bind,
         body,
@@ -203,7 +210,11 @@ fn collection(
 }
 
 // The scope of a walk's body: a component of this node.
-pub(crate) fn one_variable(alloc: Global, name: &Name, node: usize) -> Result<Items<Variable>, AllocError>
+pub(crate) fn one_variable(
+    alloc: Global,
+    name: &Name,
+    node: usize,
+) -> Result<Items<Variable>, AllocError>
     ensures { IfOk result (λ scope. scope ≡ record { name = name.now.text; node = node } ∷ []) }
 {
     let mut scope = Items::new(alloc);
@@ -236,14 +247,14 @@ fn walk(
     let mut made = no_body(alloc);
     stmt(alloc, setting, inner.as_slice(), each, &mut made, next)?;
     let body_site = take_site(next);
-    let site = take_site(next);
+    let walk_site = take_site(next);
     push_item(
         body,
         Item::Forall {
             var: there.0,
             body: made,
             body_site,
-            site,
+            site: walk_site,
         },
     )?;
     Ok(())
@@ -295,9 +306,11 @@ fn stmt(
         Stmt::Case { var, arms } => {
             case(alloc, setting, scope, var, arms.as_slice(), body, next)?
         }
-        Stmt::Forall { var, source, body: each } => {
-            walk(alloc, setting, scope, var, source, each.get(), body, next)?
-        }
+        Stmt::Forall {
+            var,
+            source,
+            body: each,
+        } => { walk(alloc, setting, scope, var, source, each.get(), body, next)? }
     }
     Ok(())
 }

@@ -84,9 +84,9 @@ stmt-returns-clause-ok t c =
     let old = c.args.body.now in
     let first = c.args.next.now in
     elim c.match-stmt.branch [
-      stmt-in-Skip w ↦ stmt-is s scope _ Skip old old _ first first _ w.in-Skip.is w.body-is w.next-is (skip-added s scope old old first)
+      | stmt-in-Skip w ↦ stmt-is s scope _ Skip old old _ first first _ w.in-Skip.is w.body-is w.next-is (skip-added s scope old old first)
       | stmt-in-Charge+in_ok-charge-in-Charge w ↦ stmt-is s scope _ (Charge _) old _ _ first first _ w.in-Charge.is w.body-is w.next-is
-      (charge-added s scope old _ first _ w.in_ok-charge-in-Charge.ensures.unbroken w.in_ok-charge-in-Charge.ensures.charged)
+          (charge-added s scope old _ first _ w.in_ok-charge-in-Charge.ensures.unbroken w.in_ok-charge-in-Charge.ensures.charged)
       | stmt-in-Call+in_ok-call-in-Call w ↦ stmt-is s scope _ (Call _ _) old _ _ first _ _ w.in-Call.is w.body-is w.next-is w.in_ok-call-in-Call.ensures.ok
       | stmt-in-Block+in_ok-stmts-in-Block w ↦ stmt-is s scope _ (Block _) old _ _ first _ _ (w.in-Block.is ∙ ap Block (sym w.as_slice.ensures)) w.body-is w.next-is (block-added s scope old _ first _ _ w.in_ok-stmts-in-Block.ensures.ok)
       | stmt-in-Case+in_ok-case-in-Case w ↦ stmt-is s scope _ (Case _ _) old _ _ first _ _ (w.in-Case.is ∙ ap (Case _) (sym w.as_slice-in-Case.ensures)) w.body-is w.next-is w.in_ok-case-in-Case.ensures.ok
@@ -124,8 +124,8 @@ pub walk-take_site-body_site-requires : goal.walk-take_site-body_site-requires
 walk-take_site-body_site-requires t c =
     omega (arith, walk-site c.args.var.now c.args.source.now c.args.each.now c.args.body.now.own c.args.next.now c.stmt.new.next c.requires.room c.in_ok-stmt.ensures.ok.numbered)
 
-pub walk-take_site-site-requires : goal.walk-take_site-site-requires
-walk-take_site-site-requires t c =
+pub walk-take_site-walk_site-requires : goal.walk-take_site-walk_site-requires
+walk-take_site-walk_site-requires t c =
     omega (arith, c.take_site-body_site.ensures.left, walk-site c.args.var.now c.args.source.now c.args.each.now c.args.body.now.own c.args.next.now c.stmt.new.next c.requires.room c.in_ok-stmt.ensures.ok.numbered)
 
 pub walk-returns-clause-ok : goal.walk-returns-clause-ok
@@ -133,7 +133,7 @@ walk-returns-clause-ok t c =
     let s = c.args.setting.now in
     let scope = c.as_slice.ensures ∙ c.in_ok-inner.ensures in
     let body_left = c.take_site-body_site.ensures in
-    let left = c.take_site-site.ensures in
+    let left = c.take_site-walk_site.ensures in
     walk-added s c.args.scope.now c.args.body.now c.push_item.new.body c.args.next.now c.args.var.now c.args.source.now c.args.each.now c.in_ok-there.there c.no_body-made.result c.stmt.new.body c.stmt.new.next
     c.in_ok-there.ensures.ok (ap body_of c.no_body-made.ensures) (subst (λ z. IsStmtAdded s z c.args.each.now c.no_body-made.result c.stmt.new.body c.args.next.now c.stmt.new.next) scope c.in_ok-stmt.ensures.ok)
-    c.take_site-body_site.result c.take_site-site.result c.take_site-site.new.next body_left.taken (left.taken ∙ body_left.left) (omega (arith, left.left, body_left.left)) c.in_ok-push_item.ensures
+    c.take_site-body_site.result c.take_site-walk_site.result c.take_site-walk_site.new.next body_left.taken (left.taken ∙ body_left.left) (omega (arith, left.left, body_left.left)) c.in_ok-push_item.ensures
