@@ -1,8 +1,7 @@
 -- The parts of a checked source make its core form.
-use Rattle.std.proofs.Common.{◌≡◌, ℕ, ◌+◌, ◌^◌, ◌<◌, ◌≤◌, List, [], ◌∷◌, ◌++◌, Option, Some, None, map, flat_map, length, sum_by, slice_get, get_or, inl, inr, refl, sym, ◌∙◌, ap, subst, arith}
+use Rattle.std.proofs.Common.{◌≡◌, ℕ, ◌^◌, ◌<◌, ◌≤◌, List, [], ◌++◌, Option, Some, None, map, flat_map, length, sum_by, slice_get, refl, sym, ◌∙◌, ap, subst, arith}
 use Rattle.std.proofs.lemmas.Option.{get_or_from_slice_get}
 use Rattle.luo_model.specs.declared.program.Node.{Node}
-use Rattle.luo_model.specs.declared.program.Proc.{Proc}
 use Rattle.luo_model.specs.declared.program.Shape.{Shape}
 use Rattle.luo_model.specs.declared.program.Shape.TheVariants as shape
 use Rattle.luo_model.specs.declared.program.Site.{Site}
@@ -10,14 +9,13 @@ use Rattle.luo_model.specs.declared.program.Universe.{Universe}
 use Rattle.luo_model.specs.Invariant.{IsProgram, IsAllowed, inner_parts}
 use Rattle.luo_model.specs.Program as plain
 use Rattle.luo_model.specs.Program.{no_node}
-use Rattle.luo_model.specs.Scopes.{body_items}
-use Rattle.luo_model.specs.View.{Held, plain_of, procedure_of}
+use Rattle.luo_model.specs.View.{plain_of, procedure_of}
 use Rattle.luo_syntax.specs.declared.source.Source.{Source}
 use Rattle.luo_value_types.specs.declared.names.Meaning.TheVariants.{Measure}
 use Rattle.luo_value_types.specs.declared.rule.Breach.{Breach}
 use Rattle.luo_value_types.specs.declared.rule.Stop.{Stop}
 use Rattle.luo_value_types.specs.declared.setting.Setting.{Setting}
-use Rattle.luo_value_types.specs.Breaches.{◌or_if_none◌, StopsAt}
+use Rattle.luo_value_types.specs.Breaches.{StopsAt}
 use Rattle.luo_value_types.specs.Meanings as meanings
 use Rattle.luo_value_types.specs.Meanings.{procedure_use}
 use Rattle.luo_value_types.specs.Settings.{meant, shape_at, types_of}
@@ -25,14 +23,13 @@ use Rattle.luo_value_types.specs.Room.{HasMeasuresWithin, HasFewBranches}
 use Rattle.luo_value_types.proofs.ListFacts.{get_or-none}
 use Rattle.luo_value_types.proofs.StopLemmas.{StopsAt-left, StopsAt-right, StopsAt-first, StopsAt-then, none-append, none-or_if_none}
 use Rattle.luo_types.specs.Checks.{IsSource, IsWithinLimits, IsChecked, WalksTooMuch}
-use Rattle.luo_types.specs.Counted.{body_statements}
 use Rattle.luo_types.specs.Definitions.{definitions, measures, names_of}
 use Rattle.luo_types.specs.Nodes.{setting_of}
 use Rattle.luo_types.specs.ProceduresMade.{AreProcsMade}
 use Rattle.luo_types.specs.SitesFound.{sites_in, procedure_walks, procedure_items}
 use Rattle.luo_types.specs.TypeBreaches.{types_breaches, measures_breaches}
 use Rattle.luo_types.specs.Typed.{IsTyped}
-use Rattle.luo_types.specs.Whole.{breaches, procs_breaches, procs_core, with_sites, core, walk_count}
+use Rattle.luo_types.specs.Whole.{breaches, procs_breaches, procs_core, core, walk_count}
 use Rattle.luo_types.specs.declared.checking.Typed.{Typed}
 use Rattle.luo_types.proofs.CleanSource.{sound_all}
 use Rattle.luo_types.proofs.CoreAllowed.{allowed}

@@ -1,5 +1,5 @@
 -- The way from a definition round to itself.
-use Rattle.std.proofs.Common.{◌≡◌, ℕ, zero, suc, ◌-◌, ◌<◌, List, [], ◌∷◌, ◌++◌, Bool, true, false, cond, nat_eq, Option, Some, None, refl, ap, ◌∙◌, sym, subst, arith, append_assoc, ne_eqb}
+use Rattle.std.proofs.Common.{◌≡◌, ℕ, zero, suc, ◌-◌, ◌<◌, List, [], ◌∷◌, ◌++◌, cond, nat_eq, Option, Some, None, refl, ap, ◌∙◌, sym, subst, arith, append_assoc, ne_eqb}
 use Rattle.std.specs.Option.{option_map}
 use Rattle.luo_value_types.specs.declared.names.Meaning.{Meaning}
 use Rattle.luo_types.specs.Definitions.{Definition, next, name_of, way_within, circle, or_by}

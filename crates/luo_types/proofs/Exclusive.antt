@@ -1,5 +1,5 @@
 -- Each answer of a check excludes the others.
-use Rattle.std.proofs.Common.{◌≡◌, ℕ, ◌<◌, ◌≤◌, ◌⊎◌, inl, inr, List, [], ◌∷◌, ◌++◌, length, Result, Ok, Err, IfOk, IfErr, nat_lt, refl, sym, ◌∙◌, ap, subst, arith}
+use Rattle.std.proofs.Common.{◌≡◌, ℕ, ◌⊎◌, inl, inr, List, [], ◌∷◌, ◌++◌, length, Result, Ok, Err, IfOk, IfErr, nat_lt, refl, sym, ◌∙◌, ap, subst, arith}
 use Rattle.std.specs.List.{AllByRecursion}
 use Rattle.luo_model.specs.Program.{Program}
 use Rattle.luo_model.specs.View.{Held, plain_of}
@@ -11,7 +11,7 @@ use Rattle.luo_types.specs.declared.error.CountLimit.{CountLimit}
 use Rattle.luo_types.specs.declared.error.CountLimit.TheVariants as count
 use Rattle.luo_types.specs.Checks.{PassesFirst, IsWithinLimits, BreaksFirst, WalksTooMuch, IsChecked, IsUnchecked, IsRefusal, IsProgramAnswer}
 use Rattle.luo_types.specs.Counted.{most_parts, greatest_bound, greatest_by, definition_count, node_count, multiset_count, statement_count, passed, limits_passed}
-use Rattle.luo_types.specs.Whole.{breaches, walk_count, core}
+use Rattle.luo_types.specs.Whole.{breaches, walk_count}
 use Rattle.luo_types.proofs.NameFacts.{either_if}
 
 -- what is counted before all else

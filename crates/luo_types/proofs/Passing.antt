@@ -1,5 +1,5 @@
 -- Stops that are passed on.
-use Rattle.std.proofs.Common.{◌≡◌, List, Result, Ok, Err, IfErr}
+use Rattle.std.proofs.Common.{◌≡◌, Result, IfErr}
 use Rattle.std.specs.Result.{IsErrAnd}
 use Rattle.std.proofs.lemmas.Result.{err_from_is_err_and}
 use Rattle.luo_value_types.specs.declared.rule.Stop.{Stop}

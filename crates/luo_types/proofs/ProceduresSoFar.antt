@@ -1,9 +1,8 @@
 -- Procedures and analyze lines that are checked one behind the other.
-use Rattle.std.proofs.Common.{◌≡◌, ℕ, suc, ◌+◌, ◌*◌, ◌<◌, ◌≤◌, List, [], ◌∷◌, ◌++◌, Option, Some, None, map, flat_map, length, drop, get_or, sum_by, refl, sym, ◌∙◌, ap, subst, append_assoc, add-zero, add-one, arith}
+use Rattle.std.proofs.Common.{◌≡◌, ℕ, suc, ◌+◌, ◌*◌, ◌<◌, ◌≤◌, List, [], ◌∷◌, ◌++◌, Some, map, flat_map, length, drop, get_or, sum_by, refl, sym, ◌∙◌, ap, subst, append_assoc, add-one, arith}
 use Rattle.std.proofs.lemmas.List.{map-append, append-nil, drop_all}
 use Rattle.std.proofs.lemmas.List.Sums.{sum_by-cons}
 use Rattle.luo_model.specs.declared.program.Proc.{Proc}
-use Rattle.luo_model.specs.Program as plain
 use Rattle.luo_model.specs.View.{procedure_of}
 use Rattle.luo_syntax.specs.declared.names.Name.{Name}
 use Rattle.luo_syntax.specs.declared.source.ProcBody.{ProcBody}
@@ -11,7 +10,6 @@ use Rattle.luo_syntax.specs.declared.source.ProcBody.TheVariants.{Statements, Va
 use Rattle.luo_syntax.specs.declared.source.ProcDef.{ProcDef}
 use Rattle.luo_syntax.specs.declared.statements.Stmt.{Stmt}
 use Rattle.luo_syntax.specs.declared.values.SourceValue.{SourceValue}
-use Rattle.luo_value_types.specs.declared.names.Meaning.{Meaning}
 use Rattle.luo_value_types.specs.declared.names.Meaning.TheVariants.{Procedure}
 use Rattle.luo_value_types.specs.declared.rule.Breach.{Breach}
 use Rattle.luo_value_types.specs.declared.rule.Stop.{Stop}

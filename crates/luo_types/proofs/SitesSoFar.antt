@@ -1,9 +1,8 @@
 -- What is found in items and arms that stand one behind the other.
-use Rattle.std.proofs.Common.{◌≡◌, ℕ, suc, ◌+◌, ◌*◌, ◌<◌, ◌≤◌, zero, List, [], ◌∷◌, ◌++◌, Some, None, map, length, drop, get_or, slice_get, refl, sym, ◌∙◌, ap, subst, append_assoc, add-zero, arith, length-append}
+use Rattle.std.proofs.Common.{◌≡◌, ℕ, suc, ◌+◌, ◌<◌, ◌≤◌, zero, List, [], ◌∷◌, ◌++◌, Some, None, length, drop, get_or, slice_get, refl, sym, ◌∙◌, ap, subst, append_assoc, add-zero, arith}
 use Rattle.std.proofs.lemmas.List.{map-append, append-nil, drop_all}
 use Rattle.luo_model.specs.declared.body.Arm.{Arm}
-use Rattle.luo_model.specs.declared.body.Body.{Body}
-use Rattle.luo_model.specs.declared.body.Item.{Item, Call, Case, Forall}
+use Rattle.luo_model.specs.declared.body.Item.{Item}
 use Rattle.luo_model.specs.declared.program.Kind.TheVariants.{Sequence, Set, Cycle, Multiset, Powerset}
 use Rattle.luo_model.specs.declared.program.Shape.{Shape}
 use Rattle.luo_model.specs.declared.program.Shape.TheVariants as shape
@@ -12,11 +11,9 @@ use Rattle.luo_model.specs.Program.{Program, shape_of}
 use Rattle.luo_model.specs.Scopes.{Stand, stands, component, bound_nodes, node_at, body_sites, items_sites, item_sites, arms_sites, body_items, items_in, item_in, arms_in, walk_of, body_walks, items_walks, item_walks, arms_walks}
 use Rattle.luo_model.specs.View.{body_of, item_of, item_list}
 use Rattle.luo_value_types.specs.ValueLists.{arm_list}
-use Rattle.luo_value_types.proofs.CoreForms.{case_item}
 use Rattle.luo_types.specs.SitesFound.{nodes_of, IsFound}
 use Rattle.luo_types.specs.declared.sites.Found.{Found}
 use Rattle.luo_types.proofs.ArmsSoFar.{at-element, drop-get}
-use Rattle.luo_types.proofs.StatementSteps.{walk-item}
 
 walk_one : (s : Shape) → walk_of s ≤ 1
 walk_one (shape.Atom weight) = omega arith

@@ -1,5 +1,5 @@
 -- What statements charge and the sites that they take are bounded by their number.
-use Rattle.std.proofs.Common.{◌≡◌, ℕ, suc, ◌+◌, ◌*◌, ◌^◌, ◌≤◌, ◌<◌, List, [], ◌∷◌, Some, sum_by, arith}
+use Rattle.std.proofs.Common.{ℕ, suc, ◌+◌, ◌*◌, ◌≤◌, List, [], ◌∷◌, Some, sum_by, arith}
 use Rattle.std.proofs.lemmas.List.Sums.{sum_by-cons}
 use Rattle.luo_model.specs.Scopes.{greatest_charge}
 use Rattle.luo_syntax.specs.declared.statements.SourceArm.{SourceArm}

@@ -1,12 +1,11 @@
 -- How single statements are checked and added.
-use Rattle.std.proofs.Common.{◌≡◌, ℕ, zero, suc, ◌+◌, ◌*◌, ◌<◌, ◌≤◌, List, [], ◌∷◌, ◌++◌, Option, Some, None, true, length, nat_eq, sum_by, refl, sym, ◌∙◌, ap, subst, add-zero, add_assoc, arith}
+use Rattle.std.proofs.Common.{◌≡◌, ℕ, ◌+◌, ◌<◌, List, [], ◌∷◌, ◌++◌, Some, true, length, nat_eq, sum_by, refl, sym, ◌∙◌, ap, subst, add-zero, arith}
 use Rattle.std.proofs.lemmas.Bool.{eqb-true}
 use mathlib.Core.Former.{Count}
 use Rattle.luo_model.specs.declared.body.Arm.{Arm}
 use Rattle.luo_model.specs.declared.body.Body.{Body}
 use Rattle.luo_model.specs.declared.body.Item.{Item, Row_of-Item, end_of-Item, more_of-Item, Forall', items-the_row-Item, items_hidden-the_row-Item-0}
 use Rattle.luo_model.specs.declared.body.Item as done
-use Rattle.luo_model.specs.declared.program.Shape.{Shape}
 use Rattle.luo_model.specs.Program as plain
 use Rattle.luo_model.specs.Scopes.{stands, join_items}
 use Rattle.luo_model.specs.View.{body_of, item_of, item_list, items_of}
@@ -14,7 +13,6 @@ use Rattle.luo_syntax.specs.declared.names.Name.{Name}
 use Rattle.luo_syntax.specs.declared.statements.SourceArm.{SourceArm}
 use Rattle.luo_syntax.specs.declared.statements.Stmt.{Stmt, Skip, Charge, Call, Block, Case, Forall}
 use Rattle.luo_value_types.specs.declared.names.Meaning.TheVariants.{Procedure}
-use Rattle.luo_value_types.specs.declared.names.Meaning.{Meaning}
 use Rattle.luo_value_types.specs.declared.rule.Breach.{Breach}
 use Rattle.luo_value_types.specs.declared.rule.Stop.{Stop}
 use Rattle.luo_value_types.specs.declared.setting.Setting.{Setting}
@@ -24,15 +22,14 @@ use Rattle.luo_value_types.specs.Meanings.{measure_use, procedure_use, value_of,
 use Rattle.luo_value_types.specs.Patterns.{case_breaches}
 use Rattle.luo_value_types.specs.Settings.{meant, signature_meant, shape_at, found, place_of, argument_breaches, case_stands}
 use Rattle.luo_value_types.specs.Room.{HasRoom}
-use Rattle.luo_value_types.specs.ValueLists.{arm_list}
 use Rattle.luo_value_types.specs.ValueMade.{extended}
 use Rattle.luo_value_types.proofs.CoreForms.{case_item}
 use Rattle.luo_value_types.proofs.Joins.{items_none, item_list_append, extended_none, extended_empty}
 use Rattle.luo_value_types.proofs.StopLemmas.{none-append, case-arms}
 use Rattle.luo_types.specs.Counted.{stmt_statements}
-use Rattle.luo_types.specs.StatementBreaches.{walked, walk_breaches, stmt_breaches}
+use Rattle.luo_types.specs.StatementBreaches.{walk_breaches, stmt_breaches}
 use Rattle.luo_types.specs.StatementCore.{stmt_sites}
-use Rattle.luo_types.specs.StatementLists.{list_breaches, stmt_does, list_does, arm_list_breaches, arm_sites, arm_statements, arm_list_core}
+use Rattle.luo_types.specs.StatementLists.{list_breaches, stmt_does, arm_list_breaches, arm_sites, arm_statements, arm_list_core}
 use Rattle.luo_types.specs.StatementsMade.{IsStmtAdded, AreStmtsAdded, AreArmsMade, IsWalked, HasItem}
 use Rattle.luo_types.proofs.StatementRoom.{sites-within, sum_sites-within, room-inside}
 use Rattle.luo_types.proofs.StatementForms.{block-breaches, block-does, block-sites, block-statements, case-breaches, case-does, case-sites, case-statements, walk_scope, walk-breaches, walk-does, walk-sites, walk-statements}

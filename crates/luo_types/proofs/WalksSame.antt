@@ -1,5 +1,5 @@
 -- The walks of bodies are those over the types of the setting alone.
-use Rattle.std.proofs.Common.{◌≡◌, ℕ, ◌+◌, List, [], ◌∷◌, sum_by, refl, sym, ◌∙◌, ap, arith}
+use Rattle.std.proofs.Common.{◌≡◌, ℕ, ◌+◌, List, [], ◌∷◌, sum_by, refl, sym, ◌∙◌, ap}
 use Rattle.std.proofs.lemmas.List.Sums.{sum_by-cons}
 use Rattle.luo_model.specs.Program.{Procedure, Body, Does, Items, no_items, item, Item, Call, Case, Forall, Arms, no_arms, arm, shape_of}
 use Rattle.luo_model.specs.Scopes.{Stand, stands, component, node_at, bound_nodes, walk_of, body_walks, items_walks, item_walks, arms_walks}

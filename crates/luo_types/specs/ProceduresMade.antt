@@ -1,5 +1,5 @@
 -- What checking procedures gives.
-use Rattle.std.specs.Prelude.{◌≡◌, ℕ, ◌+◌, List, [], ◌∷◌, map, Option, Some}
+use Rattle.std.specs.Prelude.{◌≡◌, ℕ, ◌+◌, List, [], map, Option, Some}
 use Rattle.std.specs.Option.{option_map}
 use Rattle.luo_model.specs.declared.body.Body.{Body}
 use Rattle.luo_model.specs.declared.program.Proc.{Proc}

@@ -1,9 +1,9 @@
 -- What is found in finished bodies: the nodes of their sites, and their walks over multisets and powersets.
-use Rattle.std.specs.Prelude.{◌≡◌, ℕ, ◌+◌, List, [], ◌∷◌, ◌++◌, map, sum_by}
+use Rattle.std.specs.Prelude.{◌≡◌, ℕ, ◌+◌, List, [], ◌∷◌, ◌++◌, map}
 use Rattle.luo_model.specs.declared.program.Site.{Site}
-use Rattle.luo_model.specs.Invariant.{procedure_sites, sites_from}
-use Rattle.luo_model.specs.Program.{Program, Procedure, Item, Items, Arms, Body}
-use Rattle.luo_model.specs.Scopes.{Stand, body_sites, items_sites, item_sites, arms_sites, body_walks, body_items}
+use Rattle.luo_model.specs.Invariant.{sites_from}
+use Rattle.luo_model.specs.Program.{Program, Procedure}
+use Rattle.luo_model.specs.Scopes.{body_walks, body_items}
 use Rattle.luo_types.specs.declared.sites.Found.{Found}
 
 -- the nodes of sites

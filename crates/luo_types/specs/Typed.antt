@@ -1,8 +1,7 @@
 -- The parts of a source that breaks no rule.
-use Rattle.std.specs.Prelude.{◌≡◌, List, [], ◌++◌, map, flat_map}
+use Rattle.std.specs.Prelude.{◌≡◌, [], map}
 use Rattle.luo_model.specs.View.{procedure_of}
 use Rattle.luo_syntax.specs.declared.source.Source.{Source}
-use Rattle.luo_value_types.specs.declared.rule.Breach.{Breach}
 use Rattle.luo_value_types.specs.Meanings as meanings
 use Rattle.luo_value_types.specs.Meanings.{procedure_use}
 use Rattle.luo_value_types.specs.Settings.{meant}

@@ -1,4 +1,4 @@
-use Rattle.std.proofs.Common.{◌≡◌, ◌≤◌, sym, ◌∙◌, ap, subst, length, sum_by, flat_map, [], arith}
+use Rattle.std.proofs.Common.{◌≤◌, sym, ◌∙◌, ap, subst, length, sum_by, flat_map}
 use Rattle.luo_value_types.specs.Breaches.{StopsAt}
 use Rattle.luo_value_types.specs.Meanings.{procedure_use}
 use Rattle.luo_value_types.specs.Settings.{meant}

@@ -1,4 +1,4 @@
-use Rattle.std.proofs.Common.{◌≡◌, ◌≤◌, map, sum_by, ap, ◌∙◌, sym, subst}
+use Rattle.std.proofs.Common.{◌≤◌, map, sum_by, ap, ◌∙◌, sym, subst}
 use Rattle.luo_model.specs.View.{procedure_of}
 use Rattle.luo_value_types.specs.Settings.{types_of}
 use Rattle.luo_types.specs.SitesFound.{sites_in, procedure_walks, procedure_items}

@@ -1,4 +1,4 @@
-use Rattle.std.proofs.Common.{sym, ◌∙◌, refl}
+use Rattle.std.proofs.Common.{◌∙◌}
 use Rattle.luo_value_types.specs.Settings.{types_of}
 use Rattle.luo_types.proofs.SitesInOrder.{whole-few}
 use Rattle.luo_types.proofs.procedure_sites.push_procedure.Goals as goal

@@ -1,4 +1,4 @@
-use Rattle.std.proofs.Common.{◌≡◌, ◌+◌, length, sym, ◌∙◌, ap, subst, drop, refl, arith, rules}
+use Rattle.std.proofs.Common.{length, sym, ◌∙◌, ap, subst, refl, arith, rules}
 use Rattle.luo_model.specs.Scopes.{stands}
 use Rattle.luo_model.specs.View.{body_of}
 use Rattle.luo_syntax.specs.declared.statements.Stmt.{Skip, Charge, Call, Block, Case, Forall}
@@ -6,14 +6,13 @@ use Rattle.luo_value_types.specs.Breaches.{StopsAt}
 use Rattle.luo_value_types.specs.Settings.{shape_at}
 use Rattle.luo_value_types.specs.Room.{HasRoom}
 use Rattle.luo_value_types.specs.Stands.{stand_of}
-use Rattle.luo_value_types.proofs.StopLemmas.{StopsAt-pattern, StopsAt-body, arm-body}
+use Rattle.luo_value_types.proofs.StopLemmas.{StopsAt-pattern}
 use Rattle.luo_syntax.specs.declared.statements.Stmt.TheFolds.{the_lemmas}
 use Rattle.luo_types.specs.Counted.{stmt_statements}
 use Rattle.luo_types.specs.StatementBreaches.{stmt_breaches}
 use Rattle.luo_types.specs.StatementsMade.{IsStmtAdded}
 use Rattle.luo_types.proofs.ArmsSoFar.{at-arm, arms-stop, arms-more, arms-all}
 use Rattle.luo_types.proofs.Passing.{passed-on}
-use Rattle.luo_types.proofs.StatementForms.{walk_scope}
 use Rattle.luo_types.proofs.StatementsSoFar.{at-stmt, so_far-more, so_far-all}
 use Rattle.luo_types.proofs.StatementSteps.{skip-added, charge-added, case-variable_stops, case-stops, case-added, case-room, case-site, case-even, walk-variable_stops, walk-stops, walk-added, walk-room, walk-site, block-room, block-added, block-stops, stmt-is}
 use Rattle.luo_types.proofs.statements.+statements.Goals as goal
