@@ -1,5 +1,5 @@
 -- The way from a definition round to itself.
-use Rattle.std.proofs.Common.{◌≡◌, ℕ, zero, suc, ◌-◌, ◌<◌, List, [], ◌∷◌, ◌++◌, Bool, true, false, cond, nat_eq, Option, Some, None, refl, ap, ◌∙◌, sym, subst, arith, append_assoc, ne_eqb}
+use Rattle.std.proofs.Common.{◌≡◌, ℕ, zero, suc, ◌-◌, ◌<◌, List, [], ◌∷◌, ◌++◌, cond, nat_eq, Option, Some, None, refl, ap, ◌∙◌, sym, subst, arith, append_assoc, ne_eqb}
 use Rattle.std.specs.Option.{option_map}
 use Rattle.luo_value_types.specs.declared.names.Meaning.{Meaning}
 use Rattle.luo_types.specs.Definitions.{Definition, next, name_of, way_within, circle, or_by}
@@ -15,12 +15,14 @@ map_behind way name (Some rest) = ap Some (sym (append_assoc way (name ∷ []) r
 goes_behind : (names : List (List ℕ × Meaning)) (defs : List Definition) (home : ℕ) (way : List (List ℕ)) (steps at named : ℕ)
     → Goes names defs home way steps at → 0 < steps → next names defs at ≡ Some named → (named ≡ home → ⊥) → Goes names defs home (way ++ name_of defs named ∷ []) (steps - 1) named
 goes_behind names defs home way zero at named g h e other = absurd (omega arith)
-goes_behind names defs home way (suc k) at named g h e other = record { is =
-    g.is
-    ∙ ap (λ o. option_map (λ rest. way ++ rest) (or_by o (λ j. cond (nat_eq j home) (Some (name_of defs home ∷ [])) (option_map (λ way. name_of defs j ∷ way) (way_within names defs home k j))) None)) e
-    ∙ ap (λ b. option_map (λ rest. way ++ rest) (cond b (Some (name_of defs home ∷ [])) (option_map (λ way. name_of defs named ∷ way) (way_within names defs home k named)))) (ne_eqb named home other)
-    ∙ map_behind way (name_of defs named) (way_within names defs home k named)
-    ∙ ap (λ m. option_map (λ rest. (way ++ name_of defs named ∷ []) ++ rest) (way_within names defs home m named)) (sym less) }
+goes_behind names defs home way (suc k) at named g h e other = record {
+  is =
+      g.is
+      ∙ ap (λ o. option_map (λ rest. way ++ rest) (or_by o (λ j. cond (nat_eq j home) (Some (name_of defs home ∷ [])) (option_map (λ way. name_of defs j ∷ way) (way_within names defs home k j))) None)) e
+      ∙ ap (λ b. option_map (λ rest. way ++ rest) (cond b (Some (name_of defs home ∷ [])) (option_map (λ way. name_of defs named ∷ way) (way_within names defs home k named)))) (ne_eqb named home other)
+      ∙ map_behind way (name_of defs named) (way_within names defs home k named)
+      ∙ ap (λ m. option_map (λ rest. (way ++ name_of defs named ∷ []) ++ rest) (way_within names defs home m named)) (sym less);
+}
   where
     less : suc k - 1 ≡ k
     less = omega arith

@@ -1,5 +1,5 @@
 -- Counts in the lists and boxes of type expressions.
-use Rattle.std.proofs.Common.{◌≡◌, ℕ, suc, ◌+◌, max, List, [], ◌∷◌, ◌++◌, length, refl, ap, ◌∙◌, sym, subst, arith, Option, sum_by}
+use Rattle.std.proofs.Common.{◌≡◌, ℕ, suc, ◌+◌, max, List, length, refl, ap, ◌∙◌, sym, subst, arith, Option, sum_by}
 use mathlib.Core.Former.{Count}
 use denote.Hole.Carrier.{hidden}
 use Rattle.std.proofs.lemmas.List.Sums.{sum_by-cons}
@@ -72,11 +72,11 @@ pub record CollCounts (e : TypeExpr) (kind : Kind) (part : TypeExpr) (bound : Op
 pub coll_counts : (kind : Kind) (part : TypeExpr) (bound : Option Bound) (at : ℕ) → CollCounts (Coll kind part bound at) kind part bound
 unfolding Rattle.luo_syntax.specs.declared.types.TypeExpr.TheBlock.hidden-the_row-TypeExpr-1 hidden
 coll_counts kind part bound at = record {
-    nodes = omega arith;
-    multisets = omega arith;
-    parts = omega arith;
-    greatest = omega arith;
-  }
+  nodes = omega arith;
+  multisets = omega arith;
+  parts = omega arith;
+  greatest = omega arith;
+}
 
 pub counts_of_union : (e : TypeExpr) (es parts : List TypeExpr) → e ≡ Union es → parts ≡ es → Counts e parts
 counts_of_union e es parts is same = subst (λ e. Counts e parts) (ap Union same ∙ sym is) (union_counts parts)

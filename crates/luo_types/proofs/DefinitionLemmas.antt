@@ -1,5 +1,5 @@
 -- Definitions one behind the other.
-use Rattle.std.proofs.Common.{◌≡◌, ℕ, suc, ◌+◌, ◌<◌, ◌≤◌, List, [], ◌∷◌, ◌++◌, length, get_or, drop, flat_map, sum_by, append_assoc, add-one, refl, ap, ◌∙◌, sym, arith}
+use Rattle.std.proofs.Common.{◌≡◌, ℕ, suc, ◌+◌, ◌<◌, ◌≤◌, List, [], ◌++◌, length, get_or, drop, flat_map, sum_by, append_assoc, add-one, ap, ◌∙◌, sym, arith}
 use Rattle.std.proofs.lemmas.List.Sums.{sum_by-cons}
 use Rattle.luo_model.specs.declared.program.Universe.{Universe}
 use Rattle.luo_model.specs.declared.program.Node.{Node}
@@ -7,7 +7,7 @@ use Rattle.luo_value_types.specs.declared.names.Meaning.{Meaning}
 use Rattle.luo_types.specs.Counted.{own_nodes, greatest_bound, greatest_by}
 use Rattle.luo_types.specs.Definitions.{Definition}
 use Rattle.luo_types.specs.TypeBreaches.{expr_breaches}
-use Rattle.luo_types.specs.Nodes.{Spot, nodes_at, nodes_from}
+use Rattle.luo_types.specs.Nodes.{nodes_at, nodes_from}
 use Rattle.luo_types.proofs.NodeLemmas.{none-of-append, drop_at}
 
 -- the next of definitions, and those behind it

@@ -1,5 +1,5 @@
 -- Breaches in the lists and boxes of type expressions.
-use Rattle.std.proofs.Common.{◌≡◌, ℕ, List, [], ◌∷◌, ◌++◌, flat_map, append-nil, refl, ap, ◌∙◌, sym, Option}
+use Rattle.std.proofs.Common.{◌≡◌, ℕ, List, ◌++◌, flat_map, append-nil, refl, ap, ◌∙◌, sym, Option}
 use mathlib.Core.Former.{Count}
 use denote.Hole.Carrier.{hidden}
 use Rattle.luo_model.specs.declared.program.Kind.{Kind}
@@ -7,7 +7,6 @@ use Rattle.luo_model.specs.declared.program.Universe.{Universe}
 use Rattle.luo_syntax.specs.declared.types.Bound.{Bound}
 use Rattle.luo_syntax.specs.declared.types.TypeExpr.{TypeExpr, Union, Union', Product, Product', Coll, Row_of-TypeExpr, end_of-TypeExpr, more_of-TypeExpr, items-the_row-TypeExpr, items_hidden-the_row-TypeExpr-0}
 use Rattle.luo_value_types.specs.declared.names.Meaning.{Meaning}
-use Rattle.luo_value_types.specs.declared.rule.Breach.{Breach}
 use Rattle.luo_types.specs.TypeBreaches.{kind_breaches, bound_breaches, expr_breaches, exprs_breaches}
 
 module _ (universe : Universe) (names : List (List ℕ × Meaning)) where

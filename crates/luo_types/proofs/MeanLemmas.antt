@@ -1,5 +1,5 @@
 -- Names mean definitions that are there.
-use Rattle.std.proofs.Common.{◌≡◌, ℕ, suc, ◌+◌, ◌<◌, Bool, true, false, cond, List, [], ◌∷◌, ◌++◌, length, Option, Some, None, is_some, ◌⊎◌, inl, inr, refl, ap, ◌∙◌, sym, subst, arith}
+use Rattle.std.proofs.Common.{◌≡◌, ℕ, suc, ◌+◌, ◌<◌, true, false, cond, List, [], ◌∷◌, ◌++◌, length, Option, Some, None, is_some, ◌⊎◌, inl, inr, refl, ap, ◌∙◌, sym, arith}
 use Rattle.std.specs.Str.{bytes_eq}
 use Rattle.luo_syntax.specs.declared.source.ProcDef.{ProcDef}
 use Rattle.luo_syntax.specs.declared.source.Source.{Source}
@@ -24,8 +24,9 @@ either names more text =
 
 one_more : (names : List (List ℕ × Meaning)) (more : List ℕ × Meaning) (n : ℕ) → MeanBelow names n → ((i : ℕ) → definition_meant (Some more.1) ≡ Some i → i < n) → MeanBelow (with_name names more) n
 one_more names more n below here text i e = elim (either names more text) [
-    inl same ↦ below text i (ap definition_meant (sym same) ∙ e)
-  | inr new ↦ here i (ap definition_meant (sym new) ∙ e) ]
+  | inl same ↦ below text i (ap definition_meant (sym same) ∙ e)
+  | inr new ↦ here i (ap definition_meant (sym new) ∙ e)
+]
 
 more_definitions : (names : List (List ℕ × Meaning)) (i : ℕ) (ds : List Definition) → MeanBelow names i → MeanBelow (with_definitions names i ds) (i + length ds)
 more_definitions names i [] below text j e = omega (arith, below text j e)

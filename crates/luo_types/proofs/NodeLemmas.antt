@@ -1,5 +1,5 @@
 -- Nodes in the lists and boxes of type expressions.
-use Rattle.std.proofs.Common.{◌≡◌, ℕ, suc, ◌+◌, ◌<◌, ◌≤◌, max, List, [], ◌∷◌, ◌++◌, length, get_or, drop, flat_map, sum_by, append-nil, append_assoc, refl, ap, ◌∙◌, sym, arith, Option}
+use Rattle.std.proofs.Common.{◌≡◌, ℕ, ◌+◌, ◌<◌, ◌≤◌, List, [], ◌∷◌, ◌++◌, length, get_or, drop, flat_map, sum_by, append-nil, append_assoc, refl, ap, ◌∙◌, sym, arith, Option}
 use mathlib.Core.Former.{Count}
 use denote.Hole.Carrier.{hidden}
 use Rattle.std.proofs.lemmas.List.Sums.{sum_by-cons}
@@ -16,7 +16,7 @@ use Rattle.std.proofs.lemmas.List.{drop_more}
 use Rattle.luo_types.specs.Counted.{own_nodes, greatest_bound, greatest_by}
 use Rattle.luo_types.specs.Definitions.{Definition}
 use Rattle.luo_types.specs.TypeBreaches.{kind_breaches, expr_breaches, low_of, high_of}
-use Rattle.luo_types.specs.Nodes.{Spot, behind, part_at, parts_at, boxed_part_at, nodes_at, all_nodes_at}
+use Rattle.luo_types.specs.Nodes.{Spot, behind, part_at, parts_at, nodes_at, all_nodes_at}
 use Rattle.luo_types.specs.NodeLists.{parts_of, nodes_of}
 use Rattle.luo_types.proofs.ExpressionLemmas.{collection_breaches}
 

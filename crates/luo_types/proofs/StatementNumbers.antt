@@ -1,5 +1,5 @@
 -- Statements in the lists and boxes of statements.
-use Rattle.std.proofs.Common.{◌≡◌, ℕ, suc, ◌+◌, List, [], ◌∷◌, refl, ap, ◌∙◌, sym, arith, sum_by}
+use Rattle.std.proofs.Common.{◌≡◌, suc, ◌+◌, List, refl, ap, ◌∙◌, sym, arith, sum_by}
 use mathlib.Core.Former.{Count}
 use denote.Hole.Carrier.{hidden}
 use Rattle.std.proofs.lemmas.List.Sums.{sum_by-cons}

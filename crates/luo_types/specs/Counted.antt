@@ -6,7 +6,6 @@ use Rattle.luo_syntax.specs.declared.types.Range.{Range}
 use Rattle.luo_syntax.specs.declared.types.Range.TheVariants.{Exactly, AtMost, AtLeast, Between}
 use Rattle.luo_syntax.specs.declared.types.Bound.{Bound}
 use Rattle.luo_syntax.specs.declared.types.TypeExpr.{TypeExpr, Named, Epsilon, Atom, Union', Product', Coll', Row_of-TypeExpr, end_of-TypeExpr, more_of-TypeExpr}
-use Rattle.luo_syntax.specs.declared.types.TypeDef.{TypeDef}
 use Rattle.luo_syntax.specs.declared.statements.Stmt.{Stmt, Skip, Charge, Call, Block', Case', Forall', Row_of-Stmt, end_of-Stmt, more_of-Stmt, Row_of-SourceArm, end_of-SourceArm, more_of-SourceArm}
 use Rattle.luo_syntax.specs.declared.source.ProcBody.{ProcBody}
 use Rattle.luo_syntax.specs.declared.source.ProcBody.TheVariants.{Statements, Value}

@@ -81,7 +81,12 @@ pub(crate) fn count_expr(expr: &TypeExpr) -> TypeCounts
         TypeExpr::Atom { .. } => return TypeCounts::NODE,
         TypeExpr::Union { parts } => return count_parts(parts.as_slice()),
         TypeExpr::Product { parts, .. } => return count_parts(parts.as_slice()),
-        TypeExpr::Coll { kind, part, bound, .. } => return count_collection(*kind, part.get(), *bound),
+        TypeExpr::Coll {
+            kind,
+            part,
+            bound,
+            ..
+        } => return count_collection(*kind, part.get(), *bound),
     }
 }
 

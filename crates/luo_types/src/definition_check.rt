@@ -15,12 +15,7 @@ use luo_value_types::{Breach, Meaning, Names, Rule, Stop};
 use std::alloc::Global;
 
 // Checks the names of definitions from this number on.
-fn check_new_types(
-    alloc: Global,
-    names: &Names,
-    first: usize,
-    owners: &[Name],
-) -> Result<(), Stop>
+fn check_new_types(alloc: Global, names: &Names, first: usize, owners: &[Name]) -> Result<(), Stop>
     requires { first + length owners.now ≤ 64 }
     ensures ok { OnOk result (new_types names.now first owners.now ≡ []) }
     ensures stops { IfErr result (λ s. StopsAt (new_types names.now first owners.now) s) }
@@ -78,12 +73,7 @@ fn check_circles(
 }
 
 // Checks the definitions of one line, from this number on.
-fn check_type(
-    checker: &Checker,
-    defs: &[Entry],
-    first: usize,
-    def: &TypeDef,
-) -> Result<(), Stop>
+fn check_type(checker: &Checker, defs: &[Entry], first: usize, def: &TypeDef) -> Result<(), Stop>
     requires { first + length def.now.names ≤ 64 }
     ensures ok { OnOk result (type_breaches checker.now.universe checker.now.names.now defs.now first def.now ≡ []) }
     ensures stops { IfErr result (λ s. StopsAt (type_breaches checker.now.universe checker.now.names.now defs.now first def.now) s) }
@@ -95,11 +85,7 @@ fn check_type(
 }
 
 /// Checks the definitions.
-pub(crate) fn check_types(
-    checker: &Checker,
-    defs: &[Entry],
-    types: &[TypeDef],
-) -> Result<(), Stop>
+pub(crate) fn check_types(checker: &Checker, defs: &[Entry], types: &[TypeDef]) -> Result<(), Stop>
     requires { sum_by (λ d. length d.names) types.now ≤ 64 }
     ensures ok { OnOk result (types_breaches checker.now.universe checker.now.names.now defs.now 0 types.now ≡ []) }
     ensures stops { IfErr result (λ s. StopsAt (types_breaches checker.now.universe checker.now.names.now defs.now 0 types.now) s) }
@@ -123,7 +109,12 @@ pub(crate) fn check_measures(
 {
     for (number, measure) in measures.iter().enumerate() {
         let value = measure.value;
-        check_name(alloc, names, measure.name, Meaning::Measure { number, value })?;
+        check_name(
+            alloc,
+            names,
+            measure.name,
+            Meaning::Measure { number, value },
+        )?;
     }
     Ok(())
 }

@@ -16,7 +16,6 @@ pub(crate) struct Entry<'s> {
 
 impl<'s> Model for Entry<'s> {
     ghost use Rattle.luo_types.specs.Definitions.{Definition};
-
     ghost use Rattle.luo_syntax.specs.contracts.types.TypeExpr as expr;
     ghost use Rattle.std.specs.Coded.{codes};
 

@@ -30,12 +30,21 @@ impl<'n> Checker<'n> {
         match expr {
             TypeExpr::Named(name) => return self.named(name),
             TypeExpr::Epsilon { .. } => return Ok(()),
-            TypeExpr::Atom { weight, weight_at, .. } => {
+            TypeExpr::Atom {
+                weight,
+                weight_at,
+                ..
+            } => {
                 return check_weight(self.alloc, self.universe, *weight, *weight_at);
             }
             TypeExpr::Union { parts } => return self.exprs(parts.as_slice()),
             TypeExpr::Product { parts, .. } => return self.exprs(parts.as_slice()),
-            TypeExpr::Coll { kind, part, bound, at } => {
+            TypeExpr::Coll {
+                kind,
+                part,
+                bound,
+                at,
+            } => {
                 return self.collection(*kind, part.get(), *bound, *at);
             }
         }

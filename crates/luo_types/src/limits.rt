@@ -11,12 +11,19 @@ use luo_num::{marked_add, marked_mul};
 use luo_syntax::{Source, TypeDef};
 
 const DEFINITIONS: u128 = 64;
+
 const NODES: u128 = 128;
+
 const PARTS: usize = 64;
+
 const BOUNDS: u128 = 100;
+
 const MULTISETS: u128 = 32;
+
 const PROCEDURES: usize = 64;
+
 const STATEMENTS: u128 = 1024;
+
 const ANALYSES: usize = 16;
 
 // Counts in a definition, with a copy of the right side for each name.

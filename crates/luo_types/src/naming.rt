@@ -22,7 +22,11 @@ fn add_measures(alloc: Global, names: &mut Names, measures: &[Measured]) -> Resu
 {
     for (number, measure) in measures.iter().enumerate() {
         let value = measure.value;
-        names.add(alloc, measure.name.text.as_slice(), Meaning::Measure { number, value })?;
+        names.add(
+            alloc,
+            measure.name.text.as_slice(),
+            Meaning::Measure { number, value },
+        )?;
     }
     Ok(())
 }

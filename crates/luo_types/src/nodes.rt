@@ -58,7 +58,12 @@ pub(crate) fn put(
         TypeExpr::Product { parts, .. } => {
             return put_product(parts.as_slice(), scheme, owner, at, nodes);
         }
-        TypeExpr::Coll { kind, part, bound, .. } => {
+        TypeExpr::Coll {
+            kind,
+            part,
+            bound,
+            ..
+        } => {
             return put_collection(part.get(), *kind, *bound, scheme, owner, at, nodes);
         }
     }
@@ -175,12 +180,7 @@ fn put_all(
 }
 
 // Puts an atom.
-fn put_atom(
-    owner: usize,
-    at: Spot,
-    weight: u32,
-    nodes: &mut Items<Node>,
-) -> Result<(), NoMemory>
+fn put_atom(owner: usize, at: Spot, weight: u32, nodes: &mut Items<Node>) -> Result<(), NoMemory>
     ensures { OnOk result (nodes.new ≡ nodes.old ++ record { shape = shape.Atom weight; owner = owner; place = at.place } ∷ []) }
 {
     nodes.push(Node {

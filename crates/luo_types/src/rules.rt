@@ -19,13 +19,8 @@ fn is_meaning(meant: Option<Meaning>, own: Meaning) -> bool
 {
     match (meant, own) {
         (Some(Meaning::Definition(i)), Meaning::Definition(j)) => i == j,
-        (
-            Some(Meaning::Measure { number, .. }),
-            Meaning::Measure {
-                number: other,
-                ..
-            },
-        ) => number == other,
+        (Some(Meaning::Measure { number, .. }), Meaning::Measure { number: other, .. }) => number
+            == other,
         (Some(Meaning::Procedure(f)), Meaning::Procedure(g)) => f == g,
         _ => false,
     }

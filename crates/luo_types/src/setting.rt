@@ -39,7 +39,13 @@ fn core_nodes(scheme: &Scheme) -> Result<Items<Node>, NoMemory>
     let mut nodes = Items::new(scheme.alloc);
     let mut node = 0;
     for (owner, def) in scheme.defs.as_slice().iter().enumerate() {
-        put(def.right, scheme, owner, Spot { node, place: 0 }, &mut nodes)?;
+        put(
+            def.right,
+            scheme,
+            owner,
+            Spot { node, place: 0 },
+            &mut nodes,
+        )?;
         node += count_expr(def.right).nodes as usize;
     }
     Ok(nodes)

@@ -55,8 +55,20 @@ fn checked<'s>(alloc: Global, source: &'s Source) -> Result<Scheme<'s>, Stop>
     let types = source.types.as_slice();
     let defs = definitions(alloc, types)?;
     let measured = measures(alloc, source.measures.as_slice())?;
-    let names = names_of(alloc, defs.as_slice(), measured.as_slice(), source.procs.as_slice())?;
-    check_all(alloc, source.universe, &names, defs.as_slice(), measured.as_slice(), types)?;
+    let names = names_of(
+        alloc,
+        defs.as_slice(),
+        measured.as_slice(),
+        source.procs.as_slice(),
+    )?;
+    check_all(
+        alloc,
+        source.universe,
+        &names,
+        defs.as_slice(),
+        measured.as_slice(),
+        types,
+    )?;
     let scheme = Scheme::new(alloc, source.universe, names, defs)?;
     Ok(scheme)
 }

@@ -1,5 +1,4 @@
-use Rattle.std.proofs.Common.{◌≡◌, ◌++◌, map, take, List}
-use Rattle.luo_types.specs.Definitions.{Definition}
+use Rattle.std.proofs.Common.{◌≡◌, ◌++◌, map, take}
 use Rattle.luo_types.proofs.definitions.put_copies.Given as goal
 
 abbrev pub invariant-loop-name : goal.invariant-loop-name

@@ -1,4 +1,4 @@
-use Rattle.std.proofs.Common.{◌∙◌, sym, arith}
+use Rattle.std.proofs.Common.{◌∙◌, sym}
 use Rattle.luo_types.proofs.LinkLemmas.{node_next}
 use Rattle.luo_types.proofs.links.node_of.Goals as goal
 

@@ -1,10 +1,8 @@
-use Rattle.std.proofs.Common.{◌≡◌, ◌∙◌, ◌++◌, OnOk, subst, sym, ap, arith, rules}
-use Rattle.std.proofs.lemmas.Grind.{common_steps}
+use Rattle.std.proofs.Common.{◌≡◌, ◌∙◌, ◌++◌, OnOk, subst, ap, arith}
 use Rattle.std.proofs.lemmas.List.Sums.{get_or-le-sum_by}
 use Rattle.luo_types.specs.Counted.{own_nodes}
-use Rattle.luo_types.specs.Nodes.{nodes_at}
 use Rattle.luo_types.proofs.CountLemmas.{counts_of_union, counts_of_product, counts_of_collection}
-use Rattle.luo_types.proofs.ExpressionLemmas.{union_breaches, product_breaches, collection_breaches}
+use Rattle.luo_types.proofs.ExpressionLemmas.{union_breaches, product_breaches}
 use Rattle.luo_types.proofs.NodeLemmas.{next_of, nodes_next, union_nodes, product_nodes, collection_nodes, collection_clean}
 use Rattle.luo_types.proofs.nodes.+nodes.Goals as goal
 
@@ -44,9 +42,10 @@ put_all-put-requires t c =
 pub put_all-loop-expr-preserved : goal.put_all-loop-expr-preserved
 put_all-loop-expr-preserved t c =
     let inv = c.loop-expr.invariant in
-    let next = next_of c.args.scheme.now.universe c.args.scheme.now.names c.loop-expr.spot c.args.exprs.now c.loop-expr.expr-index c.expr-item.result c.loop-expr-test.true c.expr-item.is inv.0 inv.2 inv.3 in
-    (omega (arith, next.room, c.count_expr.ensures.nodes, ap (λ s. s.node) c.behind-spot.ensures),
-    omega (arith, inv.1, ap (λ s. s.node) c.behind-spot.ensures, ap (λ s. s.place) c.behind-spot.ensures),
-    next.clean_rest,
-    next.small_rest,
-    nodes_next _ _ c.args.owner c.loop-expr.spot c.behind-spot.result c.args.exprs.now c.loop-expr.expr-index c.expr-item.result c.loop-expr.nodes c.put.new.nodes c.count_expr.result.nodes c.loop-expr-test.true c.expr-item.is (omega (arith, next.room, c.count_expr.ensures.nodes)) c.behind-spot.ensures c.in_ok-put.ensures ∙ inv.4)
+    let next = next_of c.args.scheme.now.universe c.args.scheme.now.names c.loop-expr.spot c.args.exprs.now c.loop-expr.expr-index c.expr-item.result c.loop-expr-test.true c.expr-item.is inv.0 inv.2 inv.3 in (
+      omega (arith, next.room, c.count_expr.ensures.nodes, ap (λ s. s.node) c.behind-spot.ensures),
+      omega (arith, inv.1, ap (λ s. s.node) c.behind-spot.ensures, ap (λ s. s.place) c.behind-spot.ensures),
+      next.clean_rest,
+      next.small_rest,
+      nodes_next _ _ c.args.owner c.loop-expr.spot c.behind-spot.result c.args.exprs.now c.loop-expr.expr-index c.expr-item.result c.loop-expr.nodes c.put.new.nodes c.count_expr.result.nodes c.loop-expr-test.true c.expr-item.is (omega (arith, next.room, c.count_expr.ensures.nodes)) c.behind-spot.ensures c.in_ok-put.ensures ∙ inv.4,
+    )

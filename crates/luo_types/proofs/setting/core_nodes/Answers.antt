@@ -1,4 +1,4 @@
-use Rattle.std.proofs.Common.{◌≡◌, ◌∙◌, ◌++◌, ap, arith}
+use Rattle.std.proofs.Common.{◌∙◌, ◌++◌, ap, arith}
 use Rattle.luo_types.specs.Counted.{own_nodes}
 use Rattle.luo_types.specs.Definitions.{Definition}
 use Rattle.luo_types.specs.TypeBreaches.{expr_breaches}
@@ -18,10 +18,11 @@ loop-owner-preserved c =
     let s = c.args.scheme.now in
     let inv = c.loop-owner.invariant in
     let next = next_definition s.universe s.names c.loop-owner.node c.as_slice-def-items.result.now c.loop-owner.owner c.def-item.result c.loop-owner-test.true c.def-item.is inv.0 inv.1 inv.2 in
-    let same = ap (λ (d : Definition). own_nodes d.right) c.def.view_is in
-    (omega (arith, next.room, c.count_expr.ensures.nodes, same),
-    next.clean_rest,
-    next.small_rest,
-    nodes_from_next s.names s.defs.items c.loop-owner.node c.as_slice-def-items.result.now c.loop-owner.owner c.def-item.result c.loop-owner.nodes c.put.new.nodes c.count_expr.result.nodes c.loop-owner-test.true c.def-item.is
-    (omega (arith, next.room, c.count_expr.ensures.nodes, same))
-    (c.in_ok-put.ensures ∙ ap (λ (d : Definition). c.loop-owner.nodes ++ nodes_at s.names s.defs.items c.loop-owner.owner (record { node = c.loop-owner.node; place = 0 }) d.right) c.def.view_is) ∙ inv.3)
+    let same = ap (λ (d : Definition). own_nodes d.right) c.def.view_is in (
+      omega (arith, next.room, c.count_expr.ensures.nodes, same),
+      next.clean_rest,
+      next.small_rest,
+      nodes_from_next s.names s.defs.items c.loop-owner.node c.as_slice-def-items.result.now c.loop-owner.owner c.def-item.result c.loop-owner.nodes c.put.new.nodes c.count_expr.result.nodes c.loop-owner-test.true c.def-item.is
+          (omega (arith, next.room, c.count_expr.ensures.nodes, same))
+          (c.in_ok-put.ensures ∙ ap (λ (d : Definition). c.loop-owner.nodes ++ nodes_at s.names s.defs.items c.loop-owner.owner (record { node = c.loop-owner.node; place = 0 }) d.right) c.def.view_is) ∙ inv.3,
+    )

@@ -1,4 +1,4 @@
-use Rattle.std.proofs.Common.{◌≡◌, ℕ, ◌∙◌, List, flat_map, IfErr, ap, subst, arith, rules}
+use Rattle.std.proofs.Common.{◌∙◌, flat_map, IfErr, ap, subst, rules}
 use Rattle.luo_value_types.specs.Breaches.{StopsAt}
 use Rattle.luo_types.specs.Definitions.{copies, values}
 use Rattle.luo_types.proofs.TypesLemmas.{known_names, known_breaches, known_below, few}
