@@ -11,6 +11,3 @@ mod values;
 
 pub use laws::canonical_reads_back;
 pub use source::print_source;
-
-#[cfg(test)]
-mod tests;

@@ -1,6 +1,7 @@
 -- What holds of all sources.
-use Rattle.std.specs.Prelude.{◌≡◌, ◌≤◌}
+use Rattle.std.specs.Prelude.{◌≡◌, [], ◌≤◌}
 use Rattle.luo_model.specs.Program.{Program}
+use Rattle.luo_model.specs.Invariant.{IsProgram}
 use Rattle.luo_syntax.specs.declared.source.Source.{Source}
 use Rattle.luo_types.specs.declared.error.CheckError.{CheckError}
 use Rattle.luo_types.specs.declared.error.CheckError.TheVariants.{NoMemory}
@@ -13,6 +14,14 @@ use Rattle.luo_types.specs.Rising.{Rises}
 -- a source has at most one core form
 abbrev pub HasOneCore : Type 0
 HasOneCore = (source : Source) (p q : Program) → IsCore source p → IsCore source q → p ≡ q
+
+-- a source that breaks no rule has a core form
+abbrev pub HasCore : Type 0
+HasCore = (source : Source) → breaches source ≡ [] → (p : Program) × IsCore source p
+
+-- the core form of a source within all limits has what holds of every program
+abbrev pub CoresArePrograms : Type 0
+CoresArePrograms = (source : Source) (p : Program) → IsSource source → IsChecked source p → IsProgram p
 
 -- a source has at most one error but for want of memory
 abbrev pub HasOneError : Type 0

@@ -1,11 +1,22 @@
 //! Laws of checked sources, and of what sources break.
 #![tactic(auto)]
 
-ghost use Rattle.luo_types.specs.Laws.{HasOneCore, HasOneError, ProgramsHaveNoError, BreachesAreSingle, BreachesRise, FirstBreachIsLeast};
+ghost use Rattle.luo_types.specs.Facts.{CirclesAreTold, SecondDefinitionsAreTold, UnboundVariablesAreTold, CopiesHaveTheirOwnNodes, CallsStandBeforeTheWhole};
+ghost use Rattle.luo_types.specs.Laws.{HasOneCore, HasCore, CoresArePrograms, HasOneError, ProgramsHaveNoError, BreachesAreSingle, BreachesRise, FirstBreachIsLeast};
 
 /// A source has at most one core form.
 pub fn core_form_is_unique()
     ensures { HasOneCore }
+{}
+
+/// A source that breaks no rule has a core form.
+pub fn core_form_is_there()
+    ensures { HasCore }
+{}
+
+/// The core form of a source within all limits has what holds of every program.
+pub fn core_form_is_a_program()
+    ensures { CoresArePrograms }
 {}
 
 /// A source has at most one error but for want of memory.
@@ -31,4 +42,29 @@ pub fn first_breach_is_least()
 /// At each token of a source at most one rule is broken.
 pub fn breaches_are_single()
     ensures { BreachesAreSingle }
+{}
+
+/// Each definition on a circle of names is told with those it leads through.
+pub fn circles_are_told()
+    ensures { CirclesAreTold }
+{}
+
+/// The second definition of a name is the wrong one.
+pub fn second_definitions_are_told()
+    ensures { SecondDefinitionsAreTold }
+{}
+
+/// A variable that the scope doesn't bind is the wrong one.
+pub fn unbound_variables_are_told()
+    ensures { UnboundVariablesAreTold }
+{}
+
+/// Each name of a definition has nodes of its own.
+pub fn copies_have_their_own_nodes()
+    ensures { CopiesHaveTheirOwnNodes }
+{}
+
+/// Charges are summed, a call has the site before its procedure's whole, and a value gives the body of its procedure.
+pub fn calls_stand_before_the_whole()
+    ensures { CallsStandBeforeTheWhole }
 {}
