@@ -1,9 +1,10 @@
-//! Numbers up to a last one, texts, lists, and the answer for want of memory.
+//! Numbers up to a last one, texts, lists, limits, and the answer for want of memory.
 #![tactic(auto)]
 
 ghost use Rattle.std.specs.Prelude.{◌≡◌, ◌+◌, ◌*◌, ◌≤◌, SomeIff};
 
 pub mod laws;
+pub mod limits;
 mod marks;
 mod memory;
 
