@@ -42,29 +42,3 @@ pub fn mul(a: u128, b: u128) -> Option<u128>
         _ => None,
     }
 }
-
-#[cfg(test)]
-mod tests {
-    use super::*;
-
-    // Holds of a type whose values may be handed to other threads and shared by them.
-    fn shared<T: Send + Sync>() {}
-
-    #[test]
-    fn numbers_end_at_the_last(rt: HostRuntime) {
-        assert_eq!(rt; add(MAX, 1), None);
-        assert_eq!(rt; add(MAX, 0), Some(MAX));
-        assert_eq!(rt; mul(MAX, 2), None);
-        assert_eq!(rt; mul(MAX, 0), Some(0));
-        assert_eq!(rt; marked_add(MARK, MARK), MARK);
-        assert_eq!(rt; marked_mul(MARK, 0), 0);
-        assert_eq!(rt; marked_mul(MARK, MARK), MARK);
-    }
-
-    #[test]
-    fn threads_may_share_these(_rt: HostRuntime) {
-        shared::<Text>();
-        shared::<Items<Text>>();
-        shared::<NoMemory>();
-    }
-}

@@ -21,7 +21,7 @@ mod types_reader_definitions;
 mod values;
 mod values_reader;
 
-pub use error::{DEPTH_LIMIT, SyntaxError};
+pub use error::SyntaxError;
 pub use laws::source_is_unique;
 pub use names::Name;
 pub use parsing::parse;
@@ -29,6 +29,3 @@ pub use source::{ProcBody, ProcDef, Source};
 pub use statements::{Pattern, SourceArm, Stmt};
 pub use types::{Bound, MeasureDef, Range, TypeDef, TypeExpr};
 pub use values::{SourceValue, SourceValueArm};
-
-#[cfg(test)]
-mod tests;
