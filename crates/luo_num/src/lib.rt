@@ -3,10 +3,12 @@
 
 ghost use Rattle.std.specs.Prelude.{◌≡◌, ◌+◌, ◌*◌, ◌≤◌, SomeIff};
 
+mod divisors;
 pub mod laws;
 mod marks;
 mod memory;
 
+pub use divisors::gcd;
 pub use marks::{marked_add, marked_mul};
 pub use memory::NoMemory;
 pub use sqlite_items::{Boxed, Items};
@@ -58,6 +60,8 @@ mod tests {
         assert_eq!(rt; marked_add(MARK, MARK), MARK);
         assert_eq!(rt; marked_mul(MARK, 0), 0);
         assert_eq!(rt; marked_mul(MARK, MARK), MARK);
+        assert_eq!(rt; gcd(84, 30), 6);
+        assert_eq!(rt; gcd(0, 0), 0);
     }
 
     #[test]
