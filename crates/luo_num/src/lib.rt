@@ -3,11 +3,13 @@
 
 ghost use Rattle.std.specs.Prelude.{◌≡◌, ◌+◌, ◌*◌, ◌≤◌, SomeIff};
 
+mod divisors;
 pub mod laws;
 pub mod limits;
 mod marks;
 mod memory;
 
+pub use divisors::gcd;
 pub use marks::{marked_add, marked_mul};
 pub use memory::NoMemory;
 pub use sqlite_items::{Boxed, Items};
