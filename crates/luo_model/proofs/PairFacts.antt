@@ -5,7 +5,7 @@ use Rattle.luo_model.specs.declared.program.Universe.TheVariants.{Labelled}
 use Rattle.luo_model.specs.declared.program.Kind.{Kind}
 use Rattle.luo_model.specs.declared.program.Kind.TheVariants.{Sequence, Set, Cycle}
 use Rattle.luo_model.specs.Tree.{Tree, Trees, Atom, Inj, Tup, Coll, none, more, size_of, sizes_of, all_labels_of, least_label}
-use Rattle.luo_model.specs.Member.{Member, FitEach, StandAs}
+use Rattle.luo_model.specs.Member.{Member, FitEach, ComponentsStand}
 use Rattle.luo_model.specs.Structures.{IsStructure, Holds}
 use Rattle.luo_model.specs.Examples.{part, two, collection, point}
 use Rattle.luo_model.specs.FactsCounts.{LabelledPairsAreCounted}
@@ -80,7 +80,7 @@ module _ (kind : Kind) (low : ℕ) where
   both_points a b h k = ((refl, labelled_point a h), ((refl, labelled_point b k), tt))
 
   -- where the rising order stands and the falling one doesn't, there is one
-  rising_only : (StandAs kind (point 2 ∷ (point 1 ∷ [])) → ⊥)
+  rising_only : (ComponentsStand kind (point 2 ∷ (point 1 ∷ [])) → ⊥)
       → (s : Tree) → (s ≡ Coll (two (point 1) (point 2))) ⊎ (s ≡ Coll (two (point 2) (point 1))) → IsStructure (collection Labelled kind low None) 1 2 s → s ≡ Coll (two (point 1) (point 2))
   rising_only never s (inl e) h = e
   rising_only never s (inr e) h = absurd (never (subst (λ t. Member (collection Labelled kind low None) 1 t) e h.0).2)
@@ -91,17 +91,17 @@ rising = (two_apart 1 2 (λ e. omega (arith, e)), λ x i. i, λ x i. i)
 falling : Holds (1 ∷ (2 ∷ [])) (2 ∷ (1 ∷ []))
 falling = (two_apart 2 1 (λ e. omega (arith, e)), swapped 2 1, swapped 1 2)
 
-set_stands : StandAs Set (point 1 ∷ (point 2 ∷ []))
+set_stands : ComponentsStand Set (point 1 ∷ (point 2 ∷ []))
 set_stands = sets_rise.0.0.2
 
-set_never : StandAs Set (point 2 ∷ (point 1 ∷ [])) → ⊥
+set_never : ComponentsStand Set (point 2 ∷ (point 1 ∷ [])) → ⊥
 set_never h = omega (arith, h.0 (point 1) (inl refl))
 
-cycle_stands : StandAs Cycle (point 1 ∷ (point 2 ∷ []))
+cycle_stands : ComponentsStand Cycle (point 1 ∷ (point 2 ∷ []))
 cycle_stands s (inl e) = subst (λ t. 1 ≤ least_label t) (sym e) (omega arith)
 cycle_stands s (inr h) = absurd h
 
-cycle_never : StandAs Cycle (point 2 ∷ (point 1 ∷ [])) → ⊥
+cycle_never : ComponentsStand Cycle (point 2 ∷ (point 1 ∷ [])) → ⊥
 cycle_never h = omega (arith, h (point 1) (inl refl))
 
 pub labelled_pairs_are_counted : LabelledPairsAreCounted

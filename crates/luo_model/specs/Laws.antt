@@ -6,7 +6,7 @@ use Rattle.luo_finite.specs.Listing.{NoDouble, Neighbours}
 use Rattle.luo_model.specs.declared.program.Kind.TheVariants.{Set, Multiset, Powerset}
 use Rattle.luo_model.specs.Tree.{Tree, least_label}
 use Rattle.luo_model.specs.Order.{order_of, IsBefore, IsNotBefore}
-use Rattle.luo_model.specs.Member.{StandAs}
+use Rattle.luo_model.specs.Member.{ComponentsStand}
 use Rattle.luo_model.specs.Program.{Program, Procedure}
 use Rattle.luo_model.specs.Charges.{BodyCharges, Charges, SiteCharges, works_of}
 use Rattle.luo_model.specs.Tables.{IsCount, IsTotal}
@@ -45,9 +45,9 @@ OrderIsTotal = IsTotalOrder order_of × ((s : Tree) → order_of s s ≡ Equal) 
 -- components stand as their kind wants them where each neighbour does
 abbrev pub NeighboursStand : Type 0
 NeighboursStand =
-    ((ts : List Tree) → Neighbours (λ s t. least_label s < least_label t) ts → StandAs Set ts)
-    × ((ts : List Tree) → Neighbours IsNotBefore ts → StandAs Multiset ts)
-    × ((ts : List Tree) → Neighbours (λ s t. IsBefore t s) ts → StandAs Powerset ts)
+    ((ts : List Tree) → Neighbours (λ s t. least_label s < least_label t) ts → ComponentsStand Set ts)
+    × ((ts : List Tree) → Neighbours IsNotBefore ts → ComponentsStand Multiset ts)
+    × ((ts : List Tree) → Neighbours (λ s t. IsBefore t s) ts → ComponentsStand Powerset ts)
 
 -- a node has one count at a size
 abbrev pub CountsAreSingle : Type 0

@@ -1,6 +1,7 @@
 pub mod Tree
 pub mod Order
 pub mod Program
+pub mod Standing
 pub mod Member
 pub mod Structures
 pub mod Charges
