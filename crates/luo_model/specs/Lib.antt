@@ -14,3 +14,5 @@ pub mod FactsCounts
 pub mod FactsMembers
 pub mod FactsCharges
 pub mod Laws
+pub mod Founded
+pub mod Levels
