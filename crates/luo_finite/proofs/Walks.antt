@@ -35,3 +35,8 @@ module _ (R : ℕ → ℕ → Type 0) where
     short_path n path x h l =
         let q : length (x ∷ path) ≤ n = few_below n (x ∷ path) (λ i. none x (h.reach x i), h.single) (λ z i. ⊎_elim (λ e. subst (λ w. w < n) (sym e) l) (λ j. h.there z j) i) in
         omega arith
+
+    -- no walk has more steps than there are numbers
+    pub few_steps : (n : ℕ) → ((x y : ℕ) → R x y → x < n) → (k x y : ℕ) (path : List ℕ) → LeadsTo n path x → Walk R k x y → k + length path ≤ n
+    few_steps n within zero x y path h w = omega (arith, few_below n path h.single h.there)
+    few_steps n within (suc k) x y path h w = omega (arith, few_steps n within k w.0 y (x ∷ path) (longer_path n path x w.0 h (within x w.0 w.1) w.1) w.2)

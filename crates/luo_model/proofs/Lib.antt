@@ -12,3 +12,4 @@ pub mod NodeLemmas
 pub mod Decisions
 pub mod AllTrees
 pub mod WorkLemmas
+pub mod ViewLemmas

@@ -1,11 +1,12 @@
 -- What is done at the sites of a program, in the order of their numbers.
 use Rattle.std.proofs.Common.{◌≡◌, ℕ, zero, suc, ◌+◌, ◌<◌, List, [], ◌∷◌, ◌++◌, inl, inr, ⊎_elim, length, map, flat_map, refl, sym, ◌∙◌, ap, subst, arith, Some, slice_get}
-use Rattle.std.proofs.lemmas.Option.{get_or_from_slice_get}
+use Rattle.std.proofs.lemmas.Option.{get_or_from_slice_get, slice_get_within}
 use Rattle.luo_finite.specs.Listing.{In, NoDouble}
-use Rattle.luo_finite.proofs.Places.{some_same, none_some, get_map, length_map}
+use Rattle.luo_finite.proofs.Membership.{In-append_cases}
+use Rattle.luo_finite.proofs.Places.{some_same, none_some, place_in, get_map, length_map}
 use Rattle.luo_model.specs.declared.program.Site.{Site}
 use Rattle.luo_model.specs.Program.{Program, Procedure, Body, Does, Items, no_items, item, Item, Call, Case, Forall, Arms, no_arms, arm, shape_of}
-use Rattle.luo_model.specs.Charges.{Work, of_body, works_of_body, works_of_items, works_of_item, works_of_arms, works_of_procedure, works_of}
+use Rattle.luo_model.specs.Charges.{Work, of_body, of_call, of_case, of_walk, works_of_body, works_of_items, works_of_item, works_of_arms, works_of_procedure, works_of}
 use Rattle.luo_model.specs.Scopes.{FitsBody, FitsItems, FitsItem, FitsArms, Stand, stands, component, bound_nodes, node_at, body_sites, items_sites, item_sites, arms_sites}
 use Rattle.luo_model.specs.Invariant.{IsProgram, procedure_sites, placed, sites_from, numbered_from}
 use Rattle.luo_model.specs.Laws.{SitesAreApart}
@@ -97,11 +98,7 @@ module _ (p : Program) (q : IsProgram p) where
   works_numbers = works_procedures p 0 p.procs (λ P i. fits P i) ∙ ap numbers q.sites ∙ numbers_numbered 0 p.sites
     where
       fits : (P : Procedure) → In P p.procs → FitsBody p (P.on.node ∷ []) P.body
-      fits P i = let r = place_of P p.procs i in (q.procedures r.0 P r.1).1
-        where
-          place_of : (P : Procedure) (Ps : List Procedure) → In P Ps → (k : ℕ) × (slice_get Ps k ≡ Some P)
-          place_of P [] i = absurd i
-          place_of P (Q ∷ Ps) i = ⊎_elim (λ e. (0, ap Some (sym e))) (λ j. let r = place_of P Ps j in (suc r.0, r.1)) i
+      fits P i = let r = place_in P p.procs i in (q.procedures r.0 P r.1).1
 
   -- there is one work for each site, and the one at place i is that of site i
   pub works_length : length (works_of p) ≡ length p.sites
@@ -115,3 +112,49 @@ module _ (p : Program) (q : IsProgram p) where
   -- no two sites have one number
   pub sites_are_apart : SitesAreApart p
   sites_are_apart = subst NoDouble (sym (numbers_map (works_of p) ∙ works_numbers)) (counted_single 0 p.sites)
+
+-- what is done fits what it is done with
+abbrev pub WorkFits : Program → Work → Type 0
+WorkFits p (of_body body) = (vars : List ℕ) × FitsBody p vars body
+WorkFits p (of_call callee) = callee < length p.procs
+WorkFits p (of_case arms) = Unit {0}
+WorkFits p (of_walk body) = Unit {0}
+
+module _ (p : Program) where
+  both_fit : (xs ys : List (ℕ × Work)) → ((w : ℕ × Work) → In w xs → WorkFits p w.1) → ((w : ℕ × Work) → In w ys → WorkFits p w.1) → (w : ℕ × Work) → In w (xs ++ ys) → WorkFits p w.1
+  both_fit xs ys a b w i = ⊎_elim (λ j. a w j) (λ j. b w j) (In-append_cases w xs ys i)
+
+  one_fits : (site : ℕ) (work : Work) → WorkFits p work → (w : ℕ × Work) → In w ((site, work) ∷ []) → WorkFits p w.1
+  one_fits site work f w i = ⊎_elim (λ e. subst (λ (v : ℕ × Work). WorkFits p v.1) (sym e) f) (λ j. absurd j) i
+
+  mutual
+    body_works_fit : (body : Body) (vars : List ℕ) → FitsBody p vars body → (w : ℕ × Work) → In w (works_of_body body) → WorkFits p w.1
+    body_works_fit (Does own items) vars f w i = items_works_fit items vars f.1 w i
+
+    items_works_fit : (items : Items) (vars : List ℕ) → FitsItems p vars items → (w : ℕ × Work) → In w (works_of_items items) → WorkFits p w.1
+    items_works_fit no_items vars f w i = absurd i
+    items_works_fit (item it is) vars f w i = both_fit (works_of_item it) (works_of_items is) (item_works_fit it vars f.0) (items_works_fit is vars f.1) w i
+
+    item_works_fit : (it : Item) (vars : List ℕ) → FitsItem p vars it → (w : ℕ × Work) → In w (works_of_item it) → WorkFits p w.1
+    item_works_fit (Call var callee site) vars f w i = one_fits site (of_call callee) (slice_get_within p.procs callee f.0 f.1) w i
+    item_works_fit (Case var arms site) vars f w i =
+        both_fit (works_of_arms arms) ((site, of_case arms) ∷ []) (arms_works_fit arms (stands f.0 (shape_of p f.0)) f.3) (one_fits site (of_case arms) tt) w i
+    item_works_fit (Forall var body body_site site) vars f w i =
+        both_fit (works_of_body body) ((body_site, of_body body) ∷ ((site, of_walk body) ∷ [])) (body_works_fit body (component (shape_of p f.0) ∷ []) f.3)
+        (both_fit ((body_site, of_body body) ∷ []) ((site, of_walk body) ∷ []) (one_fits body_site (of_body body) (component (shape_of p f.0) ∷ [], f.3)) (one_fits site (of_walk body) tt)) w i
+
+    arms_works_fit : (arms : Arms) (all : List Stand) → FitsArms p all arms → (w : ℕ × Work) → In w (works_of_arms arms) → WorkFits p w.1
+    arms_works_fit no_arms all f w i = absurd i
+    arms_works_fit (arm bind body arms) [] f w i = absurd f
+    arms_works_fit (arm bind body arms) (stand ∷ rest) f w i =
+        both_fit (works_of_body body) (works_of_arms arms) (body_works_fit body (bound_nodes p stand bind) f.1) (arms_works_fit arms rest f.2) w i
+
+  procedures_works_fit : (Ps : List Procedure) → ((P : Procedure) → In P Ps → FitsBody p (P.on.node ∷ []) P.body) → (w : ℕ × Work) → In w (flat_map works_of_procedure Ps) → WorkFits p w.1
+  procedures_works_fit [] h w i = absurd i
+  procedures_works_fit (P ∷ Ps) h w i =
+      both_fit (works_of_procedure P) (flat_map works_of_procedure Ps)
+      (both_fit (works_of_body P.body) ((P.site, of_body P.body) ∷ []) (body_works_fit P.body (P.on.node ∷ []) (h P (inl refl))) (one_fits P.site (of_body P.body) (P.on.node ∷ [], h P (inl refl))))
+      (procedures_works_fit Ps (λ Q j. h Q (inr j))) w i
+
+pub works_fit : (p : Program) → IsProgram p → (w : ℕ × Work) → In w (works_of p) → WorkFits p w.1
+works_fit p q = procedures_works_fit p p.procs (λ P i. let r = place_in P p.procs i in (q.procedures r.0 P r.1).1)

@@ -1,5 +1,5 @@
 -- Ranks, levels and least sizes.
-use Rattle.std.specs.Prelude.{◌≡◌, ℕ, zero, suc, ◌≤◌, List, slice_get, Some, max}
+use Rattle.std.specs.Prelude.{◌≡◌, ◌⊎◌, ℕ, zero, suc, ◌+◌, ◌≤◌, ◌<◌, List, slice_get, Some, max}
 use Rattle.luo_finite.specs.Listing.{In}
 use Rattle.luo_model.specs.Tree.{Tree}
 use Rattle.luo_model.specs.Program.{Program, Procedure, Body, Does, Items, no_items, item, Item, Call, Case, Forall}
@@ -51,3 +51,7 @@ IsLevel p site n = (work : Work) × In (site, work) (works_of p) × WorkLevel p 
 -- n is the least size of a structure of node x
 abbrev pub IsLeastSize : Program → ℕ → ℕ → Type 0
 IsLeastSize p x n = ((s : Tree) × IsStructure p x n s) × ((m : ℕ) (s : Tree) → IsStructure p x m s → n ≤ m)
+
+-- the same up to a last size, and 1 more than that where all are larger
+abbrev pub IsLeastSizeUpTo : Program → ℕ → ℕ → ℕ → Type 0
+IsLeastSizeUpTo p last x n = (IsLeastSize p x n × (n ≤ last)) ⊎ ((n ≡ last + 1) × ((m : ℕ) (s : Tree) → IsStructure p x m s → last < m))

@@ -16,3 +16,4 @@ pub mod FactsCharges
 pub mod Laws
 pub mod Founded
 pub mod Levels
+pub mod Lists
