@@ -10,3 +10,9 @@ pub mod Pairs
 pub mod Steps
 pub mod Pairwise
 pub mod Shares
+pub mod Places
+pub mod Pigeonhole
+pub mod Decided
+pub mod Walks
+pub mod Loops
+pub mod Gathered

@@ -5,3 +5,4 @@ pub mod Laws
 pub mod Each
 pub mod Binomial
 pub mod Places
+pub mod Walk

@@ -8,3 +8,8 @@ pub mod CountFacts
 pub mod TableLemmas
 pub mod RowFacts
 pub mod PairFacts
+pub mod NodeLemmas
+pub mod Decisions
+pub mod AllTrees
+pub mod WorkLemmas
+pub mod ViewLemmas

@@ -16,3 +16,6 @@ pub mod FactsCounts
 pub mod FactsMembers
 pub mod FactsCharges
 pub mod Laws
+pub mod Founded
+pub mod Levels
+pub mod Lists
