@@ -8,6 +8,7 @@ pub mod laws;
 pub mod limits;
 mod marks;
 mod memory;
+mod shared;
 
 pub use divisors::gcd;
 pub use marks::{marked_add, marked_mul};
