@@ -1,10 +1,7 @@
 pub mod ChargeLemmas
-pub mod ChargeFacts
 pub mod DepthLemmas
 pub mod SiteLemmas
 pub mod OrderLemmas
-pub mod MemberFacts
-pub mod CountFacts
 pub mod TableLemmas
 pub mod RowFacts
 pub mod PairFacts
@@ -13,3 +10,14 @@ pub mod Decisions
 pub mod AllTrees
 pub mod WorkLemmas
 pub mod ViewLemmas
+pub mod Tests
+pub mod Candidates
+pub mod Solid
+pub mod Searched
+pub mod Computed
+pub mod Decided
+pub mod CountFacts
+pub mod MemberFacts
+pub mod ChargeFacts
+pub mod TotalFacts
+pub mod OrderFacts
