@@ -10,3 +10,8 @@ pub mod Pairs
 pub mod Steps
 pub mod Pairwise
 pub mod Shares
+pub mod Binomials
+pub mod Falling
+pub mod Orders
+pub mod Places
+pub mod Choices
