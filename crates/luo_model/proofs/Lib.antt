@@ -3,8 +3,6 @@ pub mod DepthLemmas
 pub mod SiteLemmas
 pub mod OrderLemmas
 pub mod TableLemmas
-pub mod RowFacts
-pub mod PairFacts
 pub mod NodeLemmas
 pub mod Decisions
 pub mod AllTrees
