@@ -9,7 +9,7 @@ use Rattle.luo_finite.proofs.Sums.{Sums-iff, Sums-none, Sums-one, Sums-either, S
 use Rattle.luo_finite.specs.Binomial.{choose}
 use Rattle.luo_finite.proofs.Orders.{nat_less, nat_equal, less_nat, nat_itself}
 use Rattle.luo_finite.specs.Places.{IsPlace, Lexical, IsChoice}
-use Rattle.luo_finite.proofs.Places.{Place-alone, Place-iff, Place-map}
+use Rattle.luo_finite.proofs.OrderedPlaces.{Place-alone, Place-iff, Place-map}
 use native.Mathlib.Decide.{ℕ_discrete}
 
 -- each is below all that stand behind it
