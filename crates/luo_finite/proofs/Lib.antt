@@ -15,3 +15,4 @@ pub mod Falling
 pub mod Orders
 pub mod Places
 pub mod Choices
+pub mod PlacesExist
