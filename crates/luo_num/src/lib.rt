@@ -9,7 +9,7 @@ mod marks;
 mod memory;
 
 pub use divisors::gcd;
-pub use marks::{marked_add, marked_mul};
+pub use marks::{Over, marked_add, marked_mul};
 pub use memory::NoMemory;
 pub use sqlite_items::{Boxed, Items};
 
