@@ -21,3 +21,4 @@ pub mod Falling
 pub mod Orders
 pub mod OrderedPlaces
 pub mod Choices
+pub mod PlacesExist

@@ -11,7 +11,7 @@ mod memory;
 mod shared;
 
 pub use divisors::gcd;
-pub use marks::{marked_add, marked_mul};
+pub use marks::{Over, marked_add, marked_mul};
 pub use memory::NoMemory;
 pub use sqlite_items::{Boxed, Items};
 
