@@ -1,5 +1,5 @@
 -- Tokens derive a source, or an error explains why not: of every list of lexemes there is a longest front that begins some program.
-use Rattle.std.proofs.Common.{◌≡◌, ℕ, zero, suc, ◌+◌, ◌<◌, ◌≤◌, List, [], ◌∷◌, ◌++◌, length, take, refl, sym, subst, arith, ⊎_elim}
+use Rattle.std.proofs.Common.{◌≡◌, ℕ, zero, suc, ◌+◌, ◌<◌, ◌≤◌, List, [], ◌∷◌, length, take, refl, sym, subst, arith, ⊎_elim}
 use Rattle.std.specs.Prelude.{◌⊎◌}
 use Rattle.std.proofs.Math.Seq.{take-length}
 use Rattle.std.proofs.lemmas.List.{append-nil}
@@ -9,10 +9,9 @@ use Rattle.luo_scan.specs.declared.token.Mark.TheVariants.{Semicolon}
 use Rattle.luo_scan.specs.Lexemes.{lexemes, Lexeme}
 use Rattle.luo_scan.specs.Tokens.{Tokens}
 use Rattle.luo_scan.proofs.Inside.{lexemes_fit}
-use Rattle.luo_syntax.specs.declared.error.SyntaxError.{SyntaxError}
 use Rattle.luo_syntax.specs.declared.error.SyntaxError.TheVariants.{Grammar, Depth, NoMemory}
 use Rattle.luo_syntax.specs.declared.source.Source.{Source}
-use Rattle.luo_syntax.specs.Grammar.{IsProgram, Derives, analyze, last_analysis, no_procs, no_measures, no_types, unlabelled_unsaid}
+use Rattle.luo_syntax.specs.Grammar.{IsProgram, analyze, last_analysis, no_procs, no_measures, no_types, unlabelled_unsaid}
 use Rattle.luo_syntax.specs.SourceOrError.{HasSource, HasError}
 use Rattle.luo_syntax.specs.Viable.{AllSpelled, IsViable, IsLongestViable, IsDeep, IsShallow, IsFirstDeep, closed, opened, Explains}
 use Rattle.luo_syntax.proofs.Final.{viable_front}
