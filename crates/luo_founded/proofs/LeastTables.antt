@@ -1,14 +1,14 @@
 -- Tables of least sizes.
-use Rattle.std.proofs.Common.{◌≡◌, ℕ, zero, suc, ◌+◌, ◌≤◌, ◌<◌, List, [], ◌∷◌, ◌++◌, ◌⊎◌, inl, inr, ⊎_elim, length, min, refl, sym, ◌∙◌, ap, subst, arith, get_or, Option, Some, None, slice_get, slice_set}
-use Rattle.std.proofs.lemmas.Option.{slice_get_within, slice_get-get_or}
+use Rattle.std.proofs.Common.{◌≡◌, ℕ, zero, suc, ◌+◌, ◌≤◌, ◌<◌, List, [], ◌∷◌, ◌++◌, ◌⊎◌, inl, inr, ⊎_elim, length, min, refl, sym, ◌∙◌, ap, subst, arith, get_or, Option, Some, None, MatchOption, slice_get, slice_set}
+use Rattle.std.proofs.lemmas.Option.{slice_get_within, slice_get-get_or, slice_get_read}
+use Rattle.luo_finite.proofs.Loops.{AllBefore, all_more, all_end}
 use Rattle.luo_finite.specs.Listing.{In}
 use Rattle.luo_finite.proofs.Membership.{In-at}
 use Rattle.luo_model.specs.declared.program.Node.{Node}
 use Rattle.luo_model.specs.declared.program.Part.{Part}
 use Rattle.luo_model.specs.Program.{Program, shape_of}
 use Rattle.luo_model.specs.Invariant.{IsProgram}
-use Rattle.luo_founded.specs.inner.Least.{past_last, least_part, least_by, IsSettled, or_past, size_at, IsLeastTo, IsCapped, IsLess, NoneLess, AreLeast}
-use Rattle.luo_model.specs.Levels.{IsLeastSizeUpTo}
+use Rattle.luo_founded.specs.inner.Least.{past_last, least_part, least_by, IsSettled, or_past, size_at, IsCapped, IsLess, NoneLess, IsLesser, AreLeast}
 use Rattle.luo_founded.proofs.Grown.{Grown, least_backed, least_sizes}
 use Rattle.luo_model.specs.Founded.{IsFounded}
 use Rattle.luo_finite.proofs.Places.{some_same, none_some, place_in, get_last, one_longer, less_or_same}
@@ -152,15 +152,23 @@ module _ (p : Program) (q : IsProgram p) (f : IsFounded p) where
           (λ u. subst (λ s. size_at table x ≤ least_by (size_at table) s) (sym u) (by_option (λ k. k ≤ past_last) (slice_get table x) (omega arith) (λ r g. b.capped x r g)))
           (node_at_place p x)
 
--- what a table of least sizes has for a node
-pub least_at : (p : Program) (table : List ℕ) (x n : ℕ) → AreLeast p table → slice_get table x ≡ Some n → IsLeastSizeUpTo p 160 x n
-least_at p table x n a e = ⊎_elim
-    (λ (l : n ≤ 160). inl ((h.there l, h.low), l))
-    (λ (l : 160 < n). inr (omega (arith, a.capped x n e), λ m s i. omega (arith, h.low m s i)))
-    (either n)
-  where
-    h : IsLeastTo p x n
-    h = subst (IsLeastTo p x) (ap or_past e) (a.each x)
+-- of the first n nodes that are made of less than the table has, one of the least, or there is none
+abbrev pub LeastSoFar : List Node → List ℕ → ℕ → Option (ℕ × ℕ) → Type 0
+LeastSoFar nodes table n next = MatchOption next (AllBefore (λ x (node : Node). size_at table x ≤ least_by (size_at table) node.shape) nodes n) (IsLess nodes table)
 
-    either : (n : ℕ) → (n ≤ 160) ⊎ (160 < n)
-    either n = grind arith
+pub less_next : (nodes : List Node) (table : List ℕ) (n : ℕ) (node : Node) (size old : ℕ) (next new : Option (ℕ × ℕ)) → IsCapped table → n < length nodes → node ≡ get_or nodes n node → size ≡ min past_last (least_by (size_at table) node.shape) → old ≡ size_at table n
+    → IsLesser next (n, size) old new → LeastSoFar nodes table n next → LeastSoFar nodes table (n + 1) new
+less_next nodes table n node size old None None c l at s o h so =
+    all_more (λ x (node : Node). size_at table x ≤ least_by (size_at table) node.shape) nodes n node at so (omega (arith, h.1, s, o, (min_cases past_last (least_by (size_at table) node.shape)).1))
+less_next nodes table n node size old (Some r) None c l at s o h so = absurd (some_none r h.0)
+  where
+    some_none : (r : ℕ × ℕ) → Some r ≡ None → ⊥
+    some_none r e = cc
+less_next nodes table n node size old next (Some r) c l at s o h so = ⊎_elim
+    (λ e. subst (λ z. LeastSoFar nodes table n z) e so)
+    (λ z. subst (IsLess nodes table) (sym z.0) (node, slice_get_read nodes (length nodes) n node refl l at, omega (arith, z.1, o), s))
+    h
+
+pub less_end : (nodes : List Node) (table : List ℕ) (n : ℕ) (next : Option (ℕ × ℕ)) → length nodes ≤ n → LeastSoFar nodes table n next → MatchOption next (NoneLess nodes table) (IsLess nodes table)
+less_end nodes table n None l so = all_end (λ x (node : Node). size_at table x ≤ least_by (size_at table) node.shape) nodes n l so
+less_end nodes table n (Some r) l so = so

@@ -18,3 +18,4 @@ pub mod LeastTables
 pub mod OtherParts
 pub mod LevelLoops
 pub mod OneAnswer
+pub mod PeelingLemmas

@@ -3,10 +3,12 @@ ghost use Rattle.std.specs.Prelude.{◌≡◌, ◌↔◌, ◌<◌, ◌+◌, ℕ,
 ghost use Rattle.luo_finite.specs.Listing.{In};
 ghost use Rattle.luo_founded.specs.inner.Marks.{Marked};
 ghost use Rattle.luo_founded.specs.inner.Graph.{Edge, IsGraph, IsLayer, IsLeastMarked, IsLeastStep, IsFirstWay, IsShortCircle};
+ghost use Rattle.luo_founded.specs.inner.Peeling.{IsPeeled};
 ghost use Rattle.luo_founded.specs.inner.Layers.{AreLayers};
 ghost use Rattle.luo_finite.specs.Walk.{Walk, OnCircle, IsNamedCircle};
 
 use crate::made::is_marked;
+use crate::peeling::peeled;
 use luo_num::{Items, NoMemory};
 use std::alloc::Global;
 
@@ -134,6 +136,23 @@ fn circle_at(
     Ok(None)
 }
 
+// The same, where it is known of some numbers that they lie on no circle.
+fn circle_past(
+    alloc: Global,
+    edges: &[Items<usize>],
+    gone: &[bool],
+    home: usize,
+) -> Result<Option<Items<usize>>, NoMemory>
+    requires gone { IsPeeled edges.now gone.now }
+    requires there { home < length edges.now }
+    ensures { IfOk result (λ found. MatchOption found (OnCircle (Edge edges.now) home → ⊥) (IsShortCircle (Edge edges.now) home)) }
+{
+    if is_marked(gone, home) {
+        return Ok(None);
+    }
+    circle_at(alloc, edges, home)
+}
+
 /// The circle of the least number that lies on one: a shortest one through it, and the first among these.
 pub(crate) fn least_circle(
     alloc: Global,
@@ -141,8 +160,9 @@ pub(crate) fn least_circle(
 ) -> Result<Option<Items<usize>>, NoMemory>
     ensures { IfOk result (λ found. MatchOption found ((x : ℕ) → OnCircle (Edge edges.now) x → ⊥) (λ chain. (x : ℕ) × IsNamedCircle (Edge edges.now) x chain)) }
 {
+    let gone = peeled(alloc, edges)?;
     for home in 0..edges.len() {
-        if let Some(chain) = circle_at(alloc, edges, home)? {
+        if let Some(chain) = circle_past(alloc, edges, gone.as_slice(), home)? {
             return Ok(Some(chain));
         }
     }

@@ -2,7 +2,7 @@
 ghost use Rattle.std.specs.Prelude.{◌≡◌, ◌<◌, ◌≤◌, ◌*◌, ℕ, min, sum_by, IfOk, MatchOption, length};
 ghost use Rattle.luo_model.specs.declared.program.Part.{Part};
 ghost use Rattle.luo_model.specs.View.{plain_of};
-ghost use Rattle.luo_founded.specs.inner.Least.{least_part, least_by, size_at, IsCapped, IsLess, NoneLess, AreLeast};
+ghost use Rattle.luo_founded.specs.inner.Least.{least_part, least_by, size_at, IsCapped, IsLess, NoneLess, IsLesser, AreLeast};
 ghost use Rattle.luo_model.specs.Founded.{IsFounded};
 
 use luo_model::{Node, Part, Program, Shape};
@@ -73,18 +73,30 @@ fn size_by(shape: &Shape, table: &[u32]) -> u32
     }
 }
 
-// A node that is made of less than the table has.
+// The one of these with the lesser size: what was found so far, and a node with a size that is less than its old one.
+fn lesser(next: Option<(usize, u32)>, node: usize, size: u32, old: u32) -> Option<(usize, u32)>
+    ensures { IsLesser next (node, size) old result }
+{
+    if old <= size {
+        return next;
+    }
+    match next {
+        Some((at, least)) if least <= size => Some((at, least)),
+        _ => Some((node, size)),
+    }
+}
+
+// Of the nodes that are made of less than the table has, one that is made of least. So the numbers that are set never
+// fall, and each is set once, as in Knuth's form of Dijkstra's algorithm (1977).
 fn next_less(nodes: &[Node], table: &[u32]) -> Option<(usize, u32)>
     requires { IsCapped table.now }
     ensures { MatchOption result (NoneLess nodes.now table.now) (IsLess nodes.now table.now) }
 {
+    let mut next = None;
     for (x, node) in nodes.iter().enumerate() {
-        let size = size_by(&node.shape, table);
-        if size < size_at(table, x) {
-            return Some((x, size));
-        }
+        next = lesser(next, x, size_by(&node.shape, table), size_at(table, x));
     }
-    None
+    next
 }
 
 /// The least sizes of all nodes.

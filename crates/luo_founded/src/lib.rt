@@ -9,6 +9,7 @@ mod least;
 mod levels;
 mod longest;
 mod made;
+mod peeling;
 mod ranks;
 mod sites;
 mod steps;

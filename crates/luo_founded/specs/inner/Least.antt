@@ -1,5 +1,5 @@
 -- Least sizes by the construct, from those of the parts.
-use Rattle.std.specs.Prelude.{◌≡◌, ℕ, ◌≤◌, ◌<◌, ◌*◌, List, [], ◌∷◌, min, sum_by, Option, Some, None, length, slice_get}
+use Rattle.std.specs.Prelude.{◌≡◌, ◌⊎◌, ℕ, ◌≤◌, ◌<◌, ◌*◌, List, [], ◌∷◌, min, sum_by, Option, Some, None, length, slice_get}
 use Rattle.luo_model.specs.declared.program.Node.{Node}
 use Rattle.luo_model.specs.declared.program.Part.{Part}
 use Rattle.luo_model.specs.declared.program.Shape.{Shape}
@@ -50,6 +50,11 @@ IsLess nodes table r = (node : Node) × (slice_get nodes r.0 ≡ Some node) × (
 
 abbrev pub NoneLess : List Node → List ℕ → Type 0
 NoneLess nodes table = (x : ℕ) (node : Node) → slice_get nodes x ≡ Some node → size_at table x ≤ least_by (size_at table) node.shape
+
+-- new is next, or one with less: a node with its size, where it is less than the old one
+abbrev pub IsLesser : Option (ℕ × ℕ) → ℕ × ℕ → ℕ → Option (ℕ × ℕ) → Type 0
+IsLesser next one old None = (next ≡ None) × (old ≤ one.1)
+IsLesser next one old (Some r) = (next ≡ Some r) ⊎ ((r ≡ one) × (one.1 < old))
 
 -- the least sizes of all nodes
 pub record AreLeast (p : Program) (table : List ℕ) : Type 0 where
