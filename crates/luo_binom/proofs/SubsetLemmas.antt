@@ -6,7 +6,7 @@ use Rattle.luo_finite.specs.Binomial.{choose}
 use Rattle.luo_finite.proofs.Binomials.{choose-past}
 use Rattle.luo_finite.specs.Places.{IsPlace, IsChoice, Lexical}
 use Rattle.luo_finite.proofs.Choices.{choice_cases, place_with, place_without, place_of_none}
-use Rattle.luo_finite.proofs.Places.{no_longer}
+use Rattle.luo_finite.proofs.OrderedPlaces.{no_longer}
 use Rattle.luo_finite.proofs.Pairwise.{NoDouble-pairwise}
 use Rattle.luo_binom.specs.inner.Written.{IsWritten}
 use Rattle.luo_binom.specs.Laws.{Rises}

@@ -1,7 +1,7 @@
 use Rattle.std.proofs.Common.{length}
 use Rattle.luo_finite.specs.Binomial.{choose}
 use Rattle.luo_finite.specs.Places.{IsChoice, Lexical}
-use Rattle.luo_finite.proofs.Places.{Place-one, one_at}
+use Rattle.luo_finite.proofs.OrderedPlaces.{Place-one, one_at}
 use Rattle.luo_finite.proofs.PlacesExist.{place_below, some_place}
 use Rattle.luo_finite.proofs.Orders.{lists_ordered}
 use Rattle.luo_finite.proofs.Choices.{choices_counted}
