@@ -1,7 +1,9 @@
 -- What is decided; and the listing of a decided predicate, from a list that holds all of it.
-use Rattle.std.proofs.Common.{◌≡◌, ℕ, ◌≤◌, ◌<◌, List, [], ◌∷◌, ◌++◌, ◌⊎◌, inl, inr, ⊎_elim, refl, sym, subst, arith}
-use Rattle.luo_finite.specs.Listing.{In, NoDouble, Pairwise, Lists}
+use Rattle.std.proofs.Common.{◌≡◌, ℕ, ◌≤◌, ◌<◌, List, [], ◌∷◌, ◌++◌, ◌⊎◌, inl, inr, ⊎_elim, refl, sym, subst, sum_by, arith}
+use Rattle.luo_finite.specs.Listing.{In, NoDouble, Pairwise, Lists, Totals}
 use Rattle.luo_finite.proofs.Membership.{In-append_left, In-append_right}
+use Rattle.luo_finite.proofs.Sums.{Sums-by}
+use Rattle.luo_finite.proofs.Totals.{Totals-of}
 
 abbrev pub Decided : Type 0 → Type 0
 Decided A = A ⊎ (A → ⊥)
@@ -73,3 +75,18 @@ unfolding spread
 In-spread f x [] y h i = absurd h
 In-spread f x (z ∷ xs) y (inl e) i = In-append_left y (f z) (spread f xs) (subst (λ w. In y (f w)) e i)
 In-spread f x (z ∷ xs) y (inr h) i = In-append_right y (f z) (spread f xs) (In-spread f x xs y h i)
+
+-- what a decided fact gives, and 0 where it doesn't hold
+abbrev pub given : {A : Type 0} → Decided A → (A → ℕ) → ℕ
+given (inl a) f = f a
+given (inr n) f = 0
+
+given_right : {A : Type 0} (d : Decided A) (f : A → ℕ) (R : ℕ → Type 0) → ((a : A) → R (f a)) → A → R (given d f)
+given_right (inl b) f R h a = h b
+given_right (inr n) f R h a = absurd (n a)
+
+-- where each element of a listing has a number, there is a total
+pub Totals-by : {A : Type 0} (P : A → Type 0) (R : A → ℕ → Type 0) → ((x : A) → Decided (P x)) → ((x : A) → P x → (q : ℕ) × R x q) → (l : List A) → Lists P l → (t : ℕ) × Totals P R t
+Totals-by {A} P R dec number l h =
+    let w : A → ℕ = λ x. given (dec x) (λ a. (number x a).0) in
+    (sum_by w l, Totals-of P R w (sum_by w l) (λ x a. given_right (dec x) (λ b. (number x b).0) (R x) (λ b. (number x b).1) a) (Sums-by P w l h))

@@ -1,22 +1,26 @@
 -- In a program that keeps W4 each procedure charges one number on each member of its parameter's node.
-use Rattle.std.proofs.Common.{◌≡◌, ℕ, zero, suc, ◌+◌, ◌≤◌, List, [], ◌∷◌, inl, inr, length, map, refl, sym, ◌∙◌, ap, subst, arith, Some, slice_get}
-use Rattle.std.proofs.lemmas.Option.{slice_get_within}
+use Rattle.std.proofs.Common.{◌≡◌, ℕ, zero, suc, ◌+◌, ◌≤◌, ◌<◌, List, [], ◌∷◌, inl, inr, length, map, refl, sym, ◌∙◌, ap, subst, arith, Some, slice_get}
+use Rattle.std.proofs.lemmas.Option.{slice_get_within, get_or_from_slice_get}
 use Rattle.luo_model.specs.declared.body.Bind.{Bind}
 use Rattle.luo_model.specs.declared.body.Bind.TheVariants.{Nothing, Whole, Parts}
 use Rattle.luo_model.specs.declared.program.Part.{Part}
 use Rattle.luo_model.specs.declared.program.Shape.{Shape}
 use Rattle.luo_model.specs.declared.program.Shape.TheVariants as shape
 use Rattle.luo_model.specs.Tree.{Tree, Trees, Atom, Inj, Tup, Coll, none, more, to_list}
-use Rattle.luo_model.specs.Program.{Program, Procedure, Body, Does, Items, no_items, item, Call, Case, Forall, Arms, no_arms, arm, shape_of}
+use Rattle.luo_model.specs.Program.{Program, Procedure, Body, Does, Items, no_items, item, Call, Case, Forall, Arms, no_arms, arm, shape_of, site_node}
 use Rattle.luo_model.specs.Member.{Fits, FitAll, FitEach, Member}
-use Rattle.luo_model.specs.Charges.{parts_of, bound, EachCharges, BodyCharges, ItemsCharge, CaseCharges, Charges}
+use Rattle.luo_model.specs.Charges.{parts_of, bound, EachCharges, BodyCharges, ItemsCharge, CaseCharges, Charges, Work, of_body, of_call, of_case, of_walk, works_of, WorkCharges, SiteCharges}
 use Rattle.luo_model.specs.Scopes.{FitsBody, FitsItems, FitsArms, inside, itself, stands, factors, component, IsCollection, IsProductOf, MayBind, bound_nodes}
 use Rattle.luo_model.specs.Invariant.{IsProgram}
 use Rattle.luo_model.proofs.ChargeLemmas.{charges_one}
 use Rattle.luo_model.proofs.DepthLemmas.{charges_by_body}
+use Rattle.luo_model.proofs.SiteLemmas.{site_charges_are_single}
+use Rattle.luo_model.proofs.WorkLemmas.{WorkOn, works_length, work_at, sites_are_apart}
+use Rattle.luo_model.specs.declared.program.Site.{Site}
+use Rattle.luo_finite.specs.Listing.{In}
 use Rattle.luo_finite.specs.Walk.{OnCircle}
 use Rattle.luo_model.specs.Founded.{CallsAmong, CallsIn, OwnCall}
-use Rattle.luo_finite.proofs.Places.{some_same, none_some}
+use Rattle.luo_finite.proofs.Places.{some_same, none_some, In_get, get_within}
 use Rattle.luo_finite.proofs.Walks.{LeadsTo, no_path, longer_path, short_path}
 
 -- how many atoms, branches, tuples and collections a tree has
@@ -190,3 +194,27 @@ module _ (p : Program) where
     -- THE LAW: exactly one
     pub one_charge : (f : ℕ) (P : Procedure) → slice_get p.procs f ≡ Some P → (t : Tree) → Member p P.on.node t → (a : ℕ) × Charges p f t a × ((b : ℕ) → Charges p f t b → b ≡ a)
     one_charge f P e t m = let r = charge_exists f P e t m in (r.0, r.1, λ b c. charges_one p f t b r.0 c r.1)
+
+    -- and so does each site on each member of its node
+    work_charged : (x : ℕ) (work : Work) → WorkOn p x work → (t : Tree) → Member p x t → (a : ℕ) × WorkCharges p work t a
+    work_charged x (of_body body) f t m = body_charged (parts_in t) (λ g P e u n l. charge_exists g P e u n) body (x ∷ []) (t ∷ []) f (m, omega arith, tt)
+    work_charged x (of_call callee) f t m = charge_exists callee f.0 f.1 t (subst (λ y. Member p y t) (sym f.2) m)
+    work_charged x (of_case arms) f t m =
+        let inner : Charging (parts_in t) = λ g P e u n l. charge_exists g P e u n in
+        case_charged (parts_in t) arms x (shape_of p x) refl f.0 f.1 t m (omega arith)
+        (λ parts g i u part e n l. branch_charged (parts_in t) inner arms parts g i u part e n l) (λ g ts n l. product_charged (parts_in t) inner arms x g ts n l)
+    work_charged x (of_walk body) f t m =
+        let r = walk_charged (parts_in t) (shape_of p x) f.0 (BodyCharges (Charges p) body) t m (omega arith)
+        (λ u n l. body_charged (parts_in t) (λ g P e v o k. charge_exists g P e v o) body (component (shape_of p x) ∷ []) (u ∷ []) f.1 (n, l, tt)) in
+        (r.0, (r.1, r.2, r.3))
+
+    pub site_charge : (i : ℕ) → i < length p.sites → (t : Tree) → Member p (site_node p i) t → (a : ℕ) × SiteCharges p i t a
+    site_charge i h t m =
+        let w = get_within (works_of p) i (omega (arith, works_length p q)) in
+        let at = work_at p q i w.0 w.1 in
+        let here : site_node p i ≡ at.0.node = ap (λ (s : Site). s.node) (get_or_from_slice_get p.sites i at.0 (record { node = 0; caller = 0; place = 0 }) at.1) in
+        let r = work_charged at.0.node w.0.1 at.3 t (subst (λ x. Member p x t) here m) in
+        (r.0, (w.0.1, subst (λ s. In (s, w.0.1) (works_of p)) at.2 (In_get (works_of p) i w.0 w.1), r.1))
+
+    pub one_site_charge : (i : ℕ) → i < length p.sites → (t : Tree) → Member p (site_node p i) t → (a : ℕ) × SiteCharges p i t a × ((b : ℕ) → SiteCharges p i t b → b ≡ a)
+    one_site_charge i h t m = let r = site_charge i h t m in (r.0, r.1, λ b c. site_charges_are_single p (sites_are_apart p q) i t b r.0 c r.1)

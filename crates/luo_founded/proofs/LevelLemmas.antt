@@ -13,7 +13,7 @@ use Rattle.luo_model.specs.Scopes.{FitsBody}
 use Rattle.luo_model.specs.Invariant.{IsProgram}
 use Rattle.luo_model.specs.Founded.{CallsAmong, CallsIn, OwnCall}
 use Rattle.luo_model.specs.Levels.{ItemLevel, ItemsLevel, BodyLevel, LevelWithin, WholeLevel, WorkLevel, IsLevel}
-use Rattle.luo_model.proofs.WorkLemmas.{WorkFits, works_fit, works_length, work_at}
+use Rattle.luo_model.proofs.WorkLemmas.{WorkOn, works_length, work_at}
 use Rattle.luo_founded.specs.inner.Longest.{past, AreUpTo}
 use Rattle.luo_founded.specs.inner.Wholes.{item_level, items_level, body_level, work_level, levels_of, AreWholes}
 use Rattle.luo_founded.proofs.LongestLemmas.{AreZeros}
@@ -116,26 +116,24 @@ module _ (p : Program) (q : IsProgram p) where
   }
 
   -- each site has the level of what is done there
-  work_right : (wholes : List ℕ) → AreWholes p wholes → (work : Work) → WorkFits p work → WorkLevel p work (work_level wholes work)
-  work_right wholes a (of_body body) f = level_known (WholeLevel p) wholes body (λ g c. known g (called body f.0 f.1 g c))
+  work_right : (wholes : List ℕ) → AreWholes p wholes → (x : ℕ) (work : Work) → WorkOn p x work → WorkLevel p work (work_level wholes work)
+  work_right wholes a x (of_body body) f = level_known (WholeLevel p) wholes body (λ g c. known g (called body (x ∷ []) f g c))
     where
       known : (g : ℕ) → g < length p.procs → (r : ℕ) × (slice_get wholes g ≡ Some r) × WholeLevel p g r
       known g h = let r = get_within wholes g (omega (arith, a.long)) in (r.0, r.1, a.each g r.0 r.1)
 
       called : (body : Body) (vars : List ℕ) → FitsBody p vars body → (g : ℕ) → CallsIn g body → g < length p.procs
       called (Does own items) vars f g c = call_within p vars items g f.1 c
-  work_right wholes a (of_call callee) f = let r = get_within wholes callee (omega (arith, a.long)) in (r.0, a.each callee r.0 r.1, ap past r.1)
-  work_right wholes a (of_case arms) f = refl
-  work_right wholes a (of_walk body) f = refl
+  work_right wholes a x (of_call callee) f = let r = get_within wholes callee (omega (arith, a.long, slice_get_within p.procs callee f.0 f.1)) in (r.0, a.each callee r.0 r.1, ap past r.1)
+  work_right wholes a x (of_case arms) f = refl
+  work_right wholes a x (of_walk body) f = refl
 
   pub level_right : (wholes levels : List ℕ) → AreWholes p wholes → levels ≡ levels_of wholes (works_of p) → (site r : ℕ) → slice_get levels site ≡ Some r → IsLevel p site r
   level_right wholes levels a e site r g =
       let x = get_map_back (λ (w : ℕ × Work). work_level wholes w.1) (works_of p) site r (ap (λ l. slice_get l site) (sym e) ∙ g) in
-      let i : In x.0 (works_of p) = In_get (works_of p) site x.0 x.1 in (
-        x.0.1,
-        subst (λ s. In (s, x.0.1) (works_of p)) (work_at p q site x.0 x.1) i,
-        subst (WorkLevel p x.0.1) x.2 (work_right wholes a x.0.1 (works_fit p q x.0 i)),
-      )
+      let i : In x.0 (works_of p) = In_get (works_of p) site x.0 x.1 in
+      let at = work_at p q site x.0 x.1 in
+      (x.0.1, subst (λ s. In (s, x.0.1) (works_of p)) at.2 i, subst (WorkLevel p x.0.1) x.2 (work_right wholes a at.0.node x.0.1 at.3))
 
   pub levels_long : (wholes levels : List ℕ) → levels ≡ levels_of wholes (works_of p) → length levels ≡ length p.sites
   levels_long wholes levels e = ap length e ∙ length_map (λ (w : ℕ × Work). work_level wholes w.1) (works_of p) ∙ works_length p q

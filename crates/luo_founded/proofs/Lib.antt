@@ -19,3 +19,5 @@ pub mod OtherParts
 pub mod LevelLoops
 pub mod OneAnswer
 pub mod PeelingLemmas
+pub mod Tabled
+pub mod FactLemmas

@@ -11,6 +11,7 @@ mod longest;
 mod made;
 mod peeling;
 mod ranks;
+mod shared;
 mod sites;
 mod steps;
 
