@@ -50,6 +50,8 @@ pub other_labels_are_carried : OtherLabelsAreCarried
 other_labels_are_carried = (
   structure_on (collection Labelled Sequence 0 None) 1 (2 ∷ 5 ∷ []) 2 (row (5 ∷ 2 ∷ [])) refl,
   no_structure_on (collection Labelled Sequence 0 None) 1 (2 ∷ 5 ∷ []) 2 (row (2 ∷ 1 ∷ [])) refl,
+  no_structure_on (collection Labelled Sequence 0 None) 1 (2 ∷ 5 ∷ 7 ∷ []) 2 (row (5 ∷ 2 ∷ [])) refl,
+  no_structure_on (collection Labelled Sequence 0 None) 1 (2 ∷ []) 2 (row (2 ∷ 2 ∷ [])) refl,
 )
 
 pub atoms_are_exact : AtomsAreExact

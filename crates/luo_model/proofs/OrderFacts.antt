@@ -15,7 +15,9 @@ sizes_and_labels_decide = chain
 pub forms_decide : FormsDecide
 unfolding order_of
 forms_decide = chain
-    (Atom 1 0 ∷ Inj 1 (Atom 1 0) ∷ Inj 2 (Atom 1 0) ∷ Tup (two (Atom 0 0) (Atom 1 0)) ∷ Tup (two (Atom 1 0) (Atom 0 0)) ∷ Coll (one (Atom 1 0)) ∷ Coll (two (Atom 1 0) (Atom 0 0)) ∷ []) refl
+    (Atom 1 0 ∷ Inj 1 (Atom 1 0) ∷ Inj 1 (Inj 2 (Atom 1 0)) ∷ Inj 2 (Atom 1 0) ∷ Inj 2 (Inj 1 (Atom 1 0))
+    ∷ Tup (two (Atom 0 0) (Atom 1 0)) ∷ Tup (two (Inj 2 (Atom 0 0)) (Atom 1 0)) ∷ Tup (two (Atom 1 0) (Atom 0 0))
+    ∷ Coll (one (Atom 1 0)) ∷ Coll (two (Atom 1 0) (Atom 0 0)) ∷ []) refl
 
 pub permutations_in_order : PermutationsInOrder
 unfolding order_of

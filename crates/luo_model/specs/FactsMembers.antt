@@ -59,11 +59,13 @@ NoLabelIsSkipped =
     × ((n : ℕ) → IsStructure (collection Labelled Sequence 0 None) 1 n (row (1 ∷ 3 ∷ [])) → ⊥)
     × ((n : ℕ) → IsStructure (collection Labelled Sequence 0 None) 1 n (row (1 ∷ 1 ∷ [])) → ⊥)
 
--- a structure on other labels carries these, and a structure of the same size on the first labels is none
+-- a structure on other labels carries these: one on the first labels is none, and neither is one that leaves a label out or has one twice
 abbrev pub OtherLabelsAreCarried : Type 0
 OtherLabelsAreCarried =
     IsStructureOn (collection Labelled Sequence 0 None) 1 (2 ∷ 5 ∷ []) 2 (row (5 ∷ 2 ∷ []))
     × (IsStructureOn (collection Labelled Sequence 0 None) 1 (2 ∷ 5 ∷ []) 2 (row (2 ∷ 1 ∷ [])) → ⊥)
+    × (IsStructureOn (collection Labelled Sequence 0 None) 1 (2 ∷ 5 ∷ 7 ∷ []) 2 (row (5 ∷ 2 ∷ [])) → ⊥)
+    × (IsStructureOn (collection Labelled Sequence 0 None) 1 (2 ∷ []) 2 (row (2 ∷ 2 ∷ [])) → ⊥)
 
 -- an atom has the weight that is written, and a label exactly where the universe is labelled and the weight is 1
 abbrev pub AtomsAreExact : Type 0

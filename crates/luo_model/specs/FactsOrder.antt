@@ -12,11 +12,13 @@ abbrev pub SizesAndLabelsDecide : Type 0
 SizesAndLabelsDecide = Neighbours IsBefore
     (Inj 2 (Atom 1 0) ∷ Inj 1 (Atom 2 0) ∷ Inj 2 (Tup (two (point 4) (point 1))) ∷ Inj 1 (Tup (two (point 2) (point 3))) ∷ Inj 2 (Tup (two (point 2) (point 3))) ∷ Inj 2 (Tup (two (point 3) (point 2))) ∷ [])
 
--- where sizes and labels are the same, an atom comes before a structure of a branch, then tuples, then collections: these by their first difference,
--- where a list that ends comes before one that goes on
+-- where sizes and labels are the same, an atom comes before a structure of a branch, then tuples, then collections; structures of branches by the branch
+-- and then by what is inside, lists by their first difference, where parts are compared as structures are, and a list that ends comes before one that goes on
 abbrev pub FormsDecide : Type 0
 FormsDecide = Neighbours IsBefore
-    (Atom 1 0 ∷ Inj 1 (Atom 1 0) ∷ Inj 2 (Atom 1 0) ∷ Tup (two (Atom 0 0) (Atom 1 0)) ∷ Tup (two (Atom 1 0) (Atom 0 0)) ∷ Coll (one (Atom 1 0)) ∷ Coll (two (Atom 1 0) (Atom 0 0)) ∷ [])
+    (Atom 1 0 ∷ Inj 1 (Atom 1 0) ∷ Inj 1 (Inj 2 (Atom 1 0)) ∷ Inj 2 (Atom 1 0) ∷ Inj 2 (Inj 1 (Atom 1 0))
+    ∷ Tup (two (Atom 0 0) (Atom 1 0)) ∷ Tup (two (Inj 2 (Atom 0 0)) (Atom 1 0)) ∷ Tup (two (Atom 1 0) (Atom 0 0))
+    ∷ Coll (one (Atom 1 0)) ∷ Coll (two (Atom 1 0) (Atom 0 0)) ∷ [])
 
 -- the permutations of three points in order, as sets of cycles
 abbrev pub PermutationsInOrder : Type 0

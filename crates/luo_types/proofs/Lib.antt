@@ -5,6 +5,9 @@ pub mod RisePatterns
 pub mod RiseStatements
 pub mod RiseValues
 pub mod RiseSource
+pub mod AskedBreaches
+pub mod BrokenLemmas
+pub mod BrokenFirst
 pub mod StatementForms
 pub mod StatementRoom
 pub mod StatementsSoFar
