@@ -1,5 +1,5 @@
 -- What holds of charges, of the order, and of counts and totals in every program.
-use Rattle.std.specs.Prelude.{◌≡◌, ℕ, ◌<◌, List, [], ◌∷◌, map, slice_get, Some}
+use Rattle.std.specs.Prelude.{◌≡◌, ℕ, ◌<◌, List, [], ◌∷◌, Bool, IsTrue, map, slice_get, Some}
 use Rattle.std.specs.Cmp.{IsTotalOrder}
 use Rattle.std.specs.declared.cmp.Ordering.TheVariants.{Equal}
 use Rattle.luo_finite.specs.Listing.{NoDouble, Neighbours}
@@ -18,6 +18,13 @@ SitesAreApart p = NoDouble (map (λ w. w.0) (works_of p))
 -- a procedure charges at most one number on a structure
 abbrev pub ChargesAreSingle : Type 0
 ChargesAreSingle = (p : Program) (f : ℕ) (s : Tree) (a b : ℕ) → Charges p f s a → Charges p f s b → a ≡ b
+
+-- charges are the least relation that follows the bodies: a test that passes what follows from what it passes, passes all charges
+abbrev pub ChargesAreLeast : Type 0
+ChargesAreLeast =
+    (p : Program) (test : ℕ → Tree → ℕ → Bool)
+    → ((f : ℕ) (P : Procedure) (s : Tree) (q : ℕ) → slice_get p.procs f ≡ Some P → BodyCharges (λ g t r. IsTrue (test g t r)) P.body (s ∷ []) q → IsTrue (test f s q))
+    → (f : ℕ) (s : Tree) (q : ℕ) → Charges p f s q → IsTrue (test f s q)
 
 -- a site charges at most one number on a structure
 abbrev pub SiteChargesAreSingle : Type 0

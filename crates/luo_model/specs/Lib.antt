@@ -10,9 +10,12 @@ pub mod View
 pub mod Scopes
 pub mod Invariant
 pub mod Examples
+pub mod Programs
 pub mod FactsCounts
 pub mod FactsMembers
 pub mod FactsCharges
+pub mod FactsTotals
+pub mod FactsOrder
 pub mod Laws
 pub mod Founded
 pub mod Levels
