@@ -5,6 +5,9 @@ pub mod RisePatterns
 pub mod RiseStatements
 pub mod RiseValues
 pub mod RiseSource
+pub mod AskedBreaches
+pub mod BrokenLemmas
+pub mod BrokenFirst
 pub mod StatementForms
 pub mod StatementRoom
 pub mod StatementsSoFar
@@ -36,6 +39,7 @@ pub mod DefinitionFacts
 pub mod NodeFacts
 pub mod Holders
 pub mod CoreNodes
+pub mod HeldPlaces
 pub mod CoreHolders
 pub mod CoreAllowed
 pub mod PatternFacts

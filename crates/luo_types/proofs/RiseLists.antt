@@ -65,6 +65,14 @@ above : {low high : ℕ} {bs : List Breach} → Within low high bs → (b : Brea
 above (nothing l) b i = absurd i
 above {low} (first {b = c} l w) b i = ⊎_elim (λ e. subst (λ z. low ≤ z.token) (sym e) l) (λ j. let m = above w b j in omega (arith, l, m)) i
 
+below : {low high : ℕ} {bs : List Breach} → Within low high bs → (b : Breach) → In b bs → b.token < high
+below (nothing l) b i = absurd i
+below {low} {high} (first {b = c} l w) b i = ⊎_elim (λ e. subst (λ z. z.token < high) (sym e) (let m = borders w in omega (arith, m))) (λ j. below w b j) i
+
+-- what is in the first of two such lists stands before what is in the second
+pub in_order : {low mid high : ℕ} {xs ys : List Breach} → Within low mid xs → Within mid high ys → (a b : Breach) → In a xs → In b ys → a.token < b.token
+in_order v w a b i j = let l = below v a i in let m = above w b j in omega (arith, l, m)
+
 -- such lists rise
 pub rises : {low high : ℕ} {bs : List Breach} → Within low high bs → Rises bs
 rises (nothing l) = tt

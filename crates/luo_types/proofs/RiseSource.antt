@@ -1,5 +1,5 @@
 -- The breaches of a source stand at rising tokens.
-use Rattle.std.proofs.Common.{◌≡◌, ℕ, suc, ◌+◌, ◌≤◌, List, [], ◌++◌, length, refl, subst, Option, Some, None, arith}
+use Rattle.std.proofs.Common.{◌≡◌, ℕ, suc, ◌+◌, ◌<◌, ◌≤◌, List, [], ◌++◌, length, refl, subst, Option, Some, None, arith}
 use Rattle.std.specs.List.{flat_map}
 use Rattle.luo_finite.specs.Listing.{In}
 use Rattle.luo_model.specs.declared.program.Universe.{Universe}
@@ -25,7 +25,7 @@ use Rattle.luo_types.specs.Nodes.{setting_of}
 use Rattle.luo_types.specs.Whole.{result_breaches, parameter, body_breaches, proc_breaches, procs_breaches, breaches}
 use Rattle.luo_types.specs.Checks.{IsSource, BreaksFirst}
 use Rattle.luo_types.specs.Rising.{Rises}
-use Rattle.luo_types.proofs.RiseLists.{At, none, single, Within, nothing, borders, lower, higher, joined, placed, led, within_or, rises, first_is_least, single_at}
+use Rattle.luo_types.proofs.RiseLists.{At, none, single, Within, nothing, borders, lower, higher, joined, placed, led, within_or, rises, in_order, first_is_least, single_at}
 use Rattle.luo_types.proofs.RiseNames.{From, numbered, Spans, past, follows, alone, from_lower, NamesLeft, names_lower, names_left, names_past, new_types_within, measures_within, type_use_at, procedure_use_at, name_breaches_at}
 use Rattle.luo_types.proofs.RiseTypes.{side_spans}
 use Rattle.luo_types.proofs.RisePatterns.{emptied}
@@ -68,7 +68,7 @@ proc_spans s f low (proc {text} {param} {type} {at} {param_at} {type_at} {n} {bo
     let typed = placed {low = at + 1} {high = n + 1} (type_use_at (meant s on) on) (omega (arith, h.1.1.0, h.1.1.1.0, h.1.1.1.1.0, h.1.1.1.1.1.0)) (omega (arith, h.1.1.1.1.1.1.0)) in
     follows (n + 1) (led (name_breaches_at s.names name (mean.Procedure f)) (omega (arith, h.0, h.1.0)) typed) (past (body_spans s def (type_node s on) (n + 1) q h.1.1.1.1.1.1.1))
 
-abbrev analysed : Setting → List Name → List Breach
+abbrev pub analysed : Setting → List Name → List Breach
 analysed s names = flat_map (λ name. procedure_use (meant s name) name) names
 
 analyze_spans : (s : Setting) (low : ℕ) {from to : List Lexeme} {name : Name} → IsAnalyze from to name → From low from → Spans low to (procedure_use (meant s name) name)
@@ -122,6 +122,24 @@ types_spans u names defs s i low (more_types {t} p ps) h =
     let one = type_def_spans u names defs i low p h in
     let more = types_spans u names defs s (i + length t.names) one.next ps one.left in
     record { middle = more.middle; before = joined {mid = one.next} {next = one.next} one.within (omega arith) more.before; after = more.after }
+
+-- the breaches of definitions and measures stand before those of procedures and analyze lines
+abbrev pub InOrder : Source → Type 0
+InOrder source = (a b : Breach) → In a (types_breaches source.universe (names_of source) (definitions source) 0 source.types ++ measures_breaches (names_of source) 0 (flat_map values source.measures))
+    → In b (procs_breaches (setting_of source) 0 source.procs ++ analysed (setting_of source) source.analyses) → a.token < b.token
+
+source_order : (source : Source) (low : ℕ) {from to : List Lexeme} → FromTypes from to source.types source.measures source.procs source.analyses → From low from → InOrder source
+source_order source low p h a b i j =
+    let read = types_spans source.universe (names_of source) (definitions source) (setting_of source) 0 low p h in
+    in_order (joined {mid = read.middle} {next = read.middle} read.before (omega arith) (read.after.before 0)) read.after.after.within a b i j
+
+program_order : (low : ℕ) {from to : List Lexeme} {source : Source} → IsProgram from to source → From low from → InOrder source
+program_order low (labelled {l} {types} {measures} {procs} {names} p) h = source_order (record { universe = Labelled; types = types; measures = measures; procs = procs; analyses = names }) (l + 1) p h.1.1
+program_order low (unlabelled {l} {types} {measures} {procs} {names} p) h = source_order (record { universe = Unlabelled; types = types; measures = measures; procs = procs; analyses = names }) (l + 1) p h.1.1
+program_order low (unlabelled_unsaid {types} {measures} {procs} {names} p) h = source_order (record { universe = Unlabelled; types = types; measures = measures; procs = procs; analyses = names }) low p h
+
+pub first_in_order : (source : Source) → IsSource source → InOrder source
+first_in_order source is = program_order 0 is.derived (numbered 0 is.text is.tokens)
 
 source_rises : (source : Source) (low : ℕ) {from to : List Lexeme} → FromTypes from to source.types source.measures source.procs source.analyses → From low from → Rises (breaches source)
 source_rises source low p h =

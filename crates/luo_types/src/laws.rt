@@ -2,6 +2,7 @@
 #![tactic(auto)]
 
 ghost use Rattle.luo_types.specs.Facts.{CirclesAreTold, SecondDefinitionsAreTold, UnboundVariablesAreTold, CopiesHaveTheirOwnNodes, CallsStandBeforeTheWhole};
+ghost use Rattle.luo_types.specs.BrokenLaws.{ListedIsBroken, BrokenIsListed, FirstBreachIsFirstBroken};
 ghost use Rattle.luo_types.specs.Laws.{HasOneCore, HasCore, CoresArePrograms, HasOneError, ProgramsHaveNoError, BreachesAreSingle, BreachesRise, FirstBreachIsLeast};
 
 /// A source has at most one core form.
@@ -42,6 +43,21 @@ pub fn first_breach_is_least()
 /// At each token of a source at most one rule is broken.
 pub fn breaches_are_single()
     ensures { BreachesAreSingle }
+{}
+
+/// Whatever is in the list of breaches breaks its rule.
+pub fn listed_is_broken()
+    ensures { ListedIsBroken }
+{}
+
+/// Whatever breaks a rule is in the list of breaches, or stands behind something in it.
+pub fn broken_is_listed()
+    ensures { BrokenIsListed }
+{}
+
+/// The first breach of the list breaks its rule, and nothing breaks a rule before it.
+pub fn first_breach_is_first_broken()
+    ensures { FirstBreachIsFirstBroken }
 {}
 
 /// Each definition on a circle of names is told with those it leads through.
