@@ -22,7 +22,7 @@ mod values;
 mod values_reader;
 
 pub use error::SyntaxError;
-pub use laws::source_is_unique;
+pub use laws::{source_is_unique, source_or_error};
 pub use names::Name;
 pub use parsing::parse;
 pub use source::{ProcBody, ProcDef, Source};
