@@ -1,13 +1,14 @@
 -- The sites of procedures' wholes, and what a site charges.
 use Rattle.std.proofs.Common.{◌≡◌, ℕ, zero, suc, List, [], ◌∷◌, inl, inr, refl, sym, ◌∙◌, ap, subst, map, flat_map, Some, slice_get}
+use Rattle.std.specs.Prelude.{IsTrue}
 use Rattle.luo_finite.specs.Listing.{In, NoDouble}
 use Rattle.luo_finite.proofs.Membership.{In-append_left, In-append_right}
 use Rattle.luo_model.specs.Tree.{Tree}
 use Rattle.luo_model.specs.Program.{Program, Procedure}
 use Rattle.luo_model.specs.Charges.{Work, of_body, of_call, of_case, of_walk, EachCharges, BodyCharges, ChargesWithin, Charges, works_of_body, works_of_procedure, works_of, WorkCharges}
-use Rattle.luo_model.specs.Laws.{ChargesAreSingle, SiteChargesAreSingle, ProceduresChargeTheirBodies, WholesCharge, WholesChargeNoMore}
+use Rattle.luo_model.specs.Laws.{ChargesAreSingle, ChargesAreLeast, SiteChargesAreSingle, ProceduresChargeTheirBodies, WholesCharge, WholesChargeNoMore}
 use Rattle.luo_model.proofs.ChargeLemmas.{some_one, trees_one, charges_one, each_one, body_one, case_one}
-use Rattle.luo_model.proofs.DepthLemmas.{body_wider, charges_by_body, within_charges}
+use Rattle.luo_model.proofs.DepthLemmas.{body_wider, charges_by_body, within_charges, charges_least}
 
 in_flat_map : {A B : Type 0} (g : A → List B) (xs : List A) (i : ℕ) (x : A) (y : B) → slice_get xs i ≡ Some x → In y (g x) → In y (flat_map g xs)
 in_flat_map g [] i x y e h = absurd (cc)
@@ -49,6 +50,9 @@ wholes_charge_no_more p d f P s q h c =
 
 pub charges_are_single : ChargesAreSingle
 charges_are_single = charges_one
+
+pub charges_are_least : ChargesAreLeast
+charges_are_least p test follows f s q c = charges_least p (λ g t r. IsTrue (test g t r)) follows c.0 f s q c.1
 
 work_one : (p : Program) (w : Work) (s : Tree) (a b : ℕ) → WorkCharges p w s a → WorkCharges p w s b → a ≡ b
 work_one p (of_body body) s a b x y = body_one (Charges p) (Charges p) (charges_one p) body (s ∷ []) a b x y

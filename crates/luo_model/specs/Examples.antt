@@ -2,14 +2,14 @@
 use Rattle.std.specs.Prelude.{ℕ, List, [], ◌∷◌, Option, None}
 use Rattle.luo_model.specs.declared.body.Bind.TheVariants.{Nothing}
 use Rattle.luo_model.specs.declared.program.Universe.{Universe}
-use Rattle.luo_model.specs.declared.program.Universe.TheVariants.{Unlabelled}
+use Rattle.luo_model.specs.declared.program.Universe.TheVariants.{Unlabelled, Labelled}
 use Rattle.luo_model.specs.declared.program.Kind.{Kind}
-use Rattle.luo_model.specs.declared.program.Kind.TheVariants.{Multiset}
+use Rattle.luo_model.specs.declared.program.Kind.TheVariants.{Sequence, Set, Multiset}
 use Rattle.luo_model.specs.declared.program.Part.{Part}
 use Rattle.luo_model.specs.declared.program.Shape.{Shape}
 use Rattle.luo_model.specs.declared.program.Shape.TheVariants as shape
 use Rattle.luo_model.specs.declared.program.Node.{Node}
-use Rattle.luo_model.specs.Tree.{Tree, Trees, Atom, Inj, Tup, none, more}
+use Rattle.luo_model.specs.Tree.{Tree, Trees, Atom, Inj, Coll, none, more}
 use Rattle.luo_model.specs.Program.{Program, Procedure, Body, Does, no_items, item, Call, Case, Forall, no_arms, arm}
 
 -- a part that is node x
@@ -37,16 +37,6 @@ two s t = more s (one t)
 abbrev pub three : Tree → Tree → Tree → Trees
 three s t u = more s (two t u)
 
--- leaf = epsilon; node = atom(1); tree = leaf | product(node, tree, tree): node 2 is tree, and node 3 the product
-abbrev pub trees : Program
-trees = program Unlabelled (node (shape.Atom 0) ∷ (node (shape.Atom 1) ∷ (node (shape.Union (part 0 ∷ (part 3 ∷ []))) ∷ (node (shape.Product (part 1 ∷ (part 2 ∷ (part 2 ∷ [])))) ∷ [])))) []
-
-abbrev pub leaf : Tree
-leaf = Inj 1 (Atom 0 0)
-
-abbrev pub branching : Tree → Tree → Tree
-branching s t = Inj 2 (Tup (three (Atom 1 0) s t))
-
 -- e = epsilon; z = atom(1); node 2 is product(e, z)
 abbrev pub beside_nothing : Program
 beside_nothing = program Unlabelled (node (shape.Atom 0) ∷ (node (shape.Atom 1) ∷ (node (shape.Product (part 0 ∷ (part 1 ∷ []))) ∷ []))) []
@@ -73,6 +63,21 @@ atoms universe weight = program universe (node (shape.Atom weight) ∷ []) []
 abbrev pub point : ℕ → Tree
 point label = Atom 1 label
 
+-- a collection of atoms of weight 1 with these labels, and a collection of such
+abbrev pub points : List ℕ → Trees
+points [] = none
+points (label ∷ labels) = more (point label) (points labels)
+
+abbrev pub row : List ℕ → Tree
+row labels = Coll (points labels)
+
+abbrev pub each_row : List (List ℕ) → Trees
+each_row [] = none
+each_row (labels ∷ lists) = more (row labels) (each_row lists)
+
+abbrev pub rows : List (List ℕ) → Tree
+rows lists = Coll (each_row lists)
+
 -- z = atom(1); node 1 is z | z, and a procedure on it charges 3 in the first branch and 5 in the second; site 0 is its case, and site 1 its whole
 abbrev pub choosing : Program
 choosing = record (program Unlabelled (node (shape.Atom 1) ∷ (node (shape.Union (part 0 ∷ (part 0 ∷ []))) ∷ []))
@@ -87,3 +92,18 @@ walking = program Unlabelled (node (shape.Atom 1) ∷ (node (shape.Coll Multiset
 -- an atom, and a procedure that charges 1 and calls itself on it
 abbrev pub looping : Program
 looping = program Unlabelled (node (shape.Atom 1) ∷ []) (procedure 0 (Does 1 (item (Call 0 0 0) no_items)) 1 ∷ [])
+
+-- node 0 is z = atom(1), and node 1 is z | z, of which node 2 is a collection of this kind and these bounds
+abbrev pub of_two : Kind → ℕ → Option ℕ → Program
+of_two kind low high = program Unlabelled
+    (node (shape.Atom 1) ∷ (node (shape.Union (part 0 ∷ (part 0 ∷ []))) ∷ (node (shape.Coll kind (part 1) low high) ∷ []))) []
+
+-- labelled points; node 1 are sets of them, and node 2 pairs of such sets
+abbrev pub pairs_of_sets : Program
+pairs_of_sets = program Labelled
+    (node (shape.Atom 1) ∷ (node (shape.Coll Set (part 0) 0 None) ∷ (node (shape.Product (part 1 ∷ (part 1 ∷ []))) ∷ []))) []
+
+-- labelled points; node 1 are sequences of them, and node 2 collections of this kind of such sequences
+abbrev pub of_sequences : Kind → Program
+of_sequences kind = program Labelled
+    (node (shape.Atom 1) ∷ (node (shape.Coll Sequence (part 0) 0 None) ∷ (node (shape.Coll kind (part 1) 1 None) ∷ []))) []

@@ -138,9 +138,11 @@ pub record IsProgram (p : Program) : Type 0 where
   pub in_order : Neighbours Follows p.nodes
   -- the first node of a definition is its whole, and a definition that is a name has no node
   pub wholes_first : (i : ℕ) (d : Def) → slice_get p.defs i ≡ Some d → IsWhole p i d.whole
-  -- every other node is the part by itself of exactly one node, before it in the same definition, and no other part stands by itself
+  -- every other node is the part by itself of exactly one node, before it in the same definition, at one place there; no other part stands by itself
   pub held : (y : ℕ) (node : Node) → slice_get p.nodes y ≡ Some node → (node.place ≡ 0 → ⊥) → (x : ℕ) × Holds p x y × ((z : ℕ) → Holds p z y → z ≡ x)
   pub bare_held : (x y : ℕ) (node : Node) → slice_get p.nodes x ≡ Some node → In (bare y) (inner_parts node.shape) → Holds p x y
+  pub one_place : (x : ℕ) (node : Node) → slice_get p.nodes x ≡ Some node
+      → (y i j : ℕ) → slice_get (inner_parts node.shape) i ≡ Some (bare y) → slice_get (inner_parts node.shape) j ≡ Some (bare y) → i ≡ j
   -- no definition is a name that leads back to it
   pub naming_ends : (i : ℕ) → i < length p.defs → NamingEnds p i
   pub distinct : NoDouble (map (λ d. d.name) p.defs ++ map (λ P. P.name) p.procs)

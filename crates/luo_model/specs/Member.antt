@@ -1,16 +1,15 @@
 -- Which structures belong to a node.
-use Rattle.std.specs.Prelude.{◌≡◌, ℕ, suc, ◌≤◌, ◌<◌, List, [], ◌∷◌, Option, Some, None, slice_get, length}
-use Rattle.luo_finite.specs.Listing.{In, Pairwise}
+use Rattle.std.specs.Prelude.{◌≡◌, ℕ, suc, ◌≤◌, List, [], ◌∷◌, Option, Some, None, slice_get, length}
 use Rattle.luo_model.specs.declared.program.Universe.{Universe}
 use Rattle.luo_model.specs.declared.program.Universe.TheVariants.{Unlabelled, Labelled}
 use Rattle.luo_model.specs.declared.program.Kind.{Kind}
-use Rattle.luo_model.specs.declared.program.Kind.TheVariants.{Sequence, Set, Cycle, Multiset, Powerset}
 use Rattle.luo_model.specs.declared.program.Part.{Part}
 use Rattle.luo_model.specs.declared.program.Shape.{Shape}
 use Rattle.luo_model.specs.declared.program.Shape.TheVariants as shape
 use Rattle.luo_model.specs.Tree.{Tree, Trees, Atom, Inj, Tup, Coll, none, more, to_list, least_label}
-use Rattle.luo_model.specs.Order.{IsBefore, IsNotBefore}
+use Rattle.luo_model.specs.Order.{IsBefore}
 use Rattle.luo_model.specs.Program.{Program, shape_of}
+use Rattle.luo_model.specs.Standing.{StandAs}
 
 -- the label of an atom of a weight: at least 1 where the universe is labelled and the weight is 1, and 0 elsewhere
 abbrev pub IsLabel : Universe → ℕ → ℕ → Type 0
@@ -22,19 +21,9 @@ abbrev pub IsWithin : ℕ → Option ℕ → ℕ → Type 0
 IsWithin low (Some high) k = (low ≤ k) × (k ≤ high)
 IsWithin low None k = low ≤ k
 
--- the least label of the first part isn't above that of any other
-abbrev pub IsLed : List Tree → Type 0
-IsLed [] = Unit {0}
-IsLed (t ∷ ts) = (s : Tree) → In s ts → least_label t ≤ least_label s
-
--- the components stand as their kind wants them: the least labels of a set rise, a cycle begins with the component of the least label,
--- no component of a multiset is above one that stands before it, and each of a powerset is below all that stand before it
-abbrev pub StandAs : Kind → List Tree → Type 0
-StandAs Sequence ts = Unit {0}
-StandAs Set ts = Pairwise (λ s t. least_label s < least_label t) ts
-StandAs Cycle ts = IsLed ts
-StandAs Multiset ts = Pairwise IsNotBefore ts
-StandAs Powerset ts = Pairwise (λ s t. IsBefore t s) ts
+-- structures stand as the components of a collection of this kind: by their least labels, or by the order
+abbrev pub ComponentsStand : Kind → List Tree → Type 0
+ComponentsStand kind ts = StandAs least_label IsBefore kind ts
 
 abbrev mutual
   -- the structure has this construct
@@ -42,7 +31,7 @@ abbrev mutual
   Fits p (shape.Atom weight) (Atom w label) = (w ≡ weight) × IsLabel p.universe w label
   Fits p (shape.Union parts) (Inj (suc i) inner) = (part : Part) × (slice_get parts i ≡ Some part) × Fits p (shape_of p part.node) inner
   Fits p (shape.Product parts) (Tup ts) = FitAll p parts ts
-  Fits p (shape.Coll kind part low high) (Coll ts) = IsWithin low high (length (to_list ts)) × FitEach p part ts × StandAs kind (to_list ts)
+  Fits p (shape.Coll kind part low high) (Coll ts) = IsWithin low high (length (to_list ts)) × FitEach p part ts × ComponentsStand kind (to_list ts)
   Fits p _ _ = ⊥
 
   -- there are as many parts as factors, and each is a member of its factor

@@ -1,11 +1,13 @@
 //! What the definitions say, shown by known facts, and what follows from them in every program. Nothing is computed here.
 
 ghost use Rattle.luo_model.specs.FactsCharges.{CasesTakeTheirArm, CopiesAreChargedEach, EndlessCallsChargeNothing};
-ghost use Rattle.luo_model.specs.FactsCounts.{BinaryTreesAreCounted, BranchesAreCountedApart, EmptyFactorChangesNoCount, LabelledPairsAreCounted, RowsSumCharges};
-ghost use Rattle.luo_model.specs.FactsMembers.{OnlyMultisetsRepeat, MultisetsFall, CyclesBeginLeast, SetsRise, BoundsAreReached, NoLabelIsSkipped, AtomsAreExact};
-ghost use Rattle.luo_model.specs.Laws.{ChargesAreSingle, SiteChargesAreSingle, WholesCharge, WholesChargeNoMore, ProceduresChargeTheirBodies, OrderIsTotal, NeighboursStand, CountsAreSingle, TotalsAreSingle};
+ghost use Rattle.luo_model.specs.FactsCounts.{BinaryTreesAreCounted, BranchesAreCountedApart, EmptyFactorChangesNoCount, LabelledPointsAreCounted, LabelledProductsAreCounted, CopiesAreCounted, PartitionsAreCounted, BoundsAreCounted};
+ghost use Rattle.luo_model.specs.FactsMembers.{OnlyMultisetsRepeat, MultisetsFall, PowersetsFall, CyclesBeginLeast, SetsRise, LeastLabelsCount, BoundsAreReached, NoLabelIsSkipped, OtherLabelsAreCarried, AtomsAreExact};
+ghost use Rattle.luo_model.specs.FactsOrder.{SizesAndLabelsDecide, FormsDecide, PermutationsInOrder, PartitionsInOrder};
+ghost use Rattle.luo_model.specs.FactsTotals.{RowsSumCharges, PathLengthsAreTotalled, ComponentsAreTotalled, LeavesAreTotalled, NodesAreTotalled, InnerSitesAreTotalled};
+ghost use Rattle.luo_model.specs.Laws.{ChargesAreSingle, ChargesAreLeast, SiteChargesAreSingle, WholesCharge, WholesChargeNoMore, ProceduresChargeTheirBodies, OrderIsTotal, NeighboursStand, CountsAreSingle, TotalsAreSingle};
 
-/// Binary trees with 0, 1 and 2 inner nodes are counted by 1, 1 and 2.
+/// Binary trees by inner nodes are counted by the numbers of Catalan: 1, 1, 2, 5.
 pub fn binary_trees_are_counted()
     ensures { BinaryTreesAreCounted }
 {}
@@ -20,14 +22,59 @@ pub fn empty_factor_changes_no_count()
     ensures { EmptyFactorChangesNoCount }
 {}
 
-/// Two labelled points make two sequences, one set and one cycle.
-pub fn labelled_pairs_are_counted()
-    ensures { LabelledPairsAreCounted }
+/// Of labelled points there are n! sequences, one set and (n - 1)! cycles.
+pub fn labelled_points_are_counted()
+    ensures { LabelledPointsAreCounted }
+{}
+
+/// Sets of cycles are counted as permutations, and pairs of sets as the subsets of their labels.
+pub fn labelled_products_are_counted()
+    ensures { LabelledProductsAreCounted }
+{}
+
+/// Multisets and powersets of two kinds of points are counted by n + 1 and by the subsets of the two.
+pub fn copies_are_counted()
+    ensures { CopiesAreCounted }
+{}
+
+/// Partitions of an integer are counted as multisets of parts: 1, 1, 2, 3, 5.
+pub fn partitions_are_counted()
+    ensures { PartitionsAreCounted }
+{}
+
+/// Both bounds of a collection belong to it.
+pub fn bounds_are_counted()
+    ensures { BoundsAreCounted }
 {}
 
 /// A procedure that charges 3 on one of the two structures of size 1 and 5 on the other has the row 1, 2, 8.
 pub fn rows_sum_charges()
     ensures { RowsSumCharges }
+{}
+
+/// The path lengths of binary trees are 0, 0, 2 and 14 together.
+pub fn path_lengths_are_totalled()
+    ensures { PathLengthsAreTotalled }
+{}
+
+/// The cycles of permutations and the parts of partitions are counted by a walk.
+pub fn components_are_totalled()
+    ensures { ComponentsAreTotalled }
+{}
+
+/// The leaves of hierarchies are counted by a procedure that calls itself in a walk.
+pub fn leaves_are_totalled()
+    ensures { LeavesAreTotalled }
+{}
+
+/// The nodes of rooted labelled trees are counted through a case on a product.
+pub fn nodes_are_totalled()
+    ensures { NodesAreTotalled }
+{}
+
+/// The calls, cases, walks and bodies of walks inside a procedure have totals of their own.
+pub fn inner_sites_are_totalled()
+    ensures { InnerSitesAreTotalled }
 {}
 
 /// A multiset may hold a component twice, and a powerset may not.
@@ -40,6 +87,11 @@ pub fn multisets_fall()
     ensures { MultisetsFall }
 {}
 
+/// The components of a powerset fall, also those of one size.
+pub fn powersets_fall()
+    ensures { PowersetsFall }
+{}
+
 /// A cycle begins with its least label, and the same cycle written from another place is none.
 pub fn cycles_begin_least()
     ensures { CyclesBeginLeast }
@@ -48,6 +100,11 @@ pub fn cycles_begin_least()
 /// A set is written with its least labels rising, and in no other order.
 pub fn sets_rise()
     ensures { SetsRise }
+{}
+
+/// The least label of a component counts, and neither its first label nor its greatest.
+pub fn least_labels_count()
+    ensures { LeastLabelsCount }
 {}
 
 /// A bounded collection has as many components as its bound allows, and no more.
@@ -60,9 +117,34 @@ pub fn no_label_is_skipped()
     ensures { NoLabelIsSkipped }
 {}
 
+/// A structure on other labels carries these.
+pub fn other_labels_are_carried()
+    ensures { OtherLabelsAreCarried }
+{}
+
 /// An atom has its own weight, and a label exactly where the universe is labelled and the weight is 1.
 pub fn atoms_are_exact()
     ensures { AtomsAreExact }
+{}
+
+/// Structures are ordered by size, then by their rising labels, then by branch and what is inside.
+pub fn sizes_and_labels_decide()
+    ensures { SizesAndLabelsDecide }
+{}
+
+/// Where sizes and labels are the same, the form decides, and lists by their first difference.
+pub fn forms_decide()
+    ensures { FormsDecide }
+{}
+
+/// The six permutations of three points stand in this order.
+pub fn permutations_in_order()
+    ensures { PermutationsInOrder }
+{}
+
+/// The three partitions of 3 stand in this order.
+pub fn partitions_in_order()
+    ensures { PartitionsInOrder }
 {}
 
 /// A case charges what the arm of the branch does, and not what another does.
@@ -83,6 +165,11 @@ pub fn endless_calls_charge_nothing()
 /// A procedure charges at most one number on a structure.
 pub fn charges_are_single()
     ensures { ChargesAreSingle }
+{}
+
+/// Charges are the least relation that follows the bodies of the procedures.
+pub fn charges_are_least()
+    ensures { ChargesAreLeast }
 {}
 
 /// A site charges at most one number on a structure.

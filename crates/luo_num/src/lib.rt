@@ -3,12 +3,15 @@
 
 ghost use Rattle.std.specs.Prelude.{◌≡◌, ◌+◌, ◌*◌, ◌≤◌, SomeIff};
 
+mod divisors;
 pub mod laws;
 pub mod limits;
 mod marks;
 mod memory;
+mod shared;
 
-pub use marks::{marked_add, marked_mul};
+pub use divisors::gcd;
+pub use marks::{Over, marked_add, marked_mul};
 pub use memory::NoMemory;
 pub use sqlite_items::{Boxed, Items};
 

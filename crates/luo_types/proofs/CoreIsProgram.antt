@@ -23,6 +23,7 @@ use Rattle.luo_types.proofs.Lists.{get_cases, map_get, place_in, places_apart, f
 use Rattle.luo_types.proofs.NodeLists.{def_back, defs_length, nodes_from_length, copies_nodes, copies_length}
 use Rattle.luo_types.proofs.CoreNodes.{wholes_there, parts_there, owners_there, first_place, in_order, wholes_first, naming_ends}
 use Rattle.luo_types.proofs.CoreHolders.{held, bare_held}
+use Rattle.luo_types.proofs.HeldPlaces.{one_place}
 use Rattle.luo_types.proofs.CoreAllowed.{allowed, from_multisets, copies_multisets}
 use Rattle.luo_types.proofs.ProperSource.{ProperProc, source_proper}
 use Rattle.luo_types.proofs.ValueFits.{procedure_meant}
@@ -98,6 +99,7 @@ core_is_program source is limits none walks =
       wholes_first = wholes_first source.universe names defs c.all procs sites lines;
       held = held source.universe names defs c.all procs sites lines;
       bare_held = bare_held source.universe names defs c.all procs sites lines;
+      one_place = one_place source.universe names defs c.all;
       naming_ends = λ i h. naming_ends source.universe names defs c.all procs sites lines i (omega (arith, h, defs_length names defs 0 defs));
       distinct = distinct source c;
       allowed = allowed source.universe names defs c.all (copies_limited source l);

@@ -87,7 +87,7 @@ module _ (universe : Universe) (names : List (List ℕ × Meaning)) (defs : List
       let b = bare_of (at.node + k + 1) (at.node + k + own_nodes s.sub) y (head_part universe names defs owner (behind at k) s.sub s.is_proper s.is_sound g.0 s.first (bare y) g.2) in
       record { from = omega (arith, b.from); to = omega (arith, b.to, s.within) }
 
-  parts_range : (at : Spot) {n : _} (row : Row_of-TypeExpr n) → exprs_breaches universe names row ≡ [] → (y : ℕ) → In (bare y) (parts_at names defs at row) → BareOf at.node (at.node + own_nodes_of row) y
+  pub parts_range : (at : Spot) {n : _} (row : Row_of-TypeExpr n) → exprs_breaches universe names row ≡ [] → (y : ℕ) → In (bare y) (parts_at names defs at row) → BareOf at.node (at.node + own_nodes_of row) y
   parts_range at row h y i = bare_of at.node (at.node + own_nodes_of row) y (row_part universe names defs at row h (bare y) i)
 
   -- node k of a row is of its first, or of the others

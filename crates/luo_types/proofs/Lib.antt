@@ -36,6 +36,7 @@ pub mod DefinitionFacts
 pub mod NodeFacts
 pub mod Holders
 pub mod CoreNodes
+pub mod HeldPlaces
 pub mod CoreHolders
 pub mod CoreAllowed
 pub mod PatternFacts

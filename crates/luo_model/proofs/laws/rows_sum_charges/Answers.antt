@@ -1,4 +1,4 @@
-use Rattle.luo_model.proofs.RowFacts.{rows_sum_charges}
+use Rattle.luo_model.proofs.TotalFacts.{rows_sum_charges}
 use Rattle.luo_model.proofs.laws.rows_sum_charges.Goals as goal
 
 pub returns : goal.returns
