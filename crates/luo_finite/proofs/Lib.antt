@@ -16,3 +16,9 @@ pub mod Decided
 pub mod Walks
 pub mod Loops
 pub mod Gathered
+pub mod Binomials
+pub mod Falling
+pub mod Orders
+pub mod OrderedPlaces
+pub mod Choices
+pub mod PlacesExist

@@ -4,6 +4,8 @@ pub mod Program
 pub mod Standing
 pub mod Member
 pub mod Structures
+pub mod Collections
+pub mod Numbered
 pub mod Charges
 pub mod Tables
 pub mod View

@@ -14,3 +14,5 @@ pub use top::luo;
 
 #[cfg(test)]
 mod tests;
+#[cfg(test)]
+mod tests_front;

@@ -1,0 +1,10 @@
+//! Unlabelled sequences, multisets and powersets counted size by size, and charges summed over them, in numbers alone.
+#![tactic(auto)]
+
+mod line;
+
+mod numbers;
+mod steps;
+
+pub use line::Line;
+
