@@ -4,11 +4,8 @@ use Rattle.luo_finite.specs.Binomial.{choose}
 use Rattle.luo_model.specs.declared.program.Universe.TheVariants.{Labelled}
 use Rattle.luo_counting.specs.Numbers.{rows, row_totals, sets, set_totals, repeats, repeat_totals}
 use Rattle.luo_counting.specs.Laws.{RowsAreBinomial, SetsAreBinomial, CyclesAreBinomial, RepeatsAreBinomial}
-use Rattle.luo_counting.proofs.Two.{share-is_binomial, choose-past}
-
-choose-self : (n : ℕ) → choose n n ≡ 1
-choose-self zero = refl
-choose-self (suc n) = omega (arith, choose-self n, choose-past n (suc n) (omega arith))
+use Rattle.luo_finite.proofs.Binomials.{choose-self}
+use Rattle.luo_counting.proofs.Two.{share-is_binomial}
 
 ones_repeat : (j : ℕ) → repeats 1 j ≡ 1
 ones_repeat zero = refl

@@ -5,7 +5,7 @@ use Rattle.luo_finite.specs.Each.{Each}
 use Rattle.luo_counting.specs.Weights.{Algebra, times, product, Measured}
 use Rattle.luo_counting.specs.WeightNumbers.{repeats_in, subsets_in}
 use Rattle.luo_counting.proofs.Led.{Each-In}
-use Rattle.luo_counting.proofs.Falling.{IsOrder, Falls}
+use Rattle.luo_finite.proofs.Falling.{IsOrder, Falls}
 use Rattle.luo_counting.proofs.Measured.{nought, Measured-iff, Measured-map, Measured-one, Measured-none, Measured-either, Measured-later}
 
 module _ {A : Type 0} (R : A → A → Type 0) where

@@ -20,7 +20,7 @@ use Rattle.luo_counting.specs.Weights.{Algebra, IsAlgebra, product, Measured}
 use Rattle.luo_counting.specs.WeightNumbers.{repeats_in, subsets_in, rows_in, plane_in, of_k_in, coll_in}
 use Rattle.luo_counting.proofs.Rows.{Ready, Measured-rows}
 use Rattle.luo_counting.proofs.Sets.{Measured-sets, Measured-cycles}
-use Rattle.luo_counting.proofs.Falling.{IsOrder, IsBySize, falling_listing, size_falls}
+use Rattle.luo_finite.proofs.Falling.{IsOrder, IsBySize, falling_listing, size_falls}
 use Rattle.luo_counting.proofs.Planes.{Bag, Each-into, ClassRow, Measured-plane}
 use Rattle.luo_counting.proofs.Choices.{NotAbove, Below, Choice, Measured-repeats, Measured-subsets}
 use Rattle.luo_counting.proofs.Measured.{Measured-at, Measured-iff, Measured-one, Measured-over_below}

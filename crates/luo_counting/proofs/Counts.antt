@@ -16,7 +16,7 @@ use Rattle.luo_counting.specs.WeightNumbers.{coll_in}
 use Rattle.luo_counting.specs.Fours.{Four, Place, plain, left, right, both, four, point, chosen_four}
 use Rattle.luo_counting.proofs.Measures.{Measures}
 use Rattle.luo_counting.proofs.Two.{IsSized}
-use Rattle.luo_counting.proofs.Falling.{IsOrder, IsBySize}
+use Rattle.luo_finite.proofs.Falling.{IsOrder, IsBySize}
 use Rattle.luo_counting.proofs.Fours.{four_algebra, product-point}
 use Rattle.luo_counting.proofs.Closed.{four_closes}
 use Rattle.luo_counting.proofs.Collections.{Measured-collections}

@@ -5,7 +5,6 @@ pub mod Two
 pub mod Rows
 pub mod Led
 pub mod Sets
-pub mod Falling
 pub mod Choices
 pub mod Planes
 pub mod Collections

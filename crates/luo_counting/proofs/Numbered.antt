@@ -24,8 +24,8 @@ use Rattle.luo_counting.specs.Laws.{CollectionsAreCounted, CollectionsAreTotalle
 use Rattle.luo_counting.proofs.Measures.{Measures}
 use Rattle.luo_counting.proofs.Two.{IsSized, Rising-NoDouble}
 use Rattle.luo_counting.proofs.Counts.{Ready, Measures-collections}
-use Rattle.luo_counting.proofs.Falling.{IsOrder, IsBySize}
-use Rattle.luo_counting.proofs.Orders.{order_from, nat_less, nat_equal, list_equal, then_left, then_right}
+use Rattle.luo_finite.proofs.Falling.{IsOrder, IsBySize}
+use Rattle.luo_finite.proofs.Orders.{order_from, nat_less, nat_equal, list_equal, then_left, then_right}
 
 by_labels : Numbered → Numbered → Ordering
 by_labels = then_cmp (on labels_in (slice_cmp nat_cmp)) (on number_in nat_cmp)

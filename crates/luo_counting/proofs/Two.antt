@@ -8,6 +8,7 @@ use Rattle.luo_finite.proofs.Pairwise.{NoDouble-pairwise}
 use Rattle.luo_finite.proofs.Sums.{Sums-iff, Sums-over}
 use Rattle.luo_finite.proofs.Ranges.{In-below, below_In, Sums-over_below, sum_below-same, sum_below-add, sum_below-shift}
 use Rattle.luo_finite.specs.Binomial.{choose}
+use Rattle.luo_finite.proofs.Binomials.{choose-past}
 use Rattle.luo_model.specs.declared.program.Universe.{Universe}
 use Rattle.luo_model.specs.declared.program.Universe.TheVariants.{Unlabelled, Labelled}
 use Rattle.luo_model.specs.Structures.{Rising, Holds}
@@ -112,11 +113,6 @@ over_shares-same Labelled c d n h = over_splits-same c d n h
 pub shares-unlabelled : (a b : ℕ → ℕ) (n : ℕ) → shares Unlabelled a b n ≡ convolve a b n
 unfolding over_shares convolve
 shares-unlabelled a b n = refl
-
-pub choose-past : (n k : ℕ) → n < k → choose n k ≡ 0
-choose-past n zero h = absurd (omega arith)
-choose-past zero (suc k) h = refl
-choose-past (suc n) (suc k) h = omega (arith, choose-past n k (omega arith), choose-past n (suc k) (omega arith))
 
 -- so many splits have k labels in the first
 pub splits_choose : (c : ℕ → ℕ → ℕ) (n : ℕ) → over_splits c n ≡ sum_below (λ k. choose n k * c k (n - k)) (suc n)

@@ -10,3 +10,9 @@ pub mod Pairs
 pub mod Steps
 pub mod Pairwise
 pub mod Shares
+pub mod Binomials
+pub mod Falling
+pub mod Orders
+pub mod Places
+pub mod Choices
+pub mod PlacesExist
