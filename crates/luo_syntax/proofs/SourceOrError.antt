@@ -3,6 +3,7 @@ use Rattle.std.proofs.Common.{◌≡◌, ℕ, zero, suc, ◌+◌, ◌<◌, ◌�
 use Rattle.std.specs.Prelude.{◌⊎◌}
 use Rattle.std.proofs.Math.Seq.{take-length}
 use Rattle.std.proofs.lemmas.List.{append-nil}
+use Rattle.luo_num.specs.declared.limits.TheConstants.{DEPTH_LIMIT}
 use Rattle.luo_scan.specs.declared.token.Token.{Token}
 use Rattle.luo_scan.specs.declared.token.Word.TheVariants.{KwAnalyze}
 use Rattle.luo_scan.specs.declared.token.Mark.TheVariants.{Semicolon}
@@ -53,7 +54,7 @@ module _ (ls : List Lexeme) where
         (λ (h : IsDeep (take (k + 1) ls) → ⊥). up d (k + 1) (omega (arith, e)) (λ j a. ⊎_elim (λ (b : j ≤ k). before j b) (λ (b : j ≡ k + 1). subst (λ z. IsDeep (take z ls) → ⊥) (sym b) h) (split j k a)))
         (either (closed (take (k + 1) ls)) (opened (take (k + 1) ls)))
       where
-        either : (m n : ℕ) → (m + 32 < n) ⊎ (m + 32 < n → ⊥)
+        either : (m n : ℕ) → (m + DEPTH_LIMIT < n) ⊎ (m + DEPTH_LIMIT < n → ⊥)
         either m n = grind arith
 
         split : (j k : ℕ) → j ≤ k + 1 → (j ≤ k) ⊎ (j ≡ k + 1)
