@@ -88,7 +88,8 @@ pub record IsRight {O E : Type 0} (run : Run O E) (status : Status) : Type 0 whe
   -- a file that the outcome rests on failed
   pub read_fault : status ≡ ReadFault → IsUntouched run.out × FileFailed run × TookLine run.err (line (codes "read fault"))
   -- the outcome is an output, and a front of it was taken
-  pub write_fault : status ≡ WriteFault → ((bytes : List ℕ) × Answers run (Output bytes) × TookPart run.out bytes) × TookLine run.err (line (codes "write fault"))
+  pub write_fault : status ≡ WriteFault
+      → ((bytes : List ℕ) × Answers run (Output bytes) × TookPart run.out bytes) × TookLine run.err (line (codes "write fault"))
   -- memory was refused, and the words alone refuse nothing
   pub no_memory : status ≡ NoMemory → IsUntouched run.out × HasNone (WordsRefuse run.words) × TookLine run.err (line (codes "no memory"))
   -- words of no form, whatever the source tells
@@ -96,6 +97,8 @@ pub record IsRight {O E : Type 0} (run : Run O E) (status : Status) : Type 0 whe
   -- what the words alone refuse is answered, whatever the source tells
   pub words_alone : (s : Status) (bytes : List ℕ) → WordsRefuse run.words (Refusal s bytes) → (status ≡ s) × TookLine run.err bytes
   -- an output comes where nothing outside fails, but for want of memory
-  pub output_comes : (bytes : List ℕ) → Outcome run.told run.words (Output bytes) → (FileFailed run → ⊥) → (SinkFailed run.out → ⊥) → (status ≡ Done) ⊎ (status ≡ NoMemory)
+  pub output_comes : (bytes : List ℕ) → Outcome run.told run.words (Output bytes)
+      → (FileFailed run → ⊥) → (SinkFailed run.out → ⊥) → (status ≡ Done) ⊎ (status ≡ NoMemory)
   -- and so does a refusal where no file fails
-  pub refusal_comes : (s : Status) (bytes : List ℕ) → Outcome run.told run.words (Refusal s bytes) → (FileFailed run → ⊥) → (status ≡ s) ⊎ (status ≡ NoMemory)
+  pub refusal_comes : (s : Status) (bytes : List ℕ) → Outcome run.told run.words (Refusal s bytes)
+      → (FileFailed run → ⊥) → (status ≡ s) ⊎ (status ≡ NoMemory)

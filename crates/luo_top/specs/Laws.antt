@@ -21,7 +21,9 @@ OutcomeComes = (told : Told) (words : List (List ℕ)) → HasNone (Outcome told
 
 -- each file of the words is told
 abbrev pub FilesAreTold : Told → List (List ℕ) → Type 0
-FilesAreTold told words = (command : Command) → command_of words ≡ Some command → (file : List ℕ) → In file (files_of command) → told file ≡ None → ⊥
+FilesAreTold told words =
+    (command : Command) → command_of words ≡ Some command
+    → (file : List ℕ) → In file (files_of command) → told file ≡ None → ⊥
 
 -- where each file of the words is told, so is the outcome
 abbrev pub OutcomeIsTold : Type 0
@@ -38,7 +40,9 @@ NumbersAreSpelled = (word : List ℕ) (n : ℕ) → (number_of word ≡ Some n) 
 
 -- the words of `analyse FILE N`, and no others, ask for it
 abbrev pub AnalyseIsSpelled : Type 0
-AnalyseIsSpelled = (words : List (List ℕ)) (file : List ℕ) (n : ℕ) → (command_of words ≡ Some (Analyse file n)) ↔ ((word : List ℕ) × (words ≡ codes "analyse" ∷ file ∷ word ∷ []) × IsNumberWord word n)
+AnalyseIsSpelled =
+    (words : List (List ℕ)) (file : List ℕ) (n : ℕ)
+    → (command_of words ≡ Some (Analyse file n)) ↔ ((word : List ℕ) × (words ≡ codes "analyse" ∷ file ∷ word ∷ []) × IsNumberWord word n)
 
 -- the words of `format FILE`, and no others, ask for it
 abbrev pub FormatIsSpelled : Type 0

@@ -41,7 +41,8 @@ file_source file told = text_of file told and_then λ text. tokens_of text and_t
 
 -- the program of a file
 abbrev pub file_program : List ℕ → Told → Step Program
-file_program file told = text_of file told and_then λ text. tokens_of text and_then λ tokens. source_of text tokens and_then core_of text tokens
+file_program file told =
+    text_of file told and_then λ text. tokens_of text and_then λ tokens. source_of text tokens and_then core_of text tokens
 
 -- a size past the limit is refused
 abbrev pub sized : ℕ → Step ℕ

@@ -1,4 +1,4 @@
-// The limits that the top call keeps, the lines of refusals, and the refusals of a text that is no program.
+// The limits that the top call keeps, the lines of refusals, and the refusals of a text.
 ghost use Rattle.std.specs.Prelude.{◌≡◌, ◌++◌, flat_map, IfOk, OnOk};
 ghost use Rattle.luo_scan.specs.Faults.{IsFault};
 ghost use Rattle.luo_scan.specs.Lexemes.{lexemes};
@@ -196,7 +196,8 @@ pub fn check_refusal(
     tokens: &Items<Token>,
     error: CheckError,
 ) -> Refusal
-    ensures { (source : Source) → IsUnchecked source error → RefusedBy (CoreRefusal text.now tokens.now source) result }
+    ensures { (source : Source) → IsUnchecked source error
+        → RefusedBy (CoreRefusal text.now tokens.now source) result }
 {
     match error {
         CheckError::Limit { which } => Refusal::Limit(Line::Fixed(limit_bytes(which))),

@@ -6,7 +6,7 @@ use Rattle.luo_num.specs.Mark.{capped}
 use Rattle.luo_finite.specs.Range.{unit}
 use Rattle.luo_unlabelled.specs.declared.steps.Steps.{Steps}
 use Rattle.luo_unlabelled.specs.inner.Steps.{convolved, step_count, step_total, empty_at, source, HoldsRow, HasSource, HoldsBelow, Settled, HoldsTable}
-use Rattle.luo_unlabelled.proofs.StepLemmas.{empty_yes, step-next, step-first, step-none, convolved-is}
+use Rattle.luo_unlabelled.proofs.StepLemmas.{empty_yes, step-next, step-first, step-none, step_total-next, step_total-first, step_total-none, convolved-is}
 
 pub below_or : (m n : ℕ) → m < n + 1 → (m < n) ⊎ (m ≡ n)
 below_or m n h = grind arith
@@ -88,3 +88,25 @@ holds_more s f n v cells e l h r q = record {
       (λ g. ap (λ x. slice_index (set cells (s.last * s.wide + n) v) (s.last * s.wide + x)) g ∙ cell_same cells (s.last * s.wide + n) v (place_within s s.last n cells e (omega arith) l) ∙ q ∙ ap (λ x. capped (f s.last x)) (sym g))
       (below_or m n b);
 }
+
+-- the same for charges
+pub total_none : (s : Steps) (a b : ℕ → ℕ) (i n : ℕ) → i ≡ 0 → s.bounded ≡ true → a 0 ≡ 0 → b 0 ≡ 0 → 0 ≡ capped (step_total s a b i n)
+total_none s a b zero n i u z y = omega (arith, step_total-none s a b n z y u)
+total_none s a b (suc k) n i u z y = absurd (omega (arith, i))
+
+pub total_whole : (s : Steps) (comp body counts cells : List ℕ) (i n row e c r : ℕ) → (i ≡ 0 → s.bounded ≡ false) → slice_index comp 0 ≡ 0 → slice_index body 0 ≡ 0 → HasSource s (step_count s (slice_index comp)) i n counts
+    → HasSource s (step_total s (slice_index comp) (slice_index body)) i n cells → row ≡ source i * s.wide → e ≡ capped (convolved body counts row n) → c ≡ capped (convolved comp cells row n) → r ≡ capped (e + c) → r ≡ capped (step_total s (slice_index comp) (slice_index body) i n)
+total_whole s comp body counts cells zero n row e c r u z y h g er ee ec q =
+    let a : ℕ → ℕ = slice_index comp in
+    let b : ℕ → ℕ = slice_index body in
+    let k : capped (convolved body counts row n) ≡ _ = convolved-is body counts (step_count s a 0) row n y (λ m l. ap (λ p. slice_index counts (p + m)) er ∙ h (u refl) m l) in
+    let l : capped (convolved comp cells row n) ≡ _ = convolved-is comp cells (step_total s a b 0) row n z (λ m l. ap (λ p. slice_index cells (p + m)) er ∙ g (u refl) m l) in
+    let t = step_total-first s a b n z y (u refl) in
+    omega (arith, q, ee, ec, k, l, t)
+total_whole s comp body counts cells (suc i) n row e c r u z y h g er ee ec q =
+    let a : ℕ → ℕ = slice_index comp in
+    let b : ℕ → ℕ = slice_index body in
+    let k : capped (convolved body counts row n) ≡ _ = convolved-is body counts (step_count s a i) row n y (λ m l. ap (λ p. slice_index counts (p + m)) er ∙ h m l) in
+    let l : capped (convolved comp cells row n) ≡ _ = convolved-is comp cells (step_total s a b i) row n z (λ m l. ap (λ p. slice_index cells (p + m)) er ∙ g m l) in
+    let t = step_total-next s a b i n z y in
+    omega (arith, q, ee, ec, k, l, t)

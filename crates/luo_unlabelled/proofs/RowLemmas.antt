@@ -5,7 +5,9 @@ use Rattle.luo_finite.specs.Range.{sum_below, unit}
 use Rattle.luo_finite.proofs.Ranges.{sum_below-same, sum_below-shift, sum_below-zero, sum_below-times, sum_below-swap, sum_below-add}
 use Rattle.luo_model.specs.declared.program.Universe.TheVariants.{Unlabelled}
 use Rattle.luo_model.specs.declared.program.Kind.TheVariants.{Sequence}
-use Rattle.luo_counting.specs.Sharing.{over_shares}
+use Rattle.luo_model.specs.Member.{IsWithin}
+use Rattle.luo_counting.specs.Sharing.{over_shares, shares}
+use Rattle.luo_counting.proofs.Two.{over_shares-same}
 use Rattle.luo_counting.specs.Numbers.{rows, row_totals, coll_count, coll_total, terms}
 
 -- rows of one component more as a sum
@@ -162,3 +164,58 @@ total-free a b hi n z y =
 pub total-none : (a b : ℕ → ℕ) (n : ℕ) → a 0 ≡ 0 → b 0 ≡ 0 → coll_total Unlabelled Sequence a b 0 (Some 0) n ≡ 0
 unfolding span full
 total-none a b n z y = total_span a b 0 (Some 0) n n z y (omega arith)
+
+-- rows look at sizes up to their own alone
+rows_same : (a c : ℕ → ℕ) (k n : ℕ) → ((i : ℕ) → i ≤ n → a i ≡ c i) → rows Unlabelled a k n ≡ rows Unlabelled c k n
+rows_same a c zero n h = refl
+rows_same a c (suc k) n h = over_shares-same Unlabelled (λ i j. a i * rows Unlabelled a k j) (λ i j. c i * rows Unlabelled c k j) n (λ i j e.
+    ap (λ m. m * rows Unlabelled a k j) (h i (omega (arith, e))) ∙ ap (λ m. c i * m) (rows_same a c k j (λ m l. h m (omega (arith, e, l)))))
+
+row_totals_same : (a b c d : ℕ → ℕ) (k n : ℕ) → ((i : ℕ) → i ≤ n → a i ≡ c i) → ((i : ℕ) → i ≤ n → b i ≡ d i) → row_totals Unlabelled a b k n ≡ row_totals Unlabelled c d k n
+row_totals_same a b c d zero n h g = refl
+row_totals_same a b c d (suc k) n h g =
+    let e : shares Unlabelled b (rows Unlabelled a k) n ≡ shares Unlabelled d (rows Unlabelled c k) n = over_shares-same Unlabelled (λ i j. b i * rows Unlabelled a k j) (λ i j. d i * rows Unlabelled c k j) n (λ i j e.
+    ap (λ m. m * rows Unlabelled a k j) (g i (omega (arith, e))) ∙ ap (λ m. d i * m) (rows_same a c k j (λ m l. h m (omega (arith, e, l))))) in
+    let f : shares Unlabelled a (row_totals Unlabelled a b k) n ≡ shares Unlabelled c (row_totals Unlabelled c d k) n = over_shares-same Unlabelled (λ i j. a i * row_totals Unlabelled a b k j) (λ i j. c i * row_totals Unlabelled c d k j) n (λ i j e.
+    ap (λ m. m * row_totals Unlabelled a b k j) (h i (omega (arith, e))) ∙ ap (λ m. c i * m) (row_totals_same a b c d k j (λ m l. h m (omega (arith, e, l))) (λ m l. g m (omega (arith, e, l))))) in
+    omega (arith, e, f)
+
+row_totals-zero : (a b : ℕ → ℕ) (k : ℕ) → a 0 ≡ 0 → b 0 ≡ 0 → row_totals Unlabelled a b k 0 ≡ 0
+row_totals-zero a b zero z y = refl
+row_totals-zero a b (suc k) z y = row_totals-past a b (suc k) 0 z y (omega arith)
+
+-- charges over rows look at smaller sizes, and at their own where the row is one component
+row_totals-needed : (a b c d : ℕ → ℕ) (k n : ℕ) → a 0 ≡ 0 → b 0 ≡ 0 → c 0 ≡ 0 → d 0 ≡ 0 → ((i : ℕ) → i < n → a i ≡ c i) → ((i : ℕ) → i < n → b i ≡ d i) → (k ≡ 1 → b n ≡ d n) → row_totals Unlabelled a b k n ≡ row_totals Unlabelled c d k n
+row_totals-needed a b c d zero n az bz cz dz h g o = refl
+row_totals-needed a b c d (suc k) n az bz cz dz h g o =
+    let e : shares Unlabelled b (rows Unlabelled a k) n ≡ shares Unlabelled d (rows Unlabelled c k) n = over_shares-same Unlabelled (λ i j. b i * rows Unlabelled a k j) (λ i j. d i * rows Unlabelled c k j) n (first k o) in
+    let f : shares Unlabelled a (row_totals Unlabelled a b k) n ≡ shares Unlabelled c (row_totals Unlabelled c d k) n = over_shares-same Unlabelled (λ i j. a i * row_totals Unlabelled a b k j) (λ i j. c i * row_totals Unlabelled c d k j) n rest in
+    omega (arith, e, f)
+  where
+    zero_times : (x y r t : ℕ) → x ≡ 0 → y ≡ 0 → x * r ≡ y * t
+    zero_times x y r t e f = ap (λ m. m * r) e ∙ zero-mul r ∙ sym (ap (λ m. m * t) f ∙ zero-mul t)
+    times_zero : (x y r t : ℕ) → r ≡ 0 → t ≡ 0 → x * r ≡ y * t
+    times_zero x y r t e f = ap (λ m. x * m) e ∙ mul-zero x ∙ sym (ap (λ m. y * m) f ∙ mul-zero y)
+    first : (k : ℕ) → (suc k ≡ 1 → b n ≡ d n) → (i j : ℕ) → i + j ≡ n → b i * rows Unlabelled a k j ≡ d i * rows Unlabelled c k j
+    first k o zero j e = zero_times (b 0) (d 0) (rows Unlabelled a k j) (rows Unlabelled c k j) bz dz
+    first zero o (suc i) zero e = ap (λ x. b x * 1) (let q : suc i ≡ n = omega (arith, e) in q) ∙ ap (λ x. x * 1) (o refl) ∙ ap (λ x. d x * 1) (let q : n ≡ suc i = omega (arith, e) in q)
+    first (suc k) o (suc i) zero e = times_zero (b (suc i)) (d (suc i)) (rows Unlabelled a (suc k) 0) (rows Unlabelled c (suc k) 0) (rows-past a (suc k) 0 az (omega arith)) (rows-past c (suc k) 0 cz (omega arith))
+    first k o (suc i) (suc j) e =
+        ap (λ m. m * rows Unlabelled a k (suc j)) (g (suc i) (omega (arith, e))) ∙ ap (λ m. d (suc i) * m) (rows_same a c k (suc j) (λ m l. h m (omega (arith, e, l))))
+    rest : (i j : ℕ) → i + j ≡ n → a i * row_totals Unlabelled a b k j ≡ c i * row_totals Unlabelled c d k j
+    rest zero j e = zero_times (a 0) (c 0) (row_totals Unlabelled a b k j) (row_totals Unlabelled c d k j) az cz
+    rest (suc i) zero e = times_zero (a (suc i)) (c (suc i)) (row_totals Unlabelled a b k 0) (row_totals Unlabelled c d k 0) (row_totals-zero a b k az bz) (row_totals-zero c d k cz dz)
+    rest (suc i) (suc j) e =
+        ap (λ m. m * row_totals Unlabelled a b k (suc j)) (h (suc i) (omega (arith, e)))
+        ∙ ap (λ m. c (suc i) * m) (row_totals_same a b c d k (suc j) (λ m l. h m (omega (arith, e, l))) (λ m l. g m (omega (arith, e, l))))
+
+one_within : (lo : ℕ) (hi : Option ℕ) (n i : ℕ) → i < terms lo hi n → lo + i ≡ 1 → IsWithin lo hi 1
+one_within lo (Some h) n i l e = (omega (arith, e), omega (arith, l, e))
+one_within lo None n i l e = omega (arith, e)
+
+-- so do charges over sequences
+pub coll_total-needed : (a b c d : ℕ → ℕ) (lo : ℕ) (hi : Option ℕ) (n : ℕ) → a 0 ≡ 0 → b 0 ≡ 0 → c 0 ≡ 0 → d 0 ≡ 0 → ((i : ℕ) → i < n → a i ≡ c i) → ((i : ℕ) → i < n → b i ≡ d i) → (IsWithin lo hi 1 → b n ≡ d n)
+    → coll_total Unlabelled Sequence a b lo hi n ≡ coll_total Unlabelled Sequence c d lo hi n
+unfolding coll_total
+coll_total-needed a b c d lo hi n az bz cz dz h g o =
+    sum_below-same (λ i. row_totals Unlabelled a b (lo + i) n) (λ i. row_totals Unlabelled c d (lo + i) n) (terms lo hi n) (λ i l. row_totals-needed a b c d (lo + i) n az bz cz dz h g (λ e. o (one_within lo hi n i l e)))

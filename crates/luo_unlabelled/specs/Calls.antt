@@ -57,3 +57,35 @@ number_of t comp here = coll_count Unlabelled t.kind (numbers comp here) t.low t
 -- it is the length of a list of all numbered collections over these numbers
 abbrev pub IsCounted : Calls → List ℕ → ℕ → Type 0
 IsCounted t comp here = IsCollectionCount Unlabelled t.kind t.low t.high (numbers comp here) (length comp) (number_of t comp here)
+
+-- what a walk over the collections of a table was given: sums of charges, and the numbers of components of the sizes below its last one
+pub record Walk : Type 0 where
+  pub calls : Calls
+  pub comp : List ℕ
+
+-- before the first call
+abbrev pub walk_of : Calls → Walk
+walk_of t = record { calls = start_of t.kind t.low t.high t.n_max; comp = [] }
+
+-- the table is for the same collections as the walk, and has counted those of the walk's next size, and none larger. The numbers of components
+-- are those that it was given, and the sums of charges go on from those of the calls before
+pub record GoesWith (t : Calls) (w : Walk) (comp body : List ℕ) (here : ℕ) : Type 0 where
+  pub kind : t.kind ≡ w.calls.kind
+  pub low : t.low ≡ w.calls.low
+  pub high : t.high ≡ w.calls.high
+  pub n_max : t.n_max ≡ w.calls.n_max
+  pub going : t.over ≡ false
+  pub counted : length t.given ≡ suc (length body)
+  pub given : comp ≡ take (length body) t.given
+  pub agree : (m : ℕ) → suc m < length comp → slice_index comp m ≡ slice_index w.comp m
+  pub next : GoesOn w.calls body here
+  pub idle : (m : ℕ) → slice_index t.given m ≡ 0 → numbers body here m ≡ 0
+
+-- the charges over all collections of the next size
+abbrev pub total_of : Calls → List ℕ → ℕ → ℕ
+total_of t body here = coll_total Unlabelled t.kind (slice_index t.given) (numbers body here) t.low t.high (length body)
+
+-- they are the sum of what the numbered collections charge, for every choice of charges with these sums by size
+abbrev pub IsTotalled : Calls → List ℕ → ℕ → Type 0
+IsTotalled t body here = (q : ℕ → ℕ → ℕ) → ((m : ℕ) → sum_below (q m) (slice_index t.given m) ≡ numbers body here m)
+    → IsCollectionTotal Unlabelled t.kind t.low t.high (slice_index t.given) q (length body) (total_of t body here)

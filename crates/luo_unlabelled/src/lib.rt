@@ -2,9 +2,10 @@
 #![tactic(auto)]
 
 mod line;
-
+mod line_walk;
 mod numbers;
 mod steps;
 
 pub use line::Line;
+pub use line_walk::LineWalk;
 

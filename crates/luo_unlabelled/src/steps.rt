@@ -4,7 +4,7 @@
 ghost use Rattle.std.specs.Prelude.{◌≡◌, ◌+◌, ◌*◌, ◌^◌, ◌<◌, ◌≤◌, ℕ, length, slice_index};
 ghost use Rattle.luo_num.specs.Mark.{capped};
 ghost use Rattle.luo_unlabelled.specs.Calls.{AreBounds};
-ghost use Rattle.luo_unlabelled.specs.inner.Steps.{steps_of, source, empty_at, step_count, HasSource, HoldsBelow, Settled};
+ghost use Rattle.luo_unlabelled.specs.inner.Steps.{steps_of, source, empty_at, step_count, step_total, HasSource, HoldsBelow, Settled};
 
 use crate::numbers::convolved;
 use luo_num::marked_add;
@@ -88,5 +88,61 @@ pub fn settle(steps: Steps, cells: &mut [u128], comp: &[u128], m: usize)
     for i in 0..steps.last {
         let number = entry(steps, cells, comp, i, m);
         cells[i * steps.wide + m] = number;
+    }
+}
+
+// The charges over the sequences of size n at step i, marked: the first component is charged, or the rest is.
+pub fn total_entry(
+    steps: Steps,
+    counts: &[u128],
+    cells: &[u128],
+    comp: &[u128],
+    body: &[u128],
+    i: usize,
+    n: usize,
+) -> u128
+    requires start { slice_index comp.now 0 ≡ 0 }
+    requires free { slice_index body.now 0 ≡ 0 }
+    requires inside { i ≤ steps.last }
+    requires size { n < steps.wide }
+    requires comp { length comp.now ≡ steps.wide }
+    requires body { length body.now ≡ steps.wide }
+    requires counts { length counts.now ≡ (steps.last + 1) * steps.wide }
+    requires cells { length cells.now ≡ (steps.last + 1) * steps.wide }
+    requires counted { HasSource steps (step_count steps (slice_index comp.now)) i n counts.now }
+    requires row { HasSource steps (step_total steps (slice_index comp.now) (slice_index body.now)) i n cells.now }
+    ensures { result ≡ capped (step_total steps (slice_index comp.now) (slice_index body.now) i n) }
+{
+    if i == 0 && steps.bounded {
+        0
+    } else {
+        let row = steps.source(i);
+        marked_add(convolved(body, counts, row, n), convolved(comp, cells, row, n))
+    }
+}
+
+// Writes the charges of size m at the steps below the last.
+pub fn settle_totals(
+    steps: Steps,
+    counts: &[u128],
+    cells: &mut [u128],
+    comp: &[u128],
+    body: &[u128],
+    m: usize,
+)
+    requires start { slice_index comp.now 0 ≡ 0 }
+    requires free { slice_index body.now 0 ≡ 0 }
+    requires size { m < steps.wide }
+    requires comp { length comp.now ≡ steps.wide }
+    requires body { length body.now ≡ steps.wide }
+    requires counts { length counts.now ≡ (steps.last + 1) * steps.wide }
+    requires cells { length cells.old ≡ (steps.last + 1) * steps.wide }
+    requires counted { HoldsBelow steps (step_count steps (slice_index comp.now)) m counts.now }
+    requires rows { HoldsBelow steps (step_total steps (slice_index comp.now) (slice_index body.now)) m cells.old }
+    ensures { Settled steps (step_total steps (slice_index comp.now) (slice_index body.now)) m steps.last cells.old cells.new }
+{
+    for i in 0..steps.last {
+        let total = total_entry(steps, counts, cells, comp, body, i, m);
+        cells[i * steps.wide + m] = total;
     }
 }

@@ -48,7 +48,8 @@ pub fn analyse_file<F: Files>(
     file: &str,
     last: u64,
 ) -> Result<Text, Refusal>
-    ensures { (n : ℕ) → last ≡ min n NUMBER_CAP → PassesOver itself (file.now ∷ []) (steps.analyse file.now n) (seen F.named F.faults files.old files.new) result }
+    ensures { (n : ℕ) → last ≡ min n NUMBER_CAP → PassesOver itself (file.now ∷ [])
+        (steps.analyse file.now n) (seen F.named F.faults files.old files.new) result }
 {
     let program = file_program(alloc, files, file)?;
     plain(&program)?;

@@ -12,7 +12,8 @@ use std::alloc::Global;
 
 /// The canonical text of a file.
 pub fn format_file<F: Files>(alloc: Global, files: &mut F, file: &str) -> Result<Text, Refusal>
-    ensures { PassesOver itself (file.now ∷ []) (steps.format file.now) (seen F.named F.faults files.old files.new) result }
+    ensures { PassesOver itself (file.now ∷ []) (steps.format file.now)
+        (seen F.named F.faults files.old files.new) result }
 {
     let source = file_source(alloc, files, file)?;
     let text = print_source(alloc, &source)?;

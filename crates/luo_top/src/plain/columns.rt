@@ -57,7 +57,8 @@ pub fn union_column(
     sizes: usize,
 ) -> Result<Items<u128>, NoMemory>
     requires { HaveColumns columns.now parts.now sizes }
-    ensures { IfOk result (AreMarked (λ n. sum_by (λ part. entry_of columns.now part.node n) parts.now) sizes) }
+    ensures { IfOk result
+        (AreMarked (λ n. sum_by (λ part. entry_of columns.now part.node n) parts.now) sizes) }
 {
     let mut column = Items::new(alloc);
     for n in 0..sizes {
@@ -88,7 +89,8 @@ fn shared_column(
 ) -> Result<Items<u128>, NoMemory>
     requires left { length left.now ≡ sizes }
     requires right { length right.now ≡ sizes }
-    ensures { IfOk result (AreMarked (convolve (slice_index left.now) (slice_index right.now)) sizes) }
+    ensures { IfOk result
+        (AreMarked (convolve (slice_index left.now) (slice_index right.now)) sizes) }
 {
     let mut column = Items::new(alloc);
     for n in 0..sizes {
@@ -105,7 +107,8 @@ pub fn product_column(
     sizes: usize,
 ) -> Result<Items<u128>, NoMemory>
     requires { HaveColumns columns.now parts.now sizes }
-    ensures { IfOk result (AreMarked (convolve_all (map (λ part. entry_of columns.now part.node) parts.now)) sizes) }
+    ensures { IfOk result
+        (AreMarked (convolve_all (map (λ part. entry_of columns.now part.node) parts.now)) sizes) }
 {
     let mut product = atom_column(alloc, 0, sizes)?;
     for i in (0..parts.len()).rev() {

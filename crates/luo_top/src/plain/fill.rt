@@ -31,7 +31,8 @@ fn column(
     requires fillable { IsFillable (plain_of program.now) }
     requires node { x < length program.now.nodes }
     requires wide { length columns.now ≡ length program.now.nodes }
-    requires ready { (y : ℕ) → IsBelow (plain_of program.now) x y → IsColumn (plain_of program.now) y sizes (column_of columns.now y) }
+    requires ready { (y : ℕ) → IsBelow (plain_of program.now) x y
+        → IsColumn (plain_of program.now) y sizes (column_of columns.now y) }
     ensures { IfOk result (IsColumn (plain_of program.now) x sizes) }
 {
     match &program.nodes.as_slice()[x].shape {

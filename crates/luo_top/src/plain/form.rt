@@ -46,7 +46,8 @@ fn is_plain_node(node: &Node) -> bool
 }
 
 fn are_plain_nodes(nodes: &[Node]) -> bool
-    ensures { IsTrue result ↔ ((x : ℕ) (node : Node) → slice_get nodes.now x ≡ Some node → IsPlainNode node) }
+    ensures { IsTrue result
+        ↔ ((x : ℕ) (node : Node) → slice_get nodes.now x ≡ Some node → IsPlainNode node) }
 {
     for node in nodes {
         if !is_plain_node(node) {
@@ -58,7 +59,8 @@ fn are_plain_nodes(nodes: &[Node]) -> bool
 
 // Whether each definition that is a name is that of an earlier one.
 fn are_plain_wholes(defs: &[Def]) -> bool
-    ensures { IsTrue result ↔ ((i : ℕ) (d : Def) → slice_get defs.now i ≡ Some d → NamesEarlier i d.whole) }
+    ensures { IsTrue result
+        ↔ ((i : ℕ) (d : Def) → slice_get defs.now i ≡ Some d → NamesEarlier i d.whole) }
 {
     for (i, def) in defs.iter().enumerate() {
         if !names_earlier(&def.whole, i) {
@@ -70,7 +72,8 @@ fn are_plain_wholes(defs: &[Def]) -> bool
 
 // Whether no body has an item.
 fn are_plain_bodies(procs: &[Proc]) -> bool
-    ensures { IsTrue result ↔ ((f : ℕ) (P : Proc) → slice_get procs.now f ≡ Some P → HasNoItem (procedure_of P).body) }
+    ensures { IsTrue result ↔ ((f : ℕ) (P : Proc) → slice_get procs.now f ≡ Some P
+        → HasNoItem (procedure_of P).body) }
 {
     for procedure in procs {
         if !procedure.body.items.is_empty() {

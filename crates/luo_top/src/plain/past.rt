@@ -33,7 +33,8 @@ fn has_past_count(columns: &[Items<u128>]) -> bool
 
 /// Whether some procedure's total is above the last number.
 fn has_past_total(procs: &[Proc], columns: &[Items<u128>]) -> bool
-    requires { (f : ℕ) (P : Proc) → slice_get procs.now f ≡ Some P → P.on.node < length columns.now }
+    requires { (f : ℕ) (P : Proc) → slice_get procs.now f ≡ Some P
+        → P.on.node < length columns.now }
     ensures { IsTrue result ↔ HasPastTotal procs.now columns.now }
 {
     for procedure in procs {
@@ -46,7 +47,8 @@ fn has_past_total(procs: &[Proc], columns: &[Items<u128>]) -> bool
 
 /// Whether some count, or some procedure's total, is above the last number.
 pub fn is_past(procs: &[Proc], columns: &[Items<u128>]) -> bool
-    requires { (f : ℕ) (P : Proc) → slice_get procs.now f ≡ Some P → P.on.node < length columns.now }
+    requires { (f : ℕ) (P : Proc) → slice_get procs.now f ≡ Some P
+        → P.on.node < length columns.now }
     ensures { IsTrue result ↔ (HasPastCount columns.now ⊎ HasPastTotal procs.now columns.now) }
 {
     has_past_count(columns) || has_past_total(procs, columns)

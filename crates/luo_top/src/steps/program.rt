@@ -37,7 +37,8 @@ pub fn core_of(
 
 /// The program of a file.
 pub fn file_program<F: Files>(alloc: Global, files: &mut F, file: &str) -> Result<Program, Refusal>
-    ensures { PassesOver plain_of (file.now ∷ []) (steps.file_program file.now) (seen F.named F.faults files.old files.new) result }
+    ensures { PassesOver plain_of (file.now ∷ []) (steps.file_program file.now)
+        (seen F.named F.faults files.old files.new) result }
 {
     let text = text_of(alloc, files, file)?;
     let tokens = tokens_of(alloc, &text)?;

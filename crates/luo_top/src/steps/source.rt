@@ -38,7 +38,8 @@ pub fn source_of(alloc: Global, text: &Text, tokens: &Items<Token>) -> Result<So
 
 /// The source of a file.
 pub fn file_source<F: Files>(alloc: Global, files: &mut F, file: &str) -> Result<Source, Refusal>
-    ensures { PassesOver itself (file.now ∷ []) (steps.file_source file.now) (seen F.named F.faults files.old files.new) result }
+    ensures { PassesOver itself (file.now ∷ []) (steps.file_source file.now)
+        (seen F.named F.faults files.old files.new) result }
 {
     let text = text_of(alloc, files, file)?;
     let tokens = tokens_of(alloc, &text)?;

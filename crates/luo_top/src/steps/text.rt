@@ -12,7 +12,8 @@ use std::alloc::Global;
 
 /// The text of a file.
 pub fn text_of<F: Files>(alloc: Global, files: &mut F, file: &str) -> Result<Text, Refusal>
-    ensures passes { PassesOver itself (file.now ∷ []) (steps.text_of file.now) (seen F.named F.faults files.old files.new) result }
+    ensures passes { PassesOver itself (file.now ∷ []) (steps.text_of file.now)
+        (seen F.named F.faults files.old files.new) result }
     ensures short { IfOk result (λ text. length text ≤ TEXT_LIMIT) }
 {
     match read_all(alloc, files, file) {

@@ -80,3 +80,18 @@ pub record IsLine (low : ℕ) (high : Option ℕ) (n_max calls : ℕ) (comp cell
   pub rows : length cells ≡ ((steps_of low high n_max).last + 1) * (n_max + 1)
   pub none_empty : slice_index comp 0 ≡ 0
   pub holds : HoldsTable (steps_of low high n_max) (step_count (steps_of low high n_max) (slice_index comp)) calls cells
+
+-- the rows of all steps have the numbers of the sizes below n
+pub record HoldsAll (s : Steps) (f : ℕ → ℕ → ℕ) (n : ℕ) (cells : List ℕ) : Type 0 where
+  pub below : HoldsBelow s f n cells
+  pub last : HoldsRow s f s.last n cells
+
+pub record IsLineWalk (low : ℕ) (high : Option ℕ) (n_max calls : ℕ) (comp body cells : List ℕ) : Type 0 where
+  pub bounds : AreBounds low high n_max
+  pub reached : calls ≤ n_max + 1
+  pub sizes : length comp ≡ n_max + 1
+  pub sums : length body ≡ n_max + 1
+  pub rows : length cells ≡ ((steps_of low high n_max).last + 1) * (n_max + 1)
+  pub none_empty : slice_index comp 0 ≡ 0
+  pub none_charged : slice_index body 0 ≡ 0
+  pub holds : HoldsTable (steps_of low high n_max) (step_total (steps_of low high n_max) (slice_index comp) (slice_index body)) calls cells
