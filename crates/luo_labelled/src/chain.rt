@@ -1,5 +1,6 @@
 // Labelled sequences, sets and cycles.
-ghost use Rattle.std.specs.Prelude.{◌≡◌, ◌≤◌, ◌<◌, ◌∷◌, ◌++◌, [], length, slice_index, is_err, IfOk, OkIff};
+ghost use Rattle.std.specs.Prelude.{◌≡◌, ◌≤◌, ◌<◌, ◌∷◌, ◌++◌, [], length, slice_index, is_err};
+ghost use Rattle.std.specs.Prelude.{IfOk, OkIff};
 ghost use Rattle.luo_num.specs.declared.TheConstants.{MAX};
 ghost use Rattle.luo_model.specs.Numbered.{IsCollectionCount};
 ghost use Rattle.luo_model.specs.declared.program.Universe.TheVariants.{Labelled};
@@ -35,9 +36,11 @@ impl Model for Chain {
 
     ghost Value = { Calls };
 
-    ghost view = { λ c. record { kind = c.kind; low = c.low; high = c.high; n_max = c.n_max; given = take c.calls c.comp.items; over = c.over } };
+    ghost view = { λ c. record { kind = c.kind; low = c.low; high = c.high; n_max = c.n_max;
+        given = take c.calls c.comp.items; over = c.over } };
 
-    ghost invariant = { λ c. IsChain c.kind c.low c.high c.n_max c.calls c.comp.items c.cells.items };
+    ghost invariant = { λ c.
+        IsChain c.kind c.low c.high c.n_max c.calls c.comp.items c.cells.items };
 }
 
 impl Chain {
@@ -76,10 +79,12 @@ impl Chain {
     pub fn count_at(&mut self, pascal: &Pascal, comp: &[u128], here: u128) -> Result<u128, Over>
         requires goes_on { GoesOn self.old comp.now here }
         requires reached { length comp.now ≤ pascal.now }
-        ensures answer { OkIff result (number_of self.old comp.now here ≤ MAX) (number_of self.old comp.now here) }
+        ensures answer { let number = number_of self.old comp.now here in
+            OkIff result (number ≤ MAX) number }
         ensures counted { IsCollectionCount Labelled self.old.kind self.old.low self.old.high
             (numbers comp.now here) (length comp.now) (number_of self.old comp.now here) }
-        ensures kept { self.new ≡ record self.old { given = comp.now ++ here ∷ []; over = is_err result } }
+        ensures kept { self.new
+            ≡ record self.old { given = comp.now ++ here ∷ []; over = is_err result } }
     {
         let steps = Steps::new(self.low, self.high, self.n_max);
         keep(self.comp.as_mut_slice(), comp, here);

@@ -1,5 +1,6 @@
 // The numbers that the calls are given, and their answers.
-ghost use Rattle.std.specs.Prelude.{◌≡◌, ◌+◌, ◌<◌, ◌≤◌, ◌∷◌, ◌++◌, [], ℕ, suc, length, slice_index, take, OkIff};
+ghost use Rattle.std.specs.Prelude.{◌≡◌, ◌+◌, ◌<◌, ◌≤◌, ◌∷◌, ◌++◌, [], ℕ, suc, length, slice_index};
+ghost use Rattle.std.specs.Prelude.{take, OkIff};
 ghost use Rattle.luo_num.specs.declared.TheConstants.{MAX};
 
 use luo_num::{MAX, Over};
@@ -8,7 +9,8 @@ use luo_num::{MAX, Over};
 // outside the bounds.
 pub fn keep(kept: &mut [u128], numbers: &[u128], here: u128)
     requires room { length numbers.now < length kept.old }
-    requires agree { (m : ℕ) → suc m < length numbers.now → slice_index numbers.now m ≡ slice_index kept.old m }
+    requires agree { (m : ℕ) → suc m < length numbers.now → slice_index numbers.now m ≡ slice_index
+        kept.old m }
     ensures length { length kept.new ≡ length kept.old }
     ensures kept { take (length numbers.now + 1) kept.new ≡ numbers.now ++ here ∷ [] }
 {

@@ -1,7 +1,9 @@
 // Rows of numbers with marks, a row for each step and a cell for each size.
-ghost use Rattle.std.specs.Prelude.{◌≡◌, ◌≤◌, ◌+◌, ◌*◌, ◌-◌, ◌<◌, ℕ, length, slice_index, slice_set};
+ghost use Rattle.std.specs.Prelude.{◌≡◌, ◌≤◌, ◌+◌, ◌*◌, ◌-◌, ◌<◌, ℕ, length, slice_index};
+ghost use Rattle.std.specs.Prelude.{slice_set};
 ghost use Rattle.luo_num.specs.Mark.{capped};
-ghost use Rattle.luo_labelled.specs.inner.Steps.{step_count, step_total, rest_of, row_count, HoldsBelow, HoldRows, Settled, IsPlan};
+ghost use Rattle.luo_labelled.specs.inner.Steps.{counts_of, totals_of, rest_of, row_count};
+ghost use Rattle.luo_labelled.specs.inner.Steps.{HoldsBelow, HoldRows, Settled, IsPlan};
 
 use crate::steps::Steps;
 use crate::sums::{count_entry, rest_of, total_entry};
@@ -17,8 +19,8 @@ fn settle_counts(steps: Steps, pascal: &Pascal, kind: Kind, comp: &[u128], cells
     requires start { slice_index comp.now 0 ≡ 0 }
     requires comp { length comp.now ≡ steps.wide }
     requires cells { length cells.old ≡ row_count steps.last * steps.wide }
-    requires rows { HoldsBelow steps (step_count steps kind (slice_index comp.now)) m cells.old }
-    ensures { Settled steps (step_count steps kind (slice_index comp.now)) (m + 1) cells.old cells.new }
+    requires rows { HoldsBelow steps (counts_of steps kind comp.now) m cells.old }
+    ensures { Settled steps (counts_of steps kind comp.now) (m + 1) cells.old cells.new }
 {
     for i in 0..steps.last {
         let number = count_entry(steps, pascal, kind, comp, cells, i, m);
@@ -47,9 +49,9 @@ fn settle_totals(
     requires body { length body.now ≡ steps.wide }
     requires counts { length counts.now ≡ row_count steps.last * steps.wide }
     requires totals { length totals.old ≡ row_count steps.last * steps.wide }
-    requires count_rows { HoldsBelow steps (step_count steps kind (slice_index comp.now)) m counts.now }
-    requires total_rows { HoldsBelow steps (step_total steps kind (slice_index comp.now) (slice_index body.now)) m totals.old }
-    ensures { Settled steps (step_total steps kind (slice_index comp.now) (slice_index body.now)) (m + 1) totals.old totals.new }
+    requires count_rows { HoldsBelow steps (counts_of steps kind comp.now) m counts.now }
+    requires total_rows { HoldsBelow steps (totals_of steps kind comp.now body.now) m totals.old }
+    ensures { Settled steps (totals_of steps kind comp.now body.now) (m + 1) totals.old totals.new }
 {
     for i in 0..steps.last {
         let number = total_entry(steps, pascal, kind, comp, body, counts, totals, i, m);
@@ -66,8 +68,8 @@ fn take_in_counts(steps: Steps, pascal: &Pascal, kind: Kind, comp: &[u128], cell
     requires start { slice_index comp.now 0 ≡ 0 }
     requires comp { length comp.now ≡ steps.wide }
     requires cells { length cells.old ≡ row_count steps.last * steps.wide }
-    requires rows { HoldsBelow steps (step_count steps kind (slice_index comp.now)) (n - 1) cells.old }
-    ensures { Settled steps (step_count steps kind (slice_index comp.now)) n cells.old cells.new }
+    requires rows { HoldsBelow steps (counts_of steps kind comp.now) (n - 1) cells.old }
+    ensures { Settled steps (counts_of steps kind comp.now) n cells.old cells.new }
 {
     if n > 0 {
         settle_counts(steps, pascal, kind, comp, cells, n - 1);
@@ -94,9 +96,10 @@ fn take_in_totals(
     requires body { length body.now ≡ steps.wide }
     requires counts { length counts.now ≡ row_count steps.last * steps.wide }
     requires totals { length totals.old ≡ row_count steps.last * steps.wide }
-    requires count_rows { HoldsBelow steps (step_count steps kind (slice_index comp.now)) n counts.now }
-    requires total_rows { HoldsBelow steps (step_total steps kind (slice_index comp.now) (slice_index body.now)) (n - 1) totals.old }
-    ensures { Settled steps (step_total steps kind (slice_index comp.now) (slice_index body.now)) n totals.old totals.new }
+    requires count_rows { HoldsBelow steps (counts_of steps kind comp.now) n counts.now }
+    requires total_rows { HoldsBelow steps (totals_of steps kind comp.now body.now) (n - 1)
+        totals.old }
+    ensures { Settled steps (totals_of steps kind comp.now body.now) n totals.old totals.new }
 {
     if n > 0 {
         settle_totals(steps, pascal, kind, comp, body, counts, totals, n - 1);
@@ -124,10 +127,10 @@ pub fn next_count(steps: Steps, pascal: &Pascal, kind: Kind, comp: &[u128], cell
     requires start { slice_index comp.now 0 ≡ 0 }
     requires comp { length comp.now ≡ steps.wide }
     requires cells { length cells.old ≡ row_count steps.last * steps.wide }
-    requires rows { HoldRows steps (step_count steps (rest_of kind) (slice_index comp.now)) n cells.old }
-    ensures number { result ≡ capped (step_count steps kind (slice_index comp.now) steps.last n) }
+    requires rows { HoldRows steps (counts_of steps (rest_of kind) comp.now) n cells.old }
+    ensures number { result ≡ capped (counts_of steps kind comp.now steps.last n) }
     ensures long { length cells.new ≡ length cells.old }
-    ensures rows { HoldRows steps (step_count steps (rest_of kind) (slice_index comp.now)) (n + 1) cells.new }
+    ensures rows { HoldRows steps (counts_of steps (rest_of kind) comp.now) (n + 1) cells.new }
 {
     take_in_counts(steps, pascal, rest_of(kind), comp, cells, n);
     let number = count_entry(steps, pascal, kind, comp, cells, steps.last, n);
@@ -156,11 +159,14 @@ pub fn next_total(
     requires body { length body.now ≡ steps.wide }
     requires counts { length counts.now ≡ row_count steps.last * steps.wide }
     requires totals { length totals.old ≡ row_count steps.last * steps.wide }
-    requires count_rows { HoldRows steps (step_count steps (rest_of kind) (slice_index comp.now)) (n + 1) counts.now }
-    requires total_rows { HoldRows steps (step_total steps (rest_of kind) (slice_index comp.now) (slice_index body.now)) n totals.old }
-    ensures number { result ≡ capped (step_total steps kind (slice_index comp.now) (slice_index body.now) steps.last n) }
+    requires count_rows { HoldRows steps (counts_of steps (rest_of kind) comp.now) (n + 1)
+        counts.now }
+    requires total_rows { HoldRows steps (totals_of steps (rest_of kind) comp.now body.now) n
+        totals.old }
+    ensures number { result ≡ capped (totals_of steps kind comp.now body.now steps.last n) }
     ensures long { length totals.new ≡ length totals.old }
-    ensures rows { HoldRows steps (step_total steps (rest_of kind) (slice_index comp.now) (slice_index body.now)) (n + 1) totals.new }
+    ensures rows { HoldRows steps (totals_of steps (rest_of kind) comp.now body.now) (n + 1)
+        totals.new }
 {
     take_in_totals(steps, pascal, rest_of(kind), comp, body, counts, totals, n);
     let number = total_entry(steps, pascal, kind, comp, body, counts, totals, steps.last, n);

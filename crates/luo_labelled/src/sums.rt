@@ -1,7 +1,8 @@
 // Numbers of collections, and sums of charges over them, by their first component.
 ghost use Rattle.std.specs.Prelude.{◌≡◌, ◌≤◌, ◌+◌, ◌*◌, ◌-◌, ◌<◌, length, slice_index};
 ghost use Rattle.luo_num.specs.Mark.{capped};
-ghost use Rattle.luo_labelled.specs.inner.Steps.{is_led, ways, joined, step_count, step_total, rest_of, row_count, HoldsSource, IsPlanned};
+ghost use Rattle.luo_labelled.specs.inner.Steps.{is_led, ways, joined, counts_of, totals_of};
+ghost use Rattle.luo_labelled.specs.inner.Steps.{rest_of, row_count, HoldsSource, IsPlanned};
 
 use crate::steps::Steps;
 use luo_binom::Pascal;
@@ -39,7 +40,8 @@ fn joined(pascal: &Pascal, kind: Kind, numbers: &[u128], cells: &[u128], row: us
     requires numbers { n < length numbers.now }
     requires row { row + n ≤ length cells.now }
     ensures { result
-        ≡ capped (joined (is_led kind) (slice_index numbers.now) (λ m. slice_index cells.now (row + m)) n) }
+        ≡ capped (joined (is_led kind) (slice_index numbers.now)
+            (λ m. slice_index cells.now (row + m)) n) }
 {
     let mut sum = 0;
     for j in 0..n {
@@ -64,8 +66,9 @@ pub fn count_entry(
     requires start { slice_index comp.now 0 ≡ 0 }
     requires comp { length comp.now ≡ steps.wide }
     requires cells { length cells.now ≡ row_count steps.last * steps.wide }
-    requires row { HoldsSource steps i n (step_count steps (rest_of kind) (slice_index comp.now) (i - 1)) cells.now }
-    ensures { result ≡ capped (step_count steps kind (slice_index comp.now) i n) }
+    requires row { HoldsSource steps i n (counts_of steps (rest_of kind) comp.now (i - 1))
+        cells.now }
+    ensures { result ≡ capped (counts_of steps kind comp.now i n) }
 {
     let empty = steps.empty(i, n);
     match steps.source(i) {
@@ -94,9 +97,11 @@ pub fn total_entry(
     requires body { length body.now ≡ steps.wide }
     requires counts { length counts.now ≡ row_count steps.last * steps.wide }
     requires totals { length totals.now ≡ row_count steps.last * steps.wide }
-    requires count_row { HoldsSource steps i n (step_count steps (rest_of kind) (slice_index comp.now) (i - 1)) counts.now }
-    requires total_row { HoldsSource steps i n (step_total steps (rest_of kind) (slice_index comp.now) (slice_index body.now) (i - 1)) totals.now }
-    ensures { result ≡ capped (step_total steps kind (slice_index comp.now) (slice_index body.now) i n) }
+    requires count_row { HoldsSource steps i n (counts_of steps (rest_of kind) comp.now (i - 1))
+        counts.now }
+    requires total_row { HoldsSource steps i n
+        (totals_of steps (rest_of kind) comp.now body.now (i - 1)) totals.now }
+    ensures { result ≡ capped (totals_of steps kind comp.now body.now i n) }
 {
     match steps.source(i) {
         Some(row) => {

@@ -1,5 +1,6 @@
 // Charges over labelled sequences, sets and cycles.
-ghost use Rattle.std.specs.Prelude.{◌≡◌, ◌≤◌, ◌∷◌, ◌++◌, [], ℕ, length, slice_index, is_err, IfOk, OkIff};
+ghost use Rattle.std.specs.Prelude.{◌≡◌, ◌≤◌, ◌∷◌, ◌++◌, [], ℕ, length, slice_index, is_err, IfOk};
+ghost use Rattle.std.specs.Prelude.{OkIff};
 ghost use Rattle.luo_num.specs.declared.TheConstants.{MAX};
 ghost use Rattle.luo_finite.specs.Range.{sum_below};
 ghost use Rattle.luo_model.specs.Numbered.{IsCollectionTotal};
@@ -38,9 +39,12 @@ impl Model for ChainWalk {
 
     ghost Value = { WalkCalls };
 
-    ghost view = { λ w. record { counts = take w.calls w.comp.items; sums = record { kind = w.kind; low = w.low; high = w.high; n_max = w.n_max; given = take w.calls w.body.items; over = w.over } } };
+    ghost view = { λ w. record { counts = take w.calls w.comp.items; sums = record {
+        kind = w.kind; low = w.low; high = w.high; n_max = w.n_max;
+        given = take w.calls w.body.items; over = w.over } } };
 
-    ghost invariant = { λ w. IsWalk w.kind w.low w.high w.n_max w.calls w.comp.items w.body.items w.cells.items };
+    ghost invariant = { λ w.
+        IsWalk w.kind w.low w.high w.n_max w.calls w.comp.items w.body.items w.cells.items };
 }
 
 impl ChainWalk {
@@ -50,7 +54,8 @@ impl ChainWalk {
     ///
     /// `NoMemory` where memory is refused.
     pub fn new(alloc: Global, chain: &Chain) -> Result<ChainWalk, NoMemory>
-        ensures { IfOk result (λ walk. walk ≡ record { counts = []; sums = start_of chain.now.kind chain.now.low chain.now.high chain.now.n_max }) }
+        ensures { IfOk result (λ walk. walk ≡ record { counts = []; sums =
+            start_of chain.now.kind chain.now.low chain.now.high chain.now.n_max }) }
     {
         let steps = Steps::new(chain.low, chain.high, chain.n_max);
         let comp = vec![in alloc; 0; steps.wide]?;
@@ -77,15 +82,25 @@ impl ChainWalk {
     /// # Errors
     ///
     /// `Over` exactly where the sum is above `MAX`.
-    pub fn total_at(&mut self, chain: &Chain, pascal: &Pascal, comp: &[u128], body: &[u128], here: u128) -> Result<u128, Over>
+    pub fn total_at(
+        &mut self,
+        chain: &Chain,
+        pascal: &Pascal,
+        comp: &[u128],
+        body: &[u128],
+        here: u128,
+    ) -> Result<u128, Over>
         requires next { IsNext chain.now self.old comp.now body.now here }
         requires reached { length comp.now ≤ pascal.now }
-        ensures answer { OkIff result (total_of chain.now body.now here ≤ MAX) (total_of chain.now body.now here) }
+        ensures answer { let total = total_of chain.now body.now here in
+            OkIff result (total ≤ MAX) total }
         ensures totalled { (q : ℕ → ℕ → ℕ)
             → ((m : ℕ) → sum_below (q m) (slice_index chain.now.given m) ≡ numbers body.now here m)
             → IsCollectionTotal Labelled chain.now.kind chain.now.low chain.now.high
-                (slice_index chain.now.given) q (length body.now) (total_of chain.now body.now here) }
-        ensures counts { self.new.counts ≡ comp.now ++ slice_index chain.now.given (length comp.now) ∷ [] }
+                (slice_index chain.now.given) q (length body.now)
+                (total_of chain.now body.now here) }
+        ensures counts { self.new.counts
+            ≡ comp.now ++ slice_index chain.now.given (length comp.now) ∷ [] }
         ensures kept { self.new.sums
             ≡ record self.old.sums { given = body.now ++ here ∷ []; over = is_err result } }
     {

@@ -61,6 +61,13 @@ step_count s kind a i n = coll_count Labelled kind a (i - s.free) (most_at s.unb
 abbrev pub step_total : Steps → Kind → (ℕ → ℕ) → (ℕ → ℕ) → ℕ → ℕ → ℕ
 step_total s kind a b i n = coll_total Labelled kind a b (i - s.free) (most_at s.unbounded i) n
 
+-- the same where the numbers of components, and the sums of charges over them, are lists
+abbrev pub counts_of : Steps → Kind → List ℕ → ℕ → ℕ → ℕ
+counts_of s kind comp = step_count s kind (slice_index comp)
+
+abbrev pub totals_of : Steps → Kind → List ℕ → List ℕ → ℕ → ℕ → ℕ
+totals_of s kind comp body = step_total s kind (slice_index comp) (slice_index body)
+
 -- a cycle isn't empty
 abbrev pub IsOpen : Kind → ℕ → ℕ → Type 0
 IsOpen Cycle free i = free < i
