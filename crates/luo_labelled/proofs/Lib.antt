@@ -3,3 +3,4 @@ pub mod StepLemmas
 pub mod CodeLemmas
 pub mod RowLemmas
 pub mod ChainLemmas
+pub mod WalkLemmas

@@ -1,5 +1,5 @@
 // Labelled sequences, sets and cycles.
-ghost use Rattle.std.specs.Prelude.{◌≡◌, ◌≤◌, ◌∷◌, ◌++◌, [], length, is_err, IfOk, OkIff};
+ghost use Rattle.std.specs.Prelude.{◌≡◌, ◌≤◌, ◌<◌, ◌∷◌, ◌++◌, [], length, slice_index, is_err, IfOk, OkIff};
 ghost use Rattle.luo_num.specs.declared.TheConstants.{MAX};
 ghost use Rattle.luo_model.specs.Numbered.{IsCollectionCount};
 ghost use Rattle.luo_model.specs.declared.program.Universe.TheVariants.{Labelled};
@@ -88,5 +88,13 @@ impl Chain {
         self.calls += 1;
         self.over = answer.is_err();
         answer
+    }
+
+    // The number of components of size n that was given.
+    pub(crate) fn given_at(&self, n: usize) -> u128
+        requires there { n < length self.now.given }
+        ensures { result ≡ slice_index self.now.given n }
+    {
+        self.comp[n]
     }
 }

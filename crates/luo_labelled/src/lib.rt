@@ -6,5 +6,7 @@ mod numbers;
 mod rows;
 mod steps;
 mod sums;
+mod walk;
 
 pub use chain::Chain;
+pub use walk::ChainWalk;

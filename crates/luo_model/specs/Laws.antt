@@ -10,10 +10,15 @@ use Rattle.luo_model.specs.Member.{ComponentsStand}
 use Rattle.luo_model.specs.Program.{Program, Procedure}
 use Rattle.luo_model.specs.Charges.{BodyCharges, Charges, SiteCharges, works_of}
 use Rattle.luo_model.specs.Tables.{IsCount, IsTotal}
+use Rattle.luo_model.specs.Invariant.{IsProgram}
 
 -- no two sites have one number
 abbrev pub SitesAreApart : Program → Type 0
 SitesAreApart p = NoDouble (map (λ w. w.0) (works_of p))
+
+-- and none of a program have
+abbrev pub SitesOfProgramsAreApart : Type 0
+SitesOfProgramsAreApart = (p : Program) → IsProgram p → SitesAreApart p
 
 -- a procedure charges at most one number on a structure
 abbrev pub ChargesAreSingle : Type 0

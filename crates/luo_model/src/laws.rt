@@ -5,7 +5,7 @@ ghost use Rattle.luo_model.specs.FactsCounts.{BinaryTreesAreCounted, BranchesAre
 ghost use Rattle.luo_model.specs.FactsMembers.{OnlyMultisetsRepeat, MultisetsFall, PowersetsFall, CyclesBeginLeast, SetsRise, LeastLabelsCount, BoundsAreReached, NoLabelIsSkipped, OtherLabelsAreCarried, AtomsAreExact};
 ghost use Rattle.luo_model.specs.FactsOrder.{SizesAndLabelsDecide, FormsDecide, PermutationsInOrder, PartitionsInOrder};
 ghost use Rattle.luo_model.specs.FactsTotals.{RowsSumCharges, PathLengthsAreTotalled, ComponentsAreTotalled, LeavesAreTotalled, NodesAreTotalled, InnerSitesAreTotalled};
-ghost use Rattle.luo_model.specs.Laws.{ChargesAreSingle, ChargesAreLeast, SiteChargesAreSingle, WholesCharge, WholesChargeNoMore, ProceduresChargeTheirBodies, OrderIsTotal, NeighboursStand, CountsAreSingle, TotalsAreSingle};
+ghost use Rattle.luo_model.specs.Laws.{SitesOfProgramsAreApart, ChargesAreSingle, ChargesAreLeast, SiteChargesAreSingle, WholesCharge, WholesChargeNoMore, ProceduresChargeTheirBodies, OrderIsTotal, NeighboursStand, CountsAreSingle, TotalsAreSingle};
 
 /// Binary trees by inner nodes are counted by the numbers of Catalan: 1, 1, 2, 5.
 pub fn binary_trees_are_counted()
@@ -170,6 +170,11 @@ pub fn charges_are_single()
 /// Charges are the least relation that follows the bodies of the procedures.
 pub fn charges_are_least()
     ensures { ChargesAreLeast }
+{}
+
+/// No two sites of a program have one number.
+pub fn sites_of_programs_are_apart()
+    ensures { SitesOfProgramsAreApart }
 {}
 
 /// A site charges at most one number on a structure.

@@ -2,13 +2,13 @@
 use Rattle.std.specs.Prelude.{◌≡◌, ◌<◌, ℕ, List}
 use Rattle.luo_finite.specs.Steps.{◌or_else◌}
 use Rattle.luo_model.specs.Program.{Program}
-use Rattle.luo_outside.specs.declared.reading.TheConstants.{TEXT_LIMIT}
+use Rattle.luo_num.specs.declared.limits.TheConstants.{TEXT_LIMIT}
 use Rattle.luo_scan.specs.declared.token.Token.{Token}
 use Rattle.luo_scan.specs.Tokens.{Tokens}
 use Rattle.luo_source.specs.declared.source.Source.{Source}
 use Rattle.luo_source.specs.Grammar.{Derives}
 use Rattle.luo_rules.specs.Whole.{IsCore}
-use Rattle.luo_top.specs.declared.lines.TheConstants.{SIZE_LIMIT}
+use Rattle.luo_num.specs.declared.limits.TheConstants.{SIZE_LIMIT}
 use Rattle.luo_top.specs.declared.status.Status.TheVariants.{Limit}
 use Rattle.luo_top.specs.Answer.{Answer}
 use Rattle.luo_top.specs.Refusals.{bytes_line, size_line, LexicalRefusal, SyntaxRefusal, LimitRefusal, RuleRefusal, WalksRefusal}

@@ -1,4 +1,4 @@
-// The limits that the top call keeps, the lines of refusals, and the refusals of a text.
+// The lines of refusals, and the refusals of a text.
 ghost use Rattle.std.specs.Prelude.{◌≡◌, ◌++◌, flat_map, IfOk, OnOk};
 ghost use Rattle.luo_scan.specs.Faults.{IsFault};
 ghost use Rattle.luo_scan.specs.Lexemes.{lexemes};
@@ -11,25 +11,21 @@ ghost use Rattle.luo_top.specs.inner.Passes.{RefusedBy};
 
 use crate::refusal::{Line, Refusal};
 use itoa::Buffer;
+use luo_num::limits::{
+    ANALYSIS_LIMIT_LINE, BOUND_LIMIT_LINE, DEFINITION_LIMIT_LINE, DEPTH_LIMIT_HEAD,
+    MULTISET_LIMIT_LINE, NAME_LIMIT_HEAD, NODE_LIMIT_LINE, NUMBER_LIMIT_HEAD, PART_LIMIT_LINE,
+    PROCEDURE_LIMIT_LINE, STATEMENT_LIMIT_LINE, WALK_LIMIT_LINE,
+};
 use luo_num::{Items, NoMemory, Text};
 use luo_scan::{ScanError, Token};
 use luo_syntax::SyntaxError;
 use luo_types::{CheckError, CountLimit, Rule};
 use std::alloc::Global;
 
-/// The greatest size that a command takes.
-pub const SIZE_LIMIT: u64 = 160;
-
 pub const USAGE_LINE: &[u8] = b"usage\n";
-
-pub const BYTES_LINE: &[u8] = b"limit: bytes 65536\n";
-
-pub const SIZE_LINE: &[u8] = b"limit: size 160\n";
 
 /// The line of a program, or of a number, that isn't taken yet.
 pub const UNTAKEN_LINE: &[u8] = b"refused: F0\n";
-
-const NUMBER_HEAD: &[u8] = b"limit: number 100000000000000000000000000000000000";
 
 // `HEAD at byte BYTE`, as a line.
 fn line_at(alloc: Global, head: &[u8], byte: usize) -> Result<Vec<u8>, NoMemory>
@@ -67,11 +63,11 @@ pub fn fault_refusal(alloc: Global, text: &[u8], error: ScanError) -> Refusal
             Ok(text) => Refusal::Refused(Line::Made(text)),
             Err(_) => Refusal::NoMemory,
         },
-        ScanError::NameLimit { at } => match line_at(alloc, b"limit: name 32", at) {
+        ScanError::NameLimit { at } => match line_at(alloc, NAME_LIMIT_HEAD, at) {
             Ok(text) => Refusal::Limit(Line::Made(text)),
             Err(_) => Refusal::NoMemory,
         },
-        ScanError::NumberLimit { at } => match line_at(alloc, NUMBER_HEAD, at) {
+        ScanError::NumberLimit { at } => match line_at(alloc, NUMBER_LIMIT_HEAD, at) {
             Ok(text) => Refusal::Limit(Line::Made(text)),
             Err(_) => Refusal::NoMemory,
         },
@@ -106,7 +102,7 @@ pub fn syntax_refusal(alloc: Global, text: &[u8], tokens: &[Token], error: Synta
         SyntaxError::Depth { token } => {
             match line_at_token(
                 alloc,
-                b"limit: depth 32",
+                DEPTH_LIMIT_HEAD,
                 token,
                 byte_of(text, tokens, token),
             ) {
@@ -123,15 +119,15 @@ fn limit_bytes(which: CountLimit) -> &'static [u8]
     ensures { result.now ≡ limit_line which }
 {
     match which {
-        CountLimit::Definitions => b"limit: definitions 64\n",
-        CountLimit::Nodes => b"limit: nodes 128\n",
-        CountLimit::Parts => b"limit: parts 64\n",
-        CountLimit::Bounds => b"limit: bounds 100\n",
-        CountLimit::Multisets => b"limit: multisets 32\n",
-        CountLimit::Procedures => b"limit: procedures 64\n",
-        CountLimit::Statements => b"limit: statements 1024\n",
-        CountLimit::Analyses => b"limit: analyses 16\n",
-        CountLimit::Walks => b"limit: walks 32\n",
+        CountLimit::Definitions => DEFINITION_LIMIT_LINE,
+        CountLimit::Nodes => NODE_LIMIT_LINE,
+        CountLimit::Parts => PART_LIMIT_LINE,
+        CountLimit::Bounds => BOUND_LIMIT_LINE,
+        CountLimit::Multisets => MULTISET_LIMIT_LINE,
+        CountLimit::Procedures => PROCEDURE_LIMIT_LINE,
+        CountLimit::Statements => STATEMENT_LIMIT_LINE,
+        CountLimit::Analyses => ANALYSIS_LIMIT_LINE,
+        CountLimit::Walks => WALK_LIMIT_LINE,
     }
 }
 

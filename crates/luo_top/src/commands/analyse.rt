@@ -1,7 +1,7 @@
 // `analyse FILE N`
 ghost use Rattle.std.specs.Prelude.{◌≡◌, ◌≤◌, ℕ, min, [], ◌∷◌, OnOk};
 ghost use Rattle.luo_model.specs.View.{plain_of};
-ghost use Rattle.luo_top.specs.declared.lines.TheConstants.{SIZE_LIMIT};
+ghost use Rattle.luo_num.specs.declared.limits.TheConstants.{SIZE_LIMIT};
 ghost use Rattle.luo_top.specs.declared.words.TheConstants.{NUMBER_CAP};
 ghost use Rattle.luo_top.specs.Commands.Analyse as steps;
 ghost use Rattle.luo_top.specs.inner.Passes.{Passes, PassesOver, seen, itself};

@@ -1,7 +1,7 @@
 // The rows of the analyze lines.
 ghost use Rattle.std.specs.Prelude.{◌≡◌, ◌<◌, ◌≤◌, ◌+◌, ℕ, List, length, slice_get, Some, IfOk};
 ghost use Rattle.luo_model.specs.View.{plain_of};
-ghost use Rattle.luo_top.specs.declared.lines.TheConstants.{SIZE_LIMIT};
+ghost use Rattle.luo_num.specs.declared.limits.TheConstants.{SIZE_LIMIT};
 ghost use Rattle.luo_top.specs.Report.{IsPast, AreTables};
 ghost use Rattle.luo_top.specs.inner.plain.Columns.{AreColumns, AreRowsOf};
 ghost use Rattle.luo_top.specs.inner.plain.Fillable.{IsFillable};

@@ -1,6 +1,6 @@
 // From a text to its source.
 ghost use Rattle.std.specs.Prelude.{◌≤◌, [], ◌∷◌, length};
-ghost use Rattle.luo_outside.specs.declared.reading.TheConstants.{TEXT_LIMIT};
+ghost use Rattle.luo_num.specs.declared.limits.TheConstants.{TEXT_LIMIT};
 ghost use Rattle.luo_scan.specs.Tokens.{Tokens};
 ghost use Rattle.luo_top.specs.Steps as steps;
 ghost use Rattle.luo_top.specs.inner.Passes.{Passes, PassesOver, seen, itself};
