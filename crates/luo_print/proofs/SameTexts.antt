@@ -3,22 +3,22 @@ use Rattle.std.proofs.Common.{◌≡◌, ℕ, ◌+◌, List, [], ◌∷◌, ◌+
 use Rattle.std.specs.List.{join_by, AllZip}
 use Rattle.luo_scan.specs.declared.token.Token.{Token}
 use Rattle.luo_scan.specs.Tokens.{Tokens}
-use Rattle.luo_syntax.specs.declared.names.Name.{Name}
-use Rattle.luo_syntax.specs.declared.types.Bound.{Bound}
-use Rattle.luo_syntax.specs.declared.types.TypeExpr.{TypeExpr}
-use Rattle.luo_syntax.specs.declared.types.TypeDef.{TypeDef}
-use Rattle.luo_syntax.specs.declared.types.MeasureDef.{MeasureDef}
-use Rattle.luo_syntax.specs.declared.statements.Pattern.{Pattern}
-use Rattle.luo_syntax.specs.declared.statements.Pattern.TheVariants as pattern
-use Rattle.luo_syntax.specs.declared.statements.SourceArm.{SourceArm}
-use Rattle.luo_syntax.specs.declared.statements.Stmt.{Stmt}
-use Rattle.luo_syntax.specs.declared.values.SourceValue.{SourceValue}
-use Rattle.luo_syntax.specs.declared.values.SourceValueArm.{SourceValueArm}
-use Rattle.luo_syntax.specs.declared.source.ProcBody.{ProcBody}
-use Rattle.luo_syntax.specs.declared.source.ProcBody.TheVariants.{Statements, Value}
-use Rattle.luo_syntax.specs.declared.source.ProcDef.{ProcDef}
-use Rattle.luo_syntax.specs.declared.source.Source.{Source}
-use Rattle.luo_syntax.specs.Grammar.{Derives}
+use Rattle.luo_source.specs.declared.names.Name.{Name}
+use Rattle.luo_source.specs.declared.types.Bound.{Bound}
+use Rattle.luo_source.specs.declared.types.TypeExpr.{TypeExpr}
+use Rattle.luo_source.specs.declared.types.TypeDef.{TypeDef}
+use Rattle.luo_source.specs.declared.types.MeasureDef.{MeasureDef}
+use Rattle.luo_source.specs.declared.statements.Pattern.{Pattern}
+use Rattle.luo_source.specs.declared.statements.Pattern.TheVariants as pattern
+use Rattle.luo_source.specs.declared.statements.SourceArm.{SourceArm}
+use Rattle.luo_source.specs.declared.statements.Stmt.{Stmt}
+use Rattle.luo_source.specs.declared.values.SourceValue.{SourceValue}
+use Rattle.luo_source.specs.declared.values.SourceValueArm.{SourceValueArm}
+use Rattle.luo_source.specs.declared.source.ProcBody.{ProcBody}
+use Rattle.luo_source.specs.declared.source.ProcBody.TheVariants.{Statements, Value}
+use Rattle.luo_source.specs.declared.source.ProcDef.{ProcDef}
+use Rattle.luo_source.specs.declared.source.Source.{Source}
+use Rattle.luo_source.specs.Grammar.{Derives}
 use Rattle.luo_print.specs.Layout.{joined, lines, name_list, new_line}
 use Rattle.luo_print.specs.CanonicalTypes.{kind_text, range_text, bound_text, expr_text, type_def_line, measure_line}
 use Rattle.luo_print.specs.CanonicalStatements.{pattern_text, call_text, block_of, case_of, stmt_text, arm_text}

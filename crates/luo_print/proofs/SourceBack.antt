@@ -10,16 +10,16 @@ use Rattle.luo_scan.specs.Lexemes.{Lexeme, lexemes_from}
 use Rattle.luo_scan.specs.Tokens.{Tokens}
 use Rattle.luo_scan.proofs.Inside.{lexemes_fit}
 use Rattle.luo_model.specs.declared.program.Universe.TheVariants.{Unlabelled, Labelled}
-use Rattle.luo_syntax.specs.declared.names.Name.{Name}
-use Rattle.luo_syntax.specs.declared.types.TypeDef.{TypeDef}
-use Rattle.luo_syntax.specs.declared.types.MeasureDef.{MeasureDef}
-use Rattle.luo_syntax.specs.declared.statements.Stmt.{Stmt}
-use Rattle.luo_syntax.specs.declared.values.SourceValue.{SourceValue}
-use Rattle.luo_syntax.specs.declared.source.ProcBody.{ProcBody}
-use Rattle.luo_syntax.specs.declared.source.ProcBody.TheVariants.{Statements, Value}
-use Rattle.luo_syntax.specs.declared.source.ProcDef.{ProcDef}
-use Rattle.luo_syntax.specs.declared.source.Source.{Source}
-use Rattle.luo_syntax.specs.Grammar.{IsProcBody, statements_body, value_body, IsProc, proc, IsAnalyze, analyze, AreAnalyses, last_analysis, more_analyses, FromProcs, no_procs, more_procs, FromMeasures, no_measures, more_measures, FromTypes, no_types, more_types, IsProgram, labelled, unlabelled, unlabelled_unsaid, Derives}
+use Rattle.luo_source.specs.declared.names.Name.{Name}
+use Rattle.luo_source.specs.declared.types.TypeDef.{TypeDef}
+use Rattle.luo_source.specs.declared.types.MeasureDef.{MeasureDef}
+use Rattle.luo_source.specs.declared.statements.Stmt.{Stmt}
+use Rattle.luo_source.specs.declared.values.SourceValue.{SourceValue}
+use Rattle.luo_source.specs.declared.source.ProcBody.{ProcBody}
+use Rattle.luo_source.specs.declared.source.ProcBody.TheVariants.{Statements, Value}
+use Rattle.luo_source.specs.declared.source.ProcDef.{ProcDef}
+use Rattle.luo_source.specs.declared.source.Source.{Source}
+use Rattle.luo_source.specs.Grammar.{IsProcBody, statements_body, value_body, IsProc, proc, IsAnalyze, analyze, AreAnalyses, last_analysis, more_analyses, FromProcs, no_procs, more_procs, FromMeasures, no_measures, more_measures, FromTypes, no_types, more_types, IsProgram, labelled, unlabelled, unlabelled_unsaid, Derives}
 use Rattle.luo_print.specs.CanonicalTypes.{type_def_line, measure_line}
 use Rattle.luo_print.specs.Canonical.{universe_line, body_text, proc_text, analyze_line, canonical}
 use Rattle.luo_print.specs.Same.{SameName, SameNames, SameTypeDef, SameMeasure, SameBody, SameProc, SameSource}

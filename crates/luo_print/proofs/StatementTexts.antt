@@ -2,9 +2,9 @@
 use Rattle.std.proofs.Common.{◌≡◌, ℕ, ◌+◌, List, ◌∷◌, ◌++◌, refl, ap, ◌∙◌, sym, map, codes}
 use mathlib.Core.Former.{Count}
 use denote.Hole.Carrier.{hidden}
-use Rattle.luo_syntax.specs.declared.names.Name.{Name}
-use Rattle.luo_syntax.specs.declared.statements.SourceArm.{SourceArm}
-use Rattle.luo_syntax.specs.declared.statements.Stmt.{Stmt, Block, Block', Case, Case', Forall, Row_of-Stmt, end_of-Stmt, more_of-Stmt, items-the_row-Stmt, items_hidden-the_row-Stmt-0, Row_of-SourceArm, end_of-SourceArm, more_of-SourceArm, items-the_row-SourceArm, items_hidden-the_row-SourceArm-1}
+use Rattle.luo_source.specs.declared.names.Name.{Name}
+use Rattle.luo_source.specs.declared.statements.SourceArm.{SourceArm}
+use Rattle.luo_source.specs.declared.statements.Stmt.{Stmt, Block, Block', Case, Case', Forall, Row_of-Stmt, end_of-Stmt, more_of-Stmt, items-the_row-Stmt, items_hidden-the_row-Stmt-0, Row_of-SourceArm, end_of-SourceArm, more_of-SourceArm, items-the_row-SourceArm, items_hidden-the_row-SourceArm-1}
 use Rattle.std.specs.List.{join_by}
 use Rattle.luo_print.specs.Layout.{new_line}
 use Rattle.luo_print.specs.CanonicalStatements.{block_of, case_of, stmt_text, stmt_texts, stmt_line, arm_text, arm_texts, arm_line}
@@ -45,7 +45,7 @@ case_text n var arms =
     ap (case_of n var) (arm_row (n + 2) row.0 row.1 ∙ ap (map (arm_text (n + 2))) (items_hidden-the_row-SourceArm-1 arms))
 
 pub forall_text : (n : ℕ) (var source : Name) (body : Stmt) → stmt_text n (Forall var source body) ≡ codes "forall " ++ var.text ++ codes " in " ++ source.text ++ codes " do " ++ stmt_text n body
-unfolding Rattle.luo_syntax.specs.declared.statements.Stmt.TheBlock.hidden-the_row-Stmt-2 hidden
+unfolding Rattle.luo_source.specs.declared.statements.Stmt.TheBlock.hidden-the_row-Stmt-2 hidden
 forall_text n var source body = refl
 
 pub put_block : (n : ℕ) (s : Stmt) (stmts items : List Stmt) → s ≡ Block stmts → items ≡ stmts → codes "begin" ++ join_by (stmt_line (n + 2)) (codes ";") items ++ new_line n ++ codes "end" ≡ stmt_text n s

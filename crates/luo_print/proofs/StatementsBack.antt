@@ -7,13 +7,13 @@ use Rattle.luo_scan.specs.declared.token.Mark.TheVariants.{Semicolon, LeftRound,
 use Rattle.luo_scan.specs.declared.token.TokenKind.TheVariants as kind
 use Rattle.luo_scan.specs.Laws.{IsFit}
 use Rattle.luo_scan.specs.Lexemes.{Lexeme, lexeme}
-use Rattle.luo_syntax.specs.declared.names.Name.{Name}
-use Rattle.luo_syntax.specs.declared.statements.Pattern.{Pattern}
-use Rattle.luo_syntax.specs.declared.statements.Pattern.TheVariants as pattern
-use Rattle.luo_syntax.specs.declared.statements.SourceArm.{SourceArm}
-use Rattle.luo_syntax.specs.declared.statements.Stmt.{Stmt}
-use Rattle.luo_syntax.specs.declared.statements.Stmt.TheVariants.{Skip, Charge, Call, Block, Case, Forall}
-use Rattle.luo_syntax.specs.GrammarStatements.{IsPattern, pattern_named, pattern_whole, pattern_named_parts, pattern_parts, pattern_any, pattern_any_whole, IsBlock, empty_block, full_block, AreStmts, last_stmt, more_stmts, IsStmt, simple_stmt, case_stmt, forall_stmt, IsSimple, block_stmt, skip_stmt, charge_stmt, call_stmt, AreArms, last_arm, more_arms, IsArm, one_arm}
+use Rattle.luo_source.specs.declared.names.Name.{Name}
+use Rattle.luo_source.specs.declared.statements.Pattern.{Pattern}
+use Rattle.luo_source.specs.declared.statements.Pattern.TheVariants as pattern
+use Rattle.luo_source.specs.declared.statements.SourceArm.{SourceArm}
+use Rattle.luo_source.specs.declared.statements.Stmt.{Stmt}
+use Rattle.luo_source.specs.declared.statements.Stmt.TheVariants.{Skip, Charge, Call, Block, Case, Forall}
+use Rattle.luo_source.specs.GrammarStatements.{IsPattern, pattern_named, pattern_whole, pattern_named_parts, pattern_parts, pattern_any, pattern_any_whole, IsBlock, empty_block, full_block, AreStmts, last_stmt, more_stmts, IsStmt, simple_stmt, case_stmt, forall_stmt, IsSimple, block_stmt, skip_stmt, charge_stmt, call_stmt, AreArms, last_arm, more_arms, IsArm, one_arm}
 use Rattle.luo_print.specs.Layout.{name_list, new_line}
 use Rattle.luo_print.specs.CanonicalStatements.{pattern_text, call_text, stmt_text, stmt_line, arm_line}
 use Rattle.luo_print.specs.Same.{SameNames, SamePattern, SameStmt, SameStmts, SameArms, same_skip, same_charge, same_call, same_block, same_case, same_forall, no_stmts, no_arms}

@@ -4,8 +4,8 @@ use Rattle.std.specs.List.{join_by}
 use mathlib.Core.Former.{Count}
 use denote.Hole.Carrier.{hidden}
 use Rattle.luo_model.specs.declared.program.Kind.{Kind}
-use Rattle.luo_syntax.specs.declared.types.Bound.{Bound}
-use Rattle.luo_syntax.specs.declared.types.TypeExpr.{TypeExpr, Union, Union', Product, Product', Coll, Row_of-TypeExpr, end_of-TypeExpr, more_of-TypeExpr, items-the_row-TypeExpr, items_hidden-the_row-TypeExpr-0}
+use Rattle.luo_source.specs.declared.types.Bound.{Bound}
+use Rattle.luo_source.specs.declared.types.TypeExpr.{TypeExpr, Union, Union', Product, Product', Coll, Row_of-TypeExpr, end_of-TypeExpr, more_of-TypeExpr, items-the_row-TypeExpr, items_hidden-the_row-TypeExpr-0}
 use Rattle.luo_print.specs.Layout.{joined}
 use Rattle.luo_print.specs.CanonicalTypes.{kind_text, bound_text, expr_text, expr_texts}
 use Rattle.luo_print.proofs.Joins.{joined_map}
@@ -30,7 +30,7 @@ product_text es at =
     ap (λ t. codes "product(" ++ t ++ codes ")") (ap (joined (codes ", ")) (row_texts row.0 row.1 ∙ ap (map expr_text) (items_hidden-the_row-TypeExpr-0 es)) ∙ joined_map expr_text (codes ", ") es)
 
 pub coll_text : (kind : Kind) (e : TypeExpr) (bound : Option Bound) (at : ℕ) → expr_text (Coll kind e bound at) ≡ kind_text kind ++ codes "(" ++ expr_text e ++ bound_text bound ++ codes ")"
-unfolding Rattle.luo_syntax.specs.declared.types.TypeExpr.TheBlock.hidden-the_row-TypeExpr-1 hidden
+unfolding Rattle.luo_source.specs.declared.types.TypeExpr.TheBlock.hidden-the_row-TypeExpr-1 hidden
 coll_text kind e bound at = refl
 
 pub put_union : (e : TypeExpr) (es parts : List TypeExpr) → e ≡ Union es → parts ≡ es → join_by expr_text (codes " | ") parts ≡ expr_text e

@@ -10,15 +10,15 @@ use Rattle.luo_scan.specs.declared.token.TokenKind.TheVariants as kind
 use Rattle.luo_scan.specs.Laws.{IsFit}
 use Rattle.luo_scan.specs.Lexemes.{Lexeme}
 use Rattle.luo_model.specs.declared.program.Kind.{Kind}
-use Rattle.luo_syntax.specs.declared.names.Name.{Name}
-use Rattle.luo_syntax.specs.declared.types.Range.{Range}
-use Rattle.luo_syntax.specs.declared.types.Range.TheVariants.{Exactly, AtMost, AtLeast, Between}
-use Rattle.luo_syntax.specs.declared.types.Bound.{Bound}
-use Rattle.luo_syntax.specs.declared.types.TypeExpr.{TypeExpr}
-use Rattle.luo_syntax.specs.declared.types.TypeExpr.TheVariants.{Named, Epsilon, Atom, Union, Product, Coll}
-use Rattle.luo_syntax.specs.declared.types.TypeDef.{TypeDef}
-use Rattle.luo_syntax.specs.declared.types.MeasureDef.{MeasureDef}
-use Rattle.luo_syntax.specs.GrammarTypes.{AreNames, last_name, more_names, IsRange, exactly, at_most, at_least, between, IsCollection, sequence, set, cycle, multiset, powerset, EndsCollection, unbounded, bounded, IsExpr, one_term, union, AreTerms, last_term, more_terms, IsTerm, named, epsilon, atom, product, collection, AreFactors, last_factor, more_factors, IsTypeDef, type_def, IsMeasure, measure_def}
+use Rattle.luo_source.specs.declared.names.Name.{Name}
+use Rattle.luo_source.specs.declared.types.Range.{Range}
+use Rattle.luo_source.specs.declared.types.Range.TheVariants.{Exactly, AtMost, AtLeast, Between}
+use Rattle.luo_source.specs.declared.types.Bound.{Bound}
+use Rattle.luo_source.specs.declared.types.TypeExpr.{TypeExpr}
+use Rattle.luo_source.specs.declared.types.TypeExpr.TheVariants.{Named, Epsilon, Atom, Union, Product, Coll}
+use Rattle.luo_source.specs.declared.types.TypeDef.{TypeDef}
+use Rattle.luo_source.specs.declared.types.MeasureDef.{MeasureDef}
+use Rattle.luo_source.specs.GrammarTypes.{AreNames, last_name, more_names, IsRange, exactly, at_most, at_least, between, IsCollection, sequence, set, cycle, multiset, powerset, EndsCollection, unbounded, bounded, IsExpr, one_term, union, AreTerms, last_term, more_terms, IsTerm, named, epsilon, atom, product, collection, AreFactors, last_factor, more_factors, IsTypeDef, type_def, IsMeasure, measure_def}
 use Rattle.luo_print.specs.Layout.{name_list}
 use Rattle.luo_print.specs.CanonicalTypes.{kind_text, range_text, bound_text, expr_text, type_def_line, measure_line}
 use Rattle.luo_print.specs.Same.{SameNames, SameBound, SameExpr, SameExprs, same_named, same_epsilon, same_atom, same_union, same_product, same_collection, no_exprs, more_exprs, SameTypeDef, SameMeasure}

@@ -3,9 +3,9 @@ use Rattle.std.proofs.Common.{◌≡◌, ℕ, ◌+◌, List, ◌∷◌, ◌++◌
 use Rattle.std.specs.List.{join_by}
 use mathlib.Core.Former.{Count}
 use denote.Hole.Carrier.{hidden}
-use Rattle.luo_syntax.specs.declared.names.Name.{Name}
-use Rattle.luo_syntax.specs.declared.values.SourceValueArm.{SourceValueArm}
-use Rattle.luo_syntax.specs.declared.values.SourceValue.{SourceValue, Tuple, Tuple', Branch, Case, Case', Row_of-SourceValue, end_of-SourceValue, more_of-SourceValue, items-the_row-SourceValue, items_hidden-the_row-SourceValue-0, Row_of-SourceValueArm, end_of-SourceValueArm, more_of-SourceValueArm, items-the_row-SourceValueArm, items_hidden-the_row-SourceValueArm-2}
+use Rattle.luo_source.specs.declared.names.Name.{Name}
+use Rattle.luo_source.specs.declared.values.SourceValueArm.{SourceValueArm}
+use Rattle.luo_source.specs.declared.values.SourceValue.{SourceValue, Tuple, Tuple', Branch, Case, Case', Row_of-SourceValue, end_of-SourceValue, more_of-SourceValue, items-the_row-SourceValue, items_hidden-the_row-SourceValue-0, Row_of-SourceValueArm, end_of-SourceValueArm, more_of-SourceValueArm, items-the_row-SourceValueArm, items_hidden-the_row-SourceValueArm-2}
 use Rattle.luo_print.specs.Layout.{joined, new_line}
 use Rattle.luo_print.specs.CanonicalStatements.{case_of}
 use Rattle.luo_print.specs.CanonicalValues.{opening, closing, value_text, value_texts, value_arm_text, value_arm_texts, value_arm_line}
@@ -33,7 +33,7 @@ tuple_text n parts at =
     ap (λ t. codes "product(" ++ t ++ codes ")") (ap (joined (codes ", ")) (value_row n row.0 row.1 ∙ ap (map (value_text n)) (items_hidden-the_row-SourceValue-0 parts)) ∙ joined_map (value_text n) (codes ", ") parts)
 
 pub branch_text : (n number at : ℕ) (inner : SourceValue) → value_text n (Branch number at inner) ≡ decimal number ++ codes " : " ++ (opening inner ++ value_text n inner ++ closing inner)
-unfolding Rattle.luo_syntax.specs.declared.values.SourceValue.TheBlock.hidden-the_row-SourceValue-1 hidden
+unfolding Rattle.luo_source.specs.declared.values.SourceValue.TheBlock.hidden-the_row-SourceValue-1 hidden
 branch_text n number at inner = refl
 
 pub case_text : (n : ℕ) (var : Name) (arms : List SourceValueArm) → value_text n (Case var arms) ≡ case_of n var (map (value_arm_text (n + 2)) arms)

@@ -2,11 +2,11 @@
 use Rattle.std.specs.Prelude.{ℕ, List, ◌++◌, codes, flat_map, map}
 use Rattle.luo_model.specs.declared.program.Universe.{Universe}
 use Rattle.luo_model.specs.declared.program.Universe.TheVariants.{Unlabelled, Labelled}
-use Rattle.luo_syntax.specs.declared.names.Name.{Name}
-use Rattle.luo_syntax.specs.declared.source.ProcBody.{ProcBody}
-use Rattle.luo_syntax.specs.declared.source.ProcBody.TheVariants.{Statements, Value}
-use Rattle.luo_syntax.specs.declared.source.ProcDef.{ProcDef}
-use Rattle.luo_syntax.specs.declared.source.Source.{Source}
+use Rattle.luo_source.specs.declared.names.Name.{Name}
+use Rattle.luo_source.specs.declared.source.ProcBody.{ProcBody}
+use Rattle.luo_source.specs.declared.source.ProcBody.TheVariants.{Statements, Value}
+use Rattle.luo_source.specs.declared.source.ProcDef.{ProcDef}
+use Rattle.luo_source.specs.declared.source.Source.{Source}
 use Rattle.luo_print.specs.CanonicalTypes.{type_def_line, measure_line}
 use Rattle.luo_print.specs.CanonicalStatements.{block_of, stmt_text}
 use Rattle.luo_print.specs.CanonicalValues.{value_text}

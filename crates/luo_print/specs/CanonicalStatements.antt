@@ -1,10 +1,10 @@
 -- The canonical text of patterns and statements.
 use Rattle.std.specs.Prelude.{ℕ, ◌+◌, List, [], ◌∷◌, ◌++◌, codes}
-use Rattle.luo_syntax.specs.declared.names.Name.{Name}
-use Rattle.luo_syntax.specs.declared.statements.Pattern.{Pattern}
-use Rattle.luo_syntax.specs.declared.statements.Pattern.TheVariants.{Named, NamedWhole, NamedParts, Parts, Any, AnyWhole}
-use Rattle.luo_syntax.specs.declared.statements.SourceArm.{SourceArm}
-use Rattle.luo_syntax.specs.declared.statements.Stmt.{Stmt, Skip, Charge, Call, Block', Case', Forall', Row_of-Stmt, end_of-Stmt, more_of-Stmt, Row_of-SourceArm, end_of-SourceArm, more_of-SourceArm}
+use Rattle.luo_source.specs.declared.names.Name.{Name}
+use Rattle.luo_source.specs.declared.statements.Pattern.{Pattern}
+use Rattle.luo_source.specs.declared.statements.Pattern.TheVariants.{Named, NamedWhole, NamedParts, Parts, Any, AnyWhole}
+use Rattle.luo_source.specs.declared.statements.SourceArm.{SourceArm}
+use Rattle.luo_source.specs.declared.statements.Stmt.{Stmt, Skip, Charge, Call, Block', Case', Forall', Row_of-Stmt, end_of-Stmt, more_of-Stmt, Row_of-SourceArm, end_of-SourceArm, more_of-SourceArm}
 use Rattle.luo_print.specs.Layout.{name_list, lines, new_line}
 
 abbrev pub pattern_text : Pattern → List ℕ

@@ -2,8 +2,8 @@
 use Rattle.std.specs.Prelude.{◌≡◌, ℕ, List}
 use Rattle.luo_scan.specs.declared.token.Token.{Token}
 use Rattle.luo_scan.specs.Tokens.{Tokens}
-use Rattle.luo_syntax.specs.declared.source.Source.{Source}
-use Rattle.luo_syntax.specs.Grammar.{Derives}
+use Rattle.luo_source.specs.declared.source.Source.{Source}
+use Rattle.luo_source.specs.Grammar.{Derives}
 use Rattle.luo_print.specs.Canonical.{canonical}
 use Rattle.luo_print.specs.Same.{SameSource}
 

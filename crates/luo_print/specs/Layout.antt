@@ -1,7 +1,7 @@
 -- Pieces of text, and how they are put together.
 use Rattle.std.specs.Prelude.{ℕ, List, ◌++◌, codes}
 use Rattle.std.specs.List.{join_by, repeat}
-use Rattle.luo_syntax.specs.declared.names.Name.{Name}
+use Rattle.luo_source.specs.declared.names.Name.{Name}
 
 -- so many spaces
 abbrev pub spaces : ℕ → List ℕ

@@ -2,24 +2,24 @@
 use Rattle.std.specs.Prelude.{◌≡◌, ℕ, List, [], ◌∷◌, Option, None, Some}
 use Rattle.std.specs.List.{AllZip}
 use Rattle.luo_model.specs.declared.program.Kind.{Kind}
-use Rattle.luo_syntax.specs.declared.names.Name.{Name}
-use Rattle.luo_syntax.specs.declared.types.Bound.{Bound}
-use Rattle.luo_syntax.specs.declared.types.TypeExpr.{TypeExpr}
-use Rattle.luo_syntax.specs.declared.types.TypeExpr.TheVariants as expr
-use Rattle.luo_syntax.specs.declared.types.TypeDef.{TypeDef}
-use Rattle.luo_syntax.specs.declared.types.MeasureDef.{MeasureDef}
-use Rattle.luo_syntax.specs.declared.statements.Pattern.{Pattern}
-use Rattle.luo_syntax.specs.declared.statements.Pattern.TheVariants as pattern
-use Rattle.luo_syntax.specs.declared.statements.SourceArm.{SourceArm}
-use Rattle.luo_syntax.specs.declared.statements.Stmt.{Stmt}
-use Rattle.luo_syntax.specs.declared.statements.Stmt.TheVariants as stmt
-use Rattle.luo_syntax.specs.declared.values.SourceValue.{SourceValue}
-use Rattle.luo_syntax.specs.declared.values.SourceValue.TheVariants as value
-use Rattle.luo_syntax.specs.declared.values.SourceValueArm.{SourceValueArm}
-use Rattle.luo_syntax.specs.declared.source.ProcBody.{ProcBody}
-use Rattle.luo_syntax.specs.declared.source.ProcBody.TheVariants as body
-use Rattle.luo_syntax.specs.declared.source.ProcDef.{ProcDef}
-use Rattle.luo_syntax.specs.declared.source.Source.{Source}
+use Rattle.luo_source.specs.declared.names.Name.{Name}
+use Rattle.luo_source.specs.declared.types.Bound.{Bound}
+use Rattle.luo_source.specs.declared.types.TypeExpr.{TypeExpr}
+use Rattle.luo_source.specs.declared.types.TypeExpr.TheVariants as expr
+use Rattle.luo_source.specs.declared.types.TypeDef.{TypeDef}
+use Rattle.luo_source.specs.declared.types.MeasureDef.{MeasureDef}
+use Rattle.luo_source.specs.declared.statements.Pattern.{Pattern}
+use Rattle.luo_source.specs.declared.statements.Pattern.TheVariants as pattern
+use Rattle.luo_source.specs.declared.statements.SourceArm.{SourceArm}
+use Rattle.luo_source.specs.declared.statements.Stmt.{Stmt}
+use Rattle.luo_source.specs.declared.statements.Stmt.TheVariants as stmt
+use Rattle.luo_source.specs.declared.values.SourceValue.{SourceValue}
+use Rattle.luo_source.specs.declared.values.SourceValue.TheVariants as value
+use Rattle.luo_source.specs.declared.values.SourceValueArm.{SourceValueArm}
+use Rattle.luo_source.specs.declared.source.ProcBody.{ProcBody}
+use Rattle.luo_source.specs.declared.source.ProcBody.TheVariants as body
+use Rattle.luo_source.specs.declared.source.ProcDef.{ProcDef}
+use Rattle.luo_source.specs.declared.source.Source.{Source}
 
 abbrev pub SameName : Name → Name → Type 0
 SameName m n = m.text ≡ n.text

@@ -5,7 +5,7 @@ ghost use Rattle.luo_print.specs.CanonicalStatements.{pattern_text, call_text};
 
 use crate::pieces::put_names;
 use luo_num::NoMemory;
-use luo_syntax::{Name, Pattern};
+use luo_source::{Name, Pattern};
 
 // Puts a name behind the text.
 pub(crate) fn put_name(text: &mut Vec<u8>, name: &Name) -> Result<(), NoMemory>

@@ -4,7 +4,7 @@ ghost use Rattle.luo_print.specs.Layout.{spaces, new_line, name_list};
 
 use itoa::Buffer;
 use luo_num::NoMemory;
-use luo_syntax::Name;
+use luo_source::Name;
 
 // The indentation of what stands inside. No memory holds a text of an indentation past the last `usize`.
 pub(crate) fn deeper(indent: usize) -> Result<usize, NoMemory>

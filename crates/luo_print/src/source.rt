@@ -10,7 +10,7 @@ use crate::types::{put_measure, put_type_def};
 use crate::values::put_value;
 use luo_model::Universe;
 use luo_num::NoMemory;
-use luo_syntax::{MeasureDef, Name, ProcBody, ProcDef, Source, Stmt, TypeDef};
+use luo_source::{MeasureDef, Name, ProcBody, ProcDef, Source, Stmt, TypeDef};
 use std::alloc::Global;
 
 fn first_line(universe: Universe) -> &'static [u8]

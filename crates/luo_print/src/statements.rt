@@ -7,7 +7,7 @@ ghost use Rattle.luo_print.specs.CanonicalStatements.{stmt_text, stmt_line, arm_
 use crate::patterns::{put_arm_head, put_call, put_case_head, put_name};
 use crate::pieces::{deeper, put_end, put_new_line};
 use luo_num::NoMemory;
-use luo_syntax::{Name, SourceArm, Stmt};
+use luo_source::{Name, SourceArm, Stmt};
 
 // Puts a statement behind the text, in a line of this indentation.
 #[cycle(statements)]

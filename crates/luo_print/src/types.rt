@@ -6,7 +6,7 @@ ghost use Rattle.luo_print.specs.CanonicalTypes.{kind_text, range_text, bound_te
 use crate::pieces::{put_names, put_number};
 use luo_model::Kind;
 use luo_num::NoMemory;
-use luo_syntax::{Bound, MeasureDef, Range, TypeDef, TypeExpr};
+use luo_source::{Bound, MeasureDef, Range, TypeDef, TypeExpr};
 
 fn word_of(kind: Kind) -> &'static [u8]
     ensures { result.now ≡ kind_text kind }

@@ -7,7 +7,7 @@ ghost use Rattle.luo_print.specs.CanonicalValues.{charge_text, opening, closing,
 use crate::patterns::{put_arm_head, put_call, put_case_head, put_name};
 use crate::pieces::{deeper, put_end, put_new_line, put_number};
 use luo_num::NoMemory;
-use luo_syntax::{Name, SourceValue, SourceValueArm};
+use luo_source::{Name, SourceValue, SourceValueArm};
 
 // Puts an atom and its charge behind the text.
 fn put_atom(text: &mut Vec<u8>, charge: &Option<Name>) -> Result<(), NoMemory>

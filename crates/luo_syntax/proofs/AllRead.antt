@@ -3,10 +3,10 @@ use Rattle.std.proofs.Common.{◌≡◌, ℕ, List, [], ◌+◌, ◌≤◌, ◌<
 use Rattle.std.proofs.Math.Seq.{take-length}
 use Rattle.std.proofs.lemmas.List.{append-nil, length-take}
 use Rattle.luo_scan.specs.Lexemes.{Lexeme}
-use Rattle.luo_syntax.specs.declared.source.Source.{Source}
+use Rattle.luo_source.specs.declared.source.Source.{Source}
 use Rattle.luo_syntax.specs.declared.error.SyntaxError.{SyntaxError}
 use Rattle.luo_syntax.specs.declared.error.SyntaxError.TheVariants.{Grammar, Depth, NoMemory}
-use Rattle.luo_syntax.specs.Grammar.{IsProgram}
+use Rattle.luo_source.specs.Grammar.{IsProgram}
 use Rattle.luo_syntax.specs.Viable.{AllSpelled, IsNoProgram, IsViable, IsLongestViable, IsFirstDeep, IsShallow, StopsWhole, Explains}
 use Rattle.luo_syntax.proofs.Final.{longest_within, take_take}
 

@@ -4,12 +4,12 @@ use Rattle.luo_scan.specs.declared.token.Word.TheVariants.{KwType, KwMeasure}
 use Rattle.luo_scan.specs.declared.token.Mark.TheVariants.{Equals, Semicolon, Colon}
 use Rattle.luo_scan.specs.declared.token.TokenKind.TheVariants as kind
 use Rattle.luo_scan.specs.Lexemes.{Lexeme}
-use Rattle.luo_syntax.specs.declared.names.Name.{Name}
-use Rattle.luo_syntax.specs.declared.types.TypeExpr.{TypeExpr}
-use Rattle.luo_syntax.specs.declared.types.TypeDef.{TypeDef}
-use Rattle.luo_syntax.specs.declared.types.MeasureDef.{MeasureDef}
+use Rattle.luo_source.specs.declared.names.Name.{Name}
+use Rattle.luo_source.specs.declared.types.TypeExpr.{TypeExpr}
+use Rattle.luo_source.specs.declared.types.TypeDef.{TypeDef}
+use Rattle.luo_source.specs.declared.types.MeasureDef.{MeasureDef}
 use Rattle.luo_syntax.specs.Next.{IsNext, next}
-use Rattle.luo_syntax.specs.GrammarTypes.{AreNames, IsExpr, IsTypeDef, type_def, IsMeasure, measure_def}
+use Rattle.luo_source.specs.GrammarTypes.{AreNames, IsExpr, IsTypeDef, type_def, IsMeasure, measure_def}
 use Rattle.luo_syntax.specs.StopsTypes.{no_type, type_names, type_body, type_end, no_measure, measure_names, measure_number, measure_end}
 use Rattle.luo_syntax.proofs.NamesSoFar.{names_shorter}
 use Rattle.luo_syntax.proofs.TermSteps.{expr_shorter}

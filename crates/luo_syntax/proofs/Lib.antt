@@ -2,10 +2,6 @@ pub mod Fronts
 pub mod Nexts
 pub mod Lexemes
 pub mod Spelled
-pub mod OneTypes
-pub mod OneStatements
-pub mod OneValues
-pub mod OneProgram
 pub mod NamesSoFar
 pub mod NamesMoves
 pub mod Begins

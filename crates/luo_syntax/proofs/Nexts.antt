@@ -3,8 +3,9 @@ use Rattle.std.proofs.Common.{◌≡◌, ℕ, Option, None, Some, List, [], ◌�
 use Rattle.luo_scan.specs.declared.token.TokenKind.{TokenKind}
 use Rattle.luo_scan.specs.declared.token.TokenKind.TheVariants as kind
 use Rattle.luo_scan.specs.Lexemes.{Lexeme, lexeme}
-use Rattle.luo_syntax.specs.declared.names.Name.{Name}
-use Rattle.luo_syntax.specs.Next.{IsNext, next, IsNextAt, next_at, IsName, next_name, No, NoNumber, Misses, MissesNumber, TakesAt, TakesKind, TakesNumber, TakesAnyNumber, first_kind}
+use Rattle.luo_source.specs.declared.names.Name.{Name}
+use Rattle.luo_source.specs.Ends.{No}
+use Rattle.luo_syntax.specs.Next.{IsNext, next, IsNextAt, next_at, IsName, next_name, NoNumber, Misses, MissesNumber, TakesAt, TakesKind, TakesNumber, TakesAnyNumber, first_kind}
 use Rattle.luo_syntax.proofs.Fronts.{BeginAlike, empty, begin}
 
 -- what comes next where another kind was missed
@@ -13,10 +14,6 @@ next_past {that} {to} m p = subst (λ z. IsNext that z to) m.0 p
 
 pub misses_past : {what that : TokenKind} {from mid at : List Lexeme} → Misses what from mid → Misses that mid at → Misses that from at
 misses_past {that} m n = (n.0 ∙ m.0, subst (No that) m.0 n.1)
-
--- what stands behind the first lexemes of one list
-pub behind : {l k : Lexeme} {a b : List Lexeme} → l ∷ a ≡ k ∷ b → a ≡ b
-behind e = cc
 
 pub is_next : {what : TokenKind} {at : ℕ} {from to : List Lexeme} → IsNextAt what at from to → IsNext what from to
 is_next next_at = next

@@ -5,15 +5,17 @@ use Rattle.luo_scan.specs.declared.token.Mark.TheVariants.{LeftRound, Underscore
 use Rattle.luo_scan.specs.declared.token.TokenKind.{TokenKind}
 use Rattle.luo_scan.specs.declared.token.TokenKind.TheVariants as kind
 use Rattle.luo_scan.specs.Lexemes.{Lexeme, lexeme}
-use Rattle.luo_syntax.specs.declared.statements.Pattern.{Pattern}
-use Rattle.luo_syntax.specs.declared.statements.Pattern.TheVariants as pattern
-use Rattle.luo_syntax.specs.Next.{next, next_at, next_name, No, EndsPattern}
-use Rattle.luo_syntax.specs.GrammarStatements.{IsPattern, pattern_named, pattern_whole, pattern_named_parts, pattern_parts, pattern_any, pattern_any_whole}
+use Rattle.luo_source.specs.declared.statements.Pattern.{Pattern}
+use Rattle.luo_source.specs.declared.statements.Pattern.TheVariants as pattern
+use Rattle.luo_source.specs.Ends.{No, EndsPattern}
+use Rattle.luo_syntax.specs.Next.{next, next_at, next_name}
+use Rattle.luo_source.specs.GrammarStatements.{IsPattern, pattern_named, pattern_whole, pattern_named_parts, pattern_parts, pattern_any, pattern_any_whole}
 use Rattle.luo_syntax.specs.StopsPatterns.{PatternEnds, PatternStops, no_pattern, in_pattern_parts, past_any_as, past_named_as, in_named_parts}
 use Rattle.luo_syntax.proofs.Fronts.{nothing, put, Moves, BeginAlike, Stuck}
-use Rattle.luo_syntax.proofs.Nexts.{no_alike, misses_alike, behind}
+use Rattle.luo_source.proofs.Behind.{behind}
+use Rattle.luo_syntax.proofs.Nexts.{no_alike, misses_alike}
 use Rattle.luo_syntax.proofs.Spelled.{a_name, name_fit}
-use Rattle.luo_syntax.proofs.OneTypes.{names_one}
+use Rattle.luo_source.proofs.OneTypes.{names_one}
 use Rattle.luo_syntax.proofs.NamesMoves.{names_moves, names_stuck, names_no}
 
 pub pattern_moves : {from to : List Lexeme} {p : Pattern} → IsPattern from to p → Moves (λ a b. IsPattern a b p) from to

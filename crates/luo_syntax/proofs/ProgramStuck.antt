@@ -5,22 +5,23 @@ use Rattle.luo_scan.specs.declared.token.Mark.TheVariants.{Semicolon}
 use Rattle.luo_scan.specs.declared.token.TokenKind.{TokenKind}
 use Rattle.luo_scan.specs.declared.token.TokenKind.TheVariants as kind
 use Rattle.luo_scan.specs.Lexemes.{Lexeme, lexeme}
-use Rattle.luo_syntax.specs.declared.names.Name.{Name}
-use Rattle.luo_syntax.specs.declared.types.TypeDef.{TypeDef}
-use Rattle.luo_syntax.specs.declared.types.MeasureDef.{MeasureDef}
-use Rattle.luo_syntax.specs.declared.source.ProcDef.{ProcDef}
-use Rattle.luo_syntax.specs.declared.source.Source.{Source}
+use Rattle.luo_source.specs.declared.names.Name.{Name}
+use Rattle.luo_source.specs.declared.types.TypeDef.{TypeDef}
+use Rattle.luo_source.specs.declared.types.MeasureDef.{MeasureDef}
+use Rattle.luo_source.specs.declared.source.ProcDef.{ProcDef}
+use Rattle.luo_source.specs.declared.source.Source.{Source}
 use Rattle.luo_syntax.specs.Next.{next}
-use Rattle.luo_syntax.specs.GrammarTypes.{type_def, measure_def}
-use Rattle.luo_syntax.specs.Grammar.{proc, analyze, AreAnalyses, last_analysis, more_analyses, FromProcs, no_procs, more_procs, FromMeasures, no_measures, more_measures, FromTypes, no_types, more_types, IsProgram, labelled, unlabelled, unlabelled_unsaid}
+use Rattle.luo_source.specs.GrammarTypes.{type_def, measure_def}
+use Rattle.luo_source.specs.Grammar.{proc, analyze, AreAnalyses, last_analysis, more_analyses, FromProcs, no_procs, more_procs, FromMeasures, no_measures, more_measures, FromTypes, no_types, more_types, IsProgram, labelled, unlabelled, unlabelled_unsaid}
 use Rattle.luo_syntax.specs.Viable.{AllSpelled}
 use Rattle.luo_syntax.specs.StopsProgram.{AnalysesStop, in_analysis, past_analysis, FromProcsStop, in_proc, past_proc, past_procs, FromMeasuresStop, in_measure, past_measure, past_measures, FromTypesStop, in_type, past_type, past_types, labelled_said, unlabelled_said, nothing_said, past_labelled, past_unlabelled, ProgramStops, in_head, past_head}
 use Rattle.luo_syntax.proofs.Fronts.{nothing, put, both, Stuck}
 use Rattle.luo_syntax.proofs.Begins.{next_before, no_before, some_before}
-use Rattle.luo_syntax.proofs.Nexts.{misses_alike, next_no, behind}
+use Rattle.luo_source.proofs.Behind.{behind}
+use Rattle.luo_syntax.proofs.Nexts.{misses_alike, next_no}
 use Rattle.luo_syntax.proofs.Spelled.{a_name, a_mark, a_word, name_fit, mark_fit, word_fit}
-use Rattle.luo_syntax.proofs.OneTypes.{type_def_one, measure_one}
-use Rattle.luo_syntax.proofs.OneProgram.{proc_one, analyze_one, analyses_begin, procs_begin, measures_begin, types_begin}
+use Rattle.luo_source.proofs.OneTypes.{type_def_one, measure_one}
+use Rattle.luo_source.proofs.OneProgram.{proc_one, analyze_one, analyses_begin, procs_begin, measures_begin, types_begin}
 use Rattle.luo_syntax.proofs.ProcMoves.{proc_moves, analyze_moves}
 use Rattle.luo_syntax.proofs.ProcStuck.{proc_stuck, proc_no, analyze_stuck, analyze_no}
 use Rattle.luo_syntax.proofs.TypesMoves.{type_def_moves, measure_moves}

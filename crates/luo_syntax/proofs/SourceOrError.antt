@@ -11,8 +11,8 @@ use Rattle.luo_scan.specs.Lexemes.{lexemes, Lexeme}
 use Rattle.luo_scan.specs.Tokens.{Tokens}
 use Rattle.luo_scan.proofs.Inside.{lexemes_fit}
 use Rattle.luo_syntax.specs.declared.error.SyntaxError.TheVariants.{Grammar, Depth, NoMemory}
-use Rattle.luo_syntax.specs.declared.source.Source.{Source}
-use Rattle.luo_syntax.specs.Grammar.{IsProgram, analyze, last_analysis, no_procs, no_measures, no_types, unlabelled_unsaid}
+use Rattle.luo_source.specs.declared.source.Source.{Source}
+use Rattle.luo_source.specs.Grammar.{IsProgram, analyze, last_analysis, no_procs, no_measures, no_types, unlabelled_unsaid}
 use Rattle.luo_syntax.specs.SourceOrError.{HasSource, HasError}
 use Rattle.luo_syntax.specs.Viable.{AllSpelled, IsViable, IsLongestViable, IsDeep, IsShallow, IsFirstDeep, closed, opened, Explains}
 use Rattle.luo_syntax.proofs.Final.{viable_front}

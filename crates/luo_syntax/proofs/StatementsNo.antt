@@ -3,16 +3,17 @@ use Rattle.std.proofs.Common.{◌≡◌, ℕ, List, ◌∷◌, refl, sym}
 use Rattle.luo_scan.specs.declared.token.Word.TheVariants.{KwBegin}
 use Rattle.luo_scan.specs.declared.token.TokenKind.TheVariants as kind
 use Rattle.luo_scan.specs.Lexemes.{Lexeme, lexeme}
-use Rattle.luo_syntax.specs.declared.names.Name.{Name}
-use Rattle.luo_syntax.specs.declared.statements.SourceArm.{SourceArm}
-use Rattle.luo_syntax.specs.declared.statements.Stmt.{Stmt}
-use Rattle.luo_syntax.specs.declared.statements.Stmt.TheVariants.{Charge, Forall}
-use Rattle.luo_syntax.specs.Next.{next, next_name, EndsSimple}
-use Rattle.luo_syntax.specs.GrammarStatements.{IsBlock, empty_block, full_block, AreStmts, last_stmt, more_stmts, IsStmt, simple_stmt, case_stmt, forall_stmt, IsSimple, block_stmt, skip_stmt, charge_stmt, call_stmt, AreArms, last_arm, more_arms, IsArm, one_arm}
+use Rattle.luo_source.specs.declared.names.Name.{Name}
+use Rattle.luo_source.specs.declared.statements.SourceArm.{SourceArm}
+use Rattle.luo_source.specs.declared.statements.Stmt.{Stmt}
+use Rattle.luo_source.specs.declared.statements.Stmt.TheVariants.{Charge, Forall}
+use Rattle.luo_source.specs.Ends.{EndsSimple}
+use Rattle.luo_syntax.specs.Next.{next, next_name}
+use Rattle.luo_source.specs.GrammarStatements.{IsBlock, empty_block, full_block, AreStmts, last_stmt, more_stmts, IsStmt, simple_stmt, case_stmt, forall_stmt, IsSimple, block_stmt, skip_stmt, charge_stmt, call_stmt, AreArms, last_arm, more_arms, IsArm, one_arm}
 use Rattle.luo_syntax.specs.StopsStatements.{EndsStmt, no_call, ends_skip, ends_call, ends_block, ends_case, ends_forall, IsArg, arg, IsOver, over, ArgStops, no_arg, past_arg, OverStops, no_var, no_in, no_source, InsideStops, in_inside, StmtsStop, in_stmt, past_stmt, past_stmts, StmtStops, in_simple, in_case, in_forall, case_name, case_of, case_arms, forall_over, forall_do, forall_body, SimpleStops, no_simple, simple_inside, simple_arg, ArmsStop, in_arm, past_arm, past_arms, ArmStops, arm_pattern, arm_colon, arm_body, BlockStops, no_begin, in_block}
-use Rattle.luo_syntax.proofs.Nexts.{behind}
+use Rattle.luo_source.proofs.Behind.{behind}
 use Rattle.luo_syntax.proofs.PatternMoves.{pattern_no, pattern_meets}
-use Rattle.luo_syntax.proofs.OneStatements.{block_begins, simple_begins, block_one, simple_one, arms_one, pattern_one}
+use Rattle.luo_source.proofs.OneStatements.{block_begins, simple_begins, block_one, simple_one, arms_one, pattern_one}
 
 charge_ends : {s : Stmt} {name : Name} {ls : List Lexeme} → EndsStmt s ls → s ≡ Charge name → EndsSimple ls
 charge_ends (no_call n) e = n
@@ -23,7 +24,7 @@ charge_ends (ends_case arms) e = cc
 charge_ends (ends_forall m) e = cc
 
 forall_ends : {body : Stmt} {var source : Name} {ls : List Lexeme} → EndsStmt (Forall var source body) ls → EndsStmt body ls
-unfolding Rattle.luo_syntax.specs.declared.statements.Stmt.TheBlock.hidden-the_row-Stmt-2 denote.Hole.Carrier.hidden
+unfolding Rattle.luo_source.specs.declared.statements.Stmt.TheBlock.hidden-the_row-Stmt-2 denote.Hole.Carrier.hidden
 forall_ends (no_call n) = no_call n
 forall_ends (ends_forall m) = m
 

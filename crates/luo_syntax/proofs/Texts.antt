@@ -5,10 +5,10 @@ use Rattle.luo_scan.specs.Faults.{AllInside}
 use Rattle.luo_scan.specs.Lexemes.{Lexeme, lexemes}
 use Rattle.luo_scan.specs.Tokens.{Tokens}
 use Rattle.luo_scan.proofs.Inside.{tokens_inside, lexemes_fit}
-use Rattle.luo_syntax.specs.declared.source.Source.{Source}
+use Rattle.luo_source.specs.declared.source.Source.{Source}
 use Rattle.luo_syntax.specs.declared.error.SyntaxError.{SyntaxError}
 use Rattle.luo_syntax.specs.declared.error.SyntaxError.TheVariants.{Grammar, Depth}
-use Rattle.luo_syntax.specs.Grammar.{IsProgram, Derives}
+use Rattle.luo_source.specs.Grammar.{IsProgram, Derives}
 use Rattle.luo_syntax.specs.Viable.{IsShallow, IsFirstDeep, StopsWhole, Explains}
 use Rattle.luo_syntax.specs.StopsProgram.{ProgramStops}
 use Rattle.luo_syntax.proofs.Lexemes.{as_many, first_lexemes}

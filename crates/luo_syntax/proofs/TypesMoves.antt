@@ -4,12 +4,12 @@ use Rattle.luo_scan.specs.declared.token.Word.TheVariants.{KwEpsilon, KwAtom, Kw
 use Rattle.luo_scan.specs.declared.token.Mark.TheVariants.{Semicolon, Comma, Equals, Bar, LeftRound, RightRound, LessEqual, GreaterEqual, Dots}
 use Rattle.luo_scan.specs.declared.token.TokenKind.TheVariants as kind
 use Rattle.luo_scan.specs.Lexemes.{Lexeme, lexeme}
-use Rattle.luo_syntax.specs.declared.types.Range.{Range}
-use Rattle.luo_syntax.specs.declared.types.Bound.{Bound}
-use Rattle.luo_syntax.specs.declared.types.TypeExpr.{TypeExpr}
-use Rattle.luo_syntax.specs.declared.types.TypeDef.{TypeDef}
-use Rattle.luo_syntax.specs.declared.types.MeasureDef.{MeasureDef}
-use Rattle.luo_syntax.specs.GrammarTypes.{IsRange, exactly, at_most, at_least, between, EndsCollection, unbounded, bounded, IsExpr, one_term, union, AreTerms, last_term, more_terms, IsTerm, named, epsilon, atom, product, collection, AreFactors, last_factor, more_factors, IsTypeDef, type_def, IsMeasure, measure_def}
+use Rattle.luo_source.specs.declared.types.Range.{Range}
+use Rattle.luo_source.specs.declared.types.Bound.{Bound}
+use Rattle.luo_source.specs.declared.types.TypeExpr.{TypeExpr}
+use Rattle.luo_source.specs.declared.types.TypeDef.{TypeDef}
+use Rattle.luo_source.specs.declared.types.MeasureDef.{MeasureDef}
+use Rattle.luo_source.specs.GrammarTypes.{IsRange, exactly, at_most, at_least, between, EndsCollection, unbounded, bounded, IsExpr, one_term, union, AreTerms, last_term, more_terms, IsTerm, named, epsilon, atom, product, collection, AreFactors, last_factor, more_factors, IsTypeDef, type_def, IsMeasure, measure_def}
 use Rattle.luo_syntax.proofs.Fronts.{nothing, put, both, Moves}
 use Rattle.luo_syntax.proofs.NamesMoves.{names_moves}
 

@@ -5,11 +5,11 @@ use Rattle.luo_scan.specs.declared.token.Mark.TheVariants.{Semicolon, Comma, Lef
 use Rattle.luo_scan.specs.declared.token.TokenKind.{TokenKind}
 use Rattle.luo_scan.specs.declared.token.TokenKind.TheVariants as kind
 use Rattle.luo_scan.specs.Lexemes.{Lexeme, lexeme}
-use Rattle.luo_syntax.specs.declared.values.SourceValue.{SourceValue}
-use Rattle.luo_syntax.specs.declared.values.SourceValue.TheVariants.{Given}
-use Rattle.luo_syntax.specs.declared.values.SourceValueArm.{SourceValueArm}
+use Rattle.luo_source.specs.declared.values.SourceValue.{SourceValue}
+use Rattle.luo_source.specs.declared.values.SourceValue.TheVariants.{Given}
+use Rattle.luo_source.specs.declared.values.SourceValueArm.{SourceValueArm}
 use Rattle.luo_syntax.specs.Next.{next, next_at, Misses}
-use Rattle.luo_syntax.specs.GrammarValues.{IsValue, branch_value, inner_value, IsBranch, branch, IsInner, given, made, free_atom, charged_atom, bracketed, tuple, case_value, AreParts, last_part, more_parts, AreValueArms, last_value_arm, more_value_arms, IsValueArm, one_value_arm}
+use Rattle.luo_source.specs.GrammarValues.{IsValue, branch_value, inner_value, IsBranch, branch, IsInner, given, made, free_atom, charged_atom, bracketed, tuple, case_value, AreParts, last_part, more_parts, AreValueArms, last_value_arm, more_value_arms, IsValueArm, one_value_arm}
 use Rattle.luo_syntax.specs.StopsValues.{IsNumbered, numbered, InnerEnds, WholeValue, whole_branch, whole_inner, WholeArm, whole_arm}
 use Rattle.luo_syntax.proofs.Fronts.{Front, nothing, put, both, Moves, BeginAlike}
 use Rattle.luo_syntax.proofs.Nexts.{no_alike}

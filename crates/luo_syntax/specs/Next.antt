@@ -1,11 +1,10 @@
 -- What comes next among lexemes, and what a step of reading does.
 use Rattle.std.specs.Prelude.{◌≡◌, ℕ, List, [], ◌∷◌, Bool, true, false, Option, None, Some}
-use Rattle.luo_scan.specs.declared.token.Word.TheVariants.{KwAs, KwAtom}
-use Rattle.luo_scan.specs.declared.token.Mark.TheVariants.{Bar, LeftRound}
 use Rattle.luo_scan.specs.declared.token.TokenKind.{TokenKind}
 use Rattle.luo_scan.specs.declared.token.TokenKind.TheVariants as kind
 use Rattle.luo_scan.specs.Lexemes.{Lexeme, lexeme}
-use Rattle.luo_syntax.specs.declared.names.Name.{Name}
+use Rattle.luo_source.specs.Ends.{No}
+use Rattle.luo_source.specs.declared.names.Name.{Name}
 use Rattle.luo_syntax.specs.declared.fault.Fault.{Fault}
 use Rattle.luo_syntax.specs.declared.fault.Fault.TheVariants.{Stops}
 
@@ -20,10 +19,6 @@ pub data IsNextAt : TokenKind → ℕ → List Lexeme → List Lexeme → Type 0
 -- this name comes next, and these are behind it
 pub data IsName : List Lexeme → List Lexeme → Name → Type 0 where
   next_name : {text : List ℕ} {at : ℕ} {to : List Lexeme} → IsName (lexeme kind.Name text at ∷ to) to (record { text = text; at = at })
-
--- no lexeme of this kind comes next
-abbrev pub No : TokenKind → List Lexeme → Type 0
-No what ls = (bytes : List ℕ) (at : ℕ) (rest : List Lexeme) → ls ≡ lexeme what bytes at ∷ rest → ⊥
 
 -- no name comes next
 abbrev pub NoName : List Lexeme → Type 0
@@ -44,22 +39,6 @@ MissesName from at = Misses kind.Name from at
 -- a number is missed here
 abbrev pub MissesNumber : List Lexeme → List Lexeme → Type 0
 MissesNumber from at = (at ≡ from) × NoNumber from
-
--- a type expression isn't gone on with here
-abbrev pub EndsExpr : List Lexeme → Type 0
-EndsExpr ls = No (kind.Mark Bar) ls
-
--- a pattern isn't gone on with here
-abbrev pub EndsPattern : List Lexeme → Type 0
-EndsPattern ls = No (kind.Word KwAs) ls × No (kind.Mark LeftRound) ls
-
--- a statement isn't gone on with here
-abbrev pub EndsSimple : List Lexeme → Type 0
-EndsSimple ls = No (kind.Mark LeftRound) ls
-
--- a value isn't gone on with here
-abbrev pub EndsValue : List Lexeme → Type 0
-EndsValue ls = No (kind.Mark LeftRound) ls × No (kind.Word KwAtom) ls
 
 -- if reading stops, then so
 abbrev pub OnStop : Fault → Type 0 → Type 0

@@ -5,8 +5,8 @@ use Rattle.luo_scan.specs.Lexemes.{lexemes}
 use Rattle.luo_scan.specs.Tokens.{Tokens}
 use Rattle.luo_syntax.specs.declared.error.SyntaxError.{SyntaxError}
 use Rattle.luo_syntax.specs.declared.error.SyntaxError.TheVariants.{NoMemory}
-use Rattle.luo_syntax.specs.declared.source.Source.{Source}
-use Rattle.luo_syntax.specs.Grammar.{Derives}
+use Rattle.luo_source.specs.declared.source.Source.{Source}
+use Rattle.luo_source.specs.Grammar.{Derives}
 use Rattle.luo_syntax.specs.Viable.{IsShallow, Explains}
 
 -- these tokens derive a source, and nowhere among them is too much open

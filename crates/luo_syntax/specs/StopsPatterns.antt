@@ -4,10 +4,11 @@ use Rattle.luo_scan.specs.declared.token.Word.TheVariants.{KwAs}
 use Rattle.luo_scan.specs.declared.token.Mark.TheVariants.{LeftRound, RightRound, Underscore}
 use Rattle.luo_scan.specs.declared.token.TokenKind.TheVariants as kind
 use Rattle.luo_scan.specs.Lexemes.{Lexeme, lexeme}
-use Rattle.luo_syntax.specs.declared.names.Name.{Name}
-use Rattle.luo_syntax.specs.declared.statements.Pattern.{Pattern}
-use Rattle.luo_syntax.specs.declared.statements.Pattern.TheVariants.{Named, Any}
-use Rattle.luo_syntax.specs.Next.{IsNext, IsNextAt, IsName, No, NoName, MissesName, EndsPattern}
+use Rattle.luo_source.specs.declared.names.Name.{Name}
+use Rattle.luo_source.specs.declared.statements.Pattern.{Pattern}
+use Rattle.luo_source.specs.declared.statements.Pattern.TheVariants.{Named, Any}
+use Rattle.luo_source.specs.Ends.{No, EndsPattern}
+use Rattle.luo_syntax.specs.Next.{IsNext, IsNextAt, IsName, NoName, MissesName}
 use Rattle.luo_syntax.specs.StopsNames.{NamesStop}
 
 -- this name, and these lexemes behind it

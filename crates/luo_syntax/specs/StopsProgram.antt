@@ -6,19 +6,20 @@ use Rattle.luo_scan.specs.declared.token.TokenKind.TheVariants as kind
 use Rattle.luo_scan.specs.Lexemes.{Lexeme}
 use Rattle.luo_model.specs.declared.program.Universe.{Universe}
 use Rattle.luo_model.specs.declared.program.Universe.TheVariants.{Unlabelled, Labelled}
-use Rattle.luo_syntax.specs.declared.names.Name.{Name}
-use Rattle.luo_syntax.specs.declared.types.TypeDef.{TypeDef}
-use Rattle.luo_syntax.specs.declared.types.MeasureDef.{MeasureDef}
-use Rattle.luo_syntax.specs.declared.statements.Stmt.{Stmt}
-use Rattle.luo_syntax.specs.declared.values.SourceValue.{SourceValue}
-use Rattle.luo_syntax.specs.declared.source.ProcBody.{ProcBody}
-use Rattle.luo_syntax.specs.declared.source.ProcBody.TheVariants.{Statements, Value}
-use Rattle.luo_syntax.specs.declared.source.ProcDef.{ProcDef}
-use Rattle.luo_syntax.specs.Next.{IsNext, IsNextAt, IsName, No, Misses, MissesName}
-use Rattle.luo_syntax.specs.GrammarTypes.{IsTypeDef, IsMeasure}
-use Rattle.luo_syntax.specs.GrammarStatements.{IsBlock}
-use Rattle.luo_syntax.specs.GrammarValues.{IsValue}
-use Rattle.luo_syntax.specs.Grammar.{IsProc, IsAnalyze, FromProcs, FromMeasures, FromTypes, AreAnalyses}
+use Rattle.luo_source.specs.declared.names.Name.{Name}
+use Rattle.luo_source.specs.declared.types.TypeDef.{TypeDef}
+use Rattle.luo_source.specs.declared.types.MeasureDef.{MeasureDef}
+use Rattle.luo_source.specs.declared.statements.Stmt.{Stmt}
+use Rattle.luo_source.specs.declared.values.SourceValue.{SourceValue}
+use Rattle.luo_source.specs.declared.source.ProcBody.{ProcBody}
+use Rattle.luo_source.specs.declared.source.ProcBody.TheVariants.{Statements, Value}
+use Rattle.luo_source.specs.declared.source.ProcDef.{ProcDef}
+use Rattle.luo_source.specs.Ends.{No}
+use Rattle.luo_syntax.specs.Next.{IsNext, IsNextAt, IsName, Misses, MissesName}
+use Rattle.luo_source.specs.GrammarTypes.{IsTypeDef, IsMeasure}
+use Rattle.luo_source.specs.GrammarStatements.{IsBlock}
+use Rattle.luo_source.specs.GrammarValues.{IsValue}
+use Rattle.luo_source.specs.Grammar.{IsProc, IsAnalyze, FromProcs, FromMeasures, FromTypes, AreAnalyses}
 use Rattle.luo_syntax.specs.StopsTypes.{TypeDefStops, MeasureStops}
 use Rattle.luo_syntax.specs.StopsStatements.{BlockStops}
 use Rattle.luo_syntax.specs.StopsValues.{ValueStops, WholeValue}

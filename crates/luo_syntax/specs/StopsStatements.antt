@@ -5,13 +5,14 @@ use Rattle.luo_scan.specs.declared.token.Word.TheVariants.{KwBegin, KwEnd, KwCas
 use Rattle.luo_scan.specs.declared.token.Mark.TheVariants.{Semicolon, LeftRound, RightRound, Colon}
 use Rattle.luo_scan.specs.declared.token.TokenKind.TheVariants as kind
 use Rattle.luo_scan.specs.Lexemes.{Lexeme, lexeme}
-use Rattle.luo_syntax.specs.declared.names.Name.{Name}
-use Rattle.luo_syntax.specs.declared.statements.Pattern.{Pattern}
-use Rattle.luo_syntax.specs.declared.statements.SourceArm.{SourceArm}
-use Rattle.luo_syntax.specs.declared.statements.Stmt.{Stmt}
-use Rattle.luo_syntax.specs.declared.statements.Stmt.TheVariants.{Skip, Call, Block, Case, Forall}
-use Rattle.luo_syntax.specs.Next.{IsNext, IsName, No, Misses, MissesName, EndsSimple}
-use Rattle.luo_syntax.specs.GrammarStatements.{IsPattern, AreStmts, IsStmt, IsArm}
+use Rattle.luo_source.specs.declared.names.Name.{Name}
+use Rattle.luo_source.specs.declared.statements.Pattern.{Pattern}
+use Rattle.luo_source.specs.declared.statements.SourceArm.{SourceArm}
+use Rattle.luo_source.specs.declared.statements.Stmt.{Stmt}
+use Rattle.luo_source.specs.declared.statements.Stmt.TheVariants.{Skip, Call, Block, Case, Forall}
+use Rattle.luo_source.specs.Ends.{No, EndsSimple}
+use Rattle.luo_syntax.specs.Next.{IsNext, IsName, Misses, MissesName}
+use Rattle.luo_source.specs.GrammarStatements.{IsPattern, AreStmts, IsStmt, IsArm}
 use Rattle.luo_syntax.specs.StopsPatterns.{PatternEnds, PatternStops}
 
 -- what follows makes no call of this statement: no `(` comes next, or the statement doesn't end with a lone name

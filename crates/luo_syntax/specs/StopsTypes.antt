@@ -5,11 +5,12 @@ use Rattle.luo_scan.specs.declared.token.Mark.TheVariants.{Semicolon, Comma, Equ
 use Rattle.luo_scan.specs.declared.token.TokenKind.TheVariants as kind
 use Rattle.luo_scan.specs.Lexemes.{Lexeme}
 use Rattle.luo_model.specs.declared.program.Kind.{Kind}
-use Rattle.luo_syntax.specs.declared.names.Name.{Name}
-use Rattle.luo_syntax.specs.declared.types.Range.{Range}
-use Rattle.luo_syntax.specs.declared.types.TypeExpr.{TypeExpr}
-use Rattle.luo_syntax.specs.Next.{IsNext, No, Misses, MissesName, MissesNumber, EndsExpr}
-use Rattle.luo_syntax.specs.GrammarTypes.{AreNames, IsRange, IsExpr, IsTerm}
+use Rattle.luo_source.specs.declared.names.Name.{Name}
+use Rattle.luo_source.specs.declared.types.Range.{Range}
+use Rattle.luo_source.specs.declared.types.TypeExpr.{TypeExpr}
+use Rattle.luo_source.specs.Ends.{No, EndsExpr}
+use Rattle.luo_syntax.specs.Next.{IsNext, Misses, MissesName, MissesNumber}
+use Rattle.luo_source.specs.GrammarTypes.{AreNames, IsRange, IsExpr, IsTerm}
 use Rattle.luo_syntax.specs.TypeParts.{IsCollectionNext, MissesCollection}
 use Rattle.luo_syntax.specs.StopsNames.{NamesStop}
 

@@ -4,14 +4,15 @@ use Rattle.luo_scan.specs.declared.token.Word.TheVariants.{KwAtom, KwProduct, Kw
 use Rattle.luo_scan.specs.declared.token.Mark.TheVariants.{Semicolon, Comma, LeftRound, RightRound, Colon}
 use Rattle.luo_scan.specs.declared.token.TokenKind.TheVariants as kind
 use Rattle.luo_scan.specs.Lexemes.{Lexeme, lexeme}
-use Rattle.luo_syntax.specs.declared.names.Name.{Name}
-use Rattle.luo_syntax.specs.declared.statements.Pattern.{Pattern}
-use Rattle.luo_syntax.specs.declared.values.SourceValue.{SourceValue}
-use Rattle.luo_syntax.specs.declared.values.SourceValue.TheVariants.{Given, Branch, Case}
-use Rattle.luo_syntax.specs.declared.values.SourceValueArm.{SourceValueArm}
-use Rattle.luo_syntax.specs.GrammarStatements.{IsPattern}
-use Rattle.luo_syntax.specs.GrammarValues.{IsValue, IsBranch, IsInner, AreParts, AreValueArms, IsValueArm}
-use Rattle.luo_syntax.specs.Next.{IsNext, IsNextAt, IsName, No, NoName, NoNumber, Misses, MissesName, MissesNumber, EndsValue}
+use Rattle.luo_source.specs.declared.names.Name.{Name}
+use Rattle.luo_source.specs.declared.statements.Pattern.{Pattern}
+use Rattle.luo_source.specs.declared.values.SourceValue.{SourceValue}
+use Rattle.luo_source.specs.declared.values.SourceValue.TheVariants.{Given, Branch, Case}
+use Rattle.luo_source.specs.declared.values.SourceValueArm.{SourceValueArm}
+use Rattle.luo_source.specs.GrammarStatements.{IsPattern}
+use Rattle.luo_source.specs.GrammarValues.{IsValue, IsBranch, IsInner, AreParts, AreValueArms, IsValueArm}
+use Rattle.luo_source.specs.Ends.{No, EndsValue}
+use Rattle.luo_syntax.specs.Next.{IsNext, IsNextAt, IsName, NoName, NoNumber, Misses, MissesName, MissesNumber}
 use Rattle.luo_syntax.specs.StopsPatterns.{PatternEnds, PatternStops}
 
 -- ":" inner

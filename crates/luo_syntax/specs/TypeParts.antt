@@ -6,13 +6,14 @@ use Rattle.luo_scan.specs.declared.token.Mark.TheVariants.{Comma, LeftRound, Rig
 use Rattle.luo_scan.specs.declared.token.TokenKind.TheVariants as kind
 use Rattle.luo_scan.specs.Lexemes.{Lexeme, lexeme}
 use Rattle.luo_model.specs.declared.program.Kind.{Kind}
-use Rattle.luo_syntax.specs.declared.types.Range.{Range}
-use Rattle.luo_syntax.specs.declared.types.Range.TheVariants.{Between}
-use Rattle.luo_syntax.specs.declared.types.Bound.{Bound}
-use Rattle.luo_syntax.specs.declared.types.TypeExpr.{TypeExpr}
-use Rattle.luo_syntax.specs.declared.types.TypeExpr.TheVariants.{Coll}
-use Rattle.luo_syntax.specs.Next.{IsNextAt, No}
-use Rattle.luo_syntax.specs.GrammarTypes.{IsRange, IsCollection, EndsCollection, IsExpr, AreTerms, AreFactors}
+use Rattle.luo_source.specs.declared.types.Range.{Range}
+use Rattle.luo_source.specs.declared.types.Range.TheVariants.{Between}
+use Rattle.luo_source.specs.declared.types.Bound.{Bound}
+use Rattle.luo_source.specs.declared.types.TypeExpr.{TypeExpr}
+use Rattle.luo_source.specs.declared.types.TypeExpr.TheVariants.{Coll}
+use Rattle.luo_source.specs.Ends.{No}
+use Rattle.luo_syntax.specs.Next.{IsNextAt}
+use Rattle.luo_source.specs.GrammarTypes.{IsRange, IsCollection, EndsCollection, IsExpr, AreTerms, AreFactors}
 
 -- the word of a collection is missed here
 abbrev pub MissesCollection : List Lexeme → List Lexeme → Type 0

@@ -10,8 +10,8 @@ use Rattle.luo_scan.specs.Lexemes.{Lexeme, lexeme}
 use Rattle.luo_scan.specs.Laws.{IsFit}
 use Rattle.luo_syntax.specs.declared.error.SyntaxError.{SyntaxError}
 use Rattle.luo_syntax.specs.declared.error.SyntaxError.TheVariants.{Grammar, Depth, NoMemory}
-use Rattle.luo_syntax.specs.declared.source.Source.{Source}
-use Rattle.luo_syntax.specs.Grammar.{IsProgram}
+use Rattle.luo_source.specs.declared.source.Source.{Source}
+use Rattle.luo_source.specs.Grammar.{IsProgram}
 
 -- each of these lexemes is spelled as the language spells it, within the limits of names and numbers
 abbrev pub AllSpelled : List Lexeme → Type 0

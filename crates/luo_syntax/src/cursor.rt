@@ -8,9 +8,9 @@ ghost use Rattle.luo_scan.specs.Lexemes.{Lexeme, lexeme, lexemes};
 ghost use Rattle.luo_syntax.specs.Next.{IsNext, IsNextAt, IsName, Misses, MissesName, MissesNumber, OnStop, Takes, TakesAt, TakesNumber, TakesKind, TakesAnyNumber, Sees, SeesKind, Ends};
 
 use crate::fault::Fault;
-use crate::names::Name;
 use luo_num::Items;
 use luo_scan::{Mark, Token, TokenKind, Word};
+use luo_source::Name;
 use std::alloc::Global;
 use std::marker::Model;
 

@@ -3,14 +3,14 @@
 
 ghost use Rattle.std.specs.Prelude.{◌<◌, length, IfOk, IfErr, OnOk};
 ghost use Rattle.luo_syntax.specs.Next.{OnStop};
-ghost use Rattle.luo_syntax.specs.GrammarTypes.{AreNames};
+ghost use Rattle.luo_source.specs.GrammarTypes.{AreNames};
 ghost use Rattle.luo_syntax.specs.StopsNames.{NamesStop};
 
 use crate::cursor::Cursor;
 use crate::fault::Fault;
-use crate::names::Name;
 use luo_num::Items;
 use luo_scan::Mark;
+use luo_source::Name;
 use std::alloc::Global;
 
 impl<'t> Cursor<'t> {

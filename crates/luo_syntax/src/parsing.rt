@@ -5,15 +5,15 @@ ghost use Rattle.std.specs.Prelude.{◌≡◌, ◌≤◌, List, ℕ, length, IfO
 ghost use Rattle.luo_scan.specs.Faults.{AllInside};
 ghost use Rattle.luo_scan.specs.Lexemes.{lexemes};
 ghost use Rattle.luo_scan.specs.Tokens.{Tokens};
-ghost use Rattle.luo_syntax.specs.Grammar.{Derives};
+ghost use Rattle.luo_source.specs.Grammar.{Derives};
 ghost use Rattle.luo_syntax.specs.Viable.{opens_kind, closes_kind, IsShallow, IsFirstDeep, StopsWhole, Explains};
 
 use crate::cursor::Cursor;
 use crate::error::SyntaxError;
 use crate::fault::Fault;
-use crate::source::Source;
 use luo_num::limits::DEPTH_LIMIT;
 use luo_scan::{Mark, Token, TokenKind, Word};
+use luo_source::Source;
 use std::alloc::Global;
 
 /// The source of the program that these tokens of a text are.

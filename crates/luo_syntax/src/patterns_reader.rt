@@ -3,14 +3,13 @@
 
 ghost use Rattle.std.specs.Prelude.{◌<◌, ◌∷◌, List, length, IfOk, IfErr, OnOk};
 ghost use Rattle.luo_syntax.specs.Next.{OnStop};
-ghost use Rattle.luo_syntax.specs.GrammarStatements.{IsPattern};
+ghost use Rattle.luo_source.specs.GrammarStatements.{IsPattern};
 ghost use Rattle.luo_syntax.specs.StopsPatterns.{PatternEnds, PatternStops, behind_name};
 
 use crate::cursor::Cursor;
 use crate::fault::Fault;
-use crate::names::Name;
-use crate::statements::Pattern;
 use luo_scan::{Mark, Word};
+use luo_source::{Name, Pattern};
 use std::alloc::Global;
 
 impl<'t> Cursor<'t> {

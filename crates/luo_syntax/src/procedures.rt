@@ -3,16 +3,14 @@
 
 ghost use Rattle.std.specs.Prelude.{◌<◌, length, IfOk, IfErr, OnOk};
 ghost use Rattle.luo_syntax.specs.Next.{OnStop};
-ghost use Rattle.luo_syntax.specs.Grammar.{IsProc, IsAnalyze};
+ghost use Rattle.luo_source.specs.Grammar.{IsProc, IsAnalyze};
 ghost use Rattle.luo_syntax.specs.StopsProgram.{IsParam, ParamStops, IsResult, ResultStops, IsWholeBody, BodyStops, ProcStops, AnalyzeStops};
 
 use crate::cursor::Cursor;
 use crate::fault::Fault;
-use crate::names::Name;
-use crate::source::{ProcBody, ProcDef};
-use crate::values::SourceValue;
 use luo_num::Items;
 use luo_scan::{Mark, Word};
+use luo_source::{Name, ProcBody, ProcDef, SourceValue};
 use std::alloc::Global;
 
 impl<'t> Cursor<'t> {

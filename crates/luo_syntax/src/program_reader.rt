@@ -3,17 +3,15 @@
 
 ghost use Rattle.std.specs.Prelude.{◌≡◌, List, [], length, IfOk, IfErr, OnOk};
 ghost use Rattle.luo_syntax.specs.Next.{OnStop};
-ghost use Rattle.luo_syntax.specs.Grammar.{IsProgram, AreAnalyses};
+ghost use Rattle.luo_source.specs.Grammar.{IsProgram, AreAnalyses};
 ghost use Rattle.luo_syntax.specs.StopsProgram.{IsHead, HeadStops, PassesTypes, FromTypesStop, PassesMeasures, FromMeasuresStop, PassesProcs, FromProcsStop, AnalysesStop, ProgramStops};
 
 use crate::cursor::Cursor;
 use crate::fault::Fault;
-use crate::names::Name;
-use crate::source::{ProcDef, Source};
-use crate::types::{MeasureDef, TypeDef};
 use luo_model::Universe;
 use luo_num::Items;
 use luo_scan::{Mark, Word};
+use luo_source::{MeasureDef, Name, ProcDef, Source, TypeDef};
 use std::alloc::Global;
 
 impl<'t> Cursor<'t> {

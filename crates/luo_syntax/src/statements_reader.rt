@@ -4,15 +4,14 @@
 ghost use Rattle.std.specs.Prelude.{◌<◌, length, IfOk, IfErr, OnOk};
 ghost use Rattle.luo_scan.specs.declared.token.Word.TheVariants.{KwCase, KwForall};
 ghost use Rattle.luo_syntax.specs.Next.{OnStop};
-ghost use Rattle.luo_syntax.specs.GrammarStatements.{IsBlock, AreStmts, IsStmt, IsSimple, AreArms, IsArm};
+ghost use Rattle.luo_source.specs.GrammarStatements.{IsBlock, AreStmts, IsStmt, IsSimple, AreArms, IsArm};
 ghost use Rattle.luo_syntax.specs.StopsStatements.{EndsStmt, IsInside, IsBehind, IsArg, IsOver, ArgStops, OverStops, InsideStops, StmtsStop, StmtStops, CaseStops, ForallStops, SimpleStops, ArmsStop, ArmStops, BlockStops};
 
 use crate::cursor::Cursor;
 use crate::fault::Fault;
-use crate::names::Name;
-use crate::statements::{SourceArm, Stmt};
 use luo_num::{Boxed, Items};
 use luo_scan::{Mark, Word};
+use luo_source::{Name, SourceArm, Stmt};
 use std::alloc::Global;
 
 impl<'t> Cursor<'t> {

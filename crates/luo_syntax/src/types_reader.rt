@@ -2,17 +2,18 @@
 #![tactic(auto, using(crate::proofs::TermSteps::term_steps))]
 
 ghost use Rattle.std.specs.Prelude.{◌<◌, length, IfOk, IfErr, OnOk};
-ghost use Rattle.luo_syntax.specs.Next.{OnStop, EndsExpr};
-ghost use Rattle.luo_syntax.specs.GrammarTypes.{IsExpr, IsTerm};
+ghost use Rattle.luo_source.specs.Ends.{EndsExpr};
+ghost use Rattle.luo_syntax.specs.Next.{OnStop};
+ghost use Rattle.luo_source.specs.GrammarTypes.{IsExpr, IsTerm};
 ghost use Rattle.luo_syntax.specs.TypeParts.{AreParts, IsInside, ReadsTerms, ReadsFactors};
 ghost use Rattle.luo_syntax.specs.StopsTypes.{TermsStop, TermStops, ProductStops, FactorsStop, CollectionStops};
 
 use crate::cursor::Cursor;
 use crate::fault::Fault;
-use crate::types::TypeExpr;
 use luo_model::Kind;
 use luo_num::{Boxed, Items};
 use luo_scan::{Mark, Word};
+use luo_source::TypeExpr;
 use std::alloc::Global;
 
 impl<'t> Cursor<'t> {

@@ -3,15 +3,15 @@
 
 ghost use Rattle.std.specs.Prelude.{IfOk, IfErr};
 ghost use Rattle.luo_syntax.specs.Next.{OnStop};
-ghost use Rattle.luo_syntax.specs.GrammarTypes.{IsRange, EndsCollection};
+ghost use Rattle.luo_source.specs.GrammarTypes.{IsRange, EndsCollection};
 ghost use Rattle.luo_syntax.specs.TypeParts.{IsBetween, IsBound, IsWeight, TakesCollection};
 ghost use Rattle.luo_syntax.specs.StopsTypes.{BetweenStops, RangeStops, BoundStops, EndStops, AtomStops};
 
 use crate::cursor::Cursor;
 use crate::fault::Fault;
-use crate::types::{Bound, Range};
 use luo_model::Kind;
 use luo_scan::{Mark, Word};
+use luo_source::{Bound, Range};
 
 impl<'t> Cursor<'t> {
     /// Reads two numbers with dots between them.

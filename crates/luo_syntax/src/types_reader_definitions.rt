@@ -3,13 +3,13 @@
 
 ghost use Rattle.std.specs.Prelude.{◌<◌, length, IfOk, IfErr, OnOk};
 ghost use Rattle.luo_syntax.specs.Next.{OnStop};
-ghost use Rattle.luo_syntax.specs.GrammarTypes.{IsTypeDef, IsMeasure};
+ghost use Rattle.luo_source.specs.GrammarTypes.{IsTypeDef, IsMeasure};
 ghost use Rattle.luo_syntax.specs.StopsTypes.{TypeDefStops, MeasureStops};
 
 use crate::cursor::Cursor;
 use crate::fault::Fault;
-use crate::types::{MeasureDef, TypeDef};
 use luo_scan::{Mark, Word};
+use luo_source::{MeasureDef, TypeDef};
 use std::alloc::Global;
 
 impl<'t> Cursor<'t> {

@@ -3,16 +3,15 @@
 
 ghost use Rattle.std.specs.Prelude.{◌<◌, length, IfOk, IfErr, OnOk};
 ghost use Rattle.luo_syntax.specs.Next.{OnStop};
-ghost use Rattle.luo_syntax.specs.GrammarValues.{IsValue, IsInner, AreValueArms};
+ghost use Rattle.luo_source.specs.GrammarValues.{IsValue, IsInner, AreValueArms};
 ghost use Rattle.luo_syntax.specs.StopsPatterns.{behind_name};
 ghost use Rattle.luo_syntax.specs.StopsValues.{IsBracketed, IsTuple, IsValueCase, IsMade, InnerEnds, WholeValue, WholeNumbered, WholeArm, ReadsParts, ValueStops, NumberedStops, InnerStops, BracketedStops, TupleStops, PartsStop, ValueCaseStops, ValueArmsStop, ValueArmStops, MadeStops};
 
 use crate::cursor::Cursor;
 use crate::fault::Fault;
-use crate::names::Name;
-use crate::values::{SourceValue, SourceValueArm};
 use luo_num::{Boxed, Items};
 use luo_scan::{Mark, Word};
+use luo_source::{Name, SourceValue, SourceValueArm};
 use std::alloc::Global;
 
 impl<'t> Cursor<'t> {

@@ -12,12 +12,12 @@ use Rattle.luo_scan.specs.Tokens.{Tokens}
 use Rattle.luo_scan.proofs.Unique.{one_list, one_fault}
 use Rattle.luo_syntax.specs.declared.error.SyntaxError.{SyntaxError}
 use Rattle.luo_syntax.specs.declared.error.SyntaxError.TheVariants.{Grammar, Depth, NoMemory}
-use Rattle.luo_syntax.specs.declared.source.Source.{Source}
+use Rattle.luo_source.specs.declared.source.Source.{Source}
 use Rattle.luo_syntax.specs.Viable.{Explains, IsLongestViable, IsFirstDeep}
-use Rattle.luo_syntax.proofs.OneProgram.{program_one}
-use Rattle.luo_value_types.specs.declared.rule.Breach.{Breach}
-use Rattle.luo_types.specs.Counted.{limits_passed}
-use Rattle.luo_types.specs.Whole.{IsCore, breaches}
+use Rattle.luo_source.proofs.OneProgram.{program_one}
+use Rattle.luo_rules.specs.declared.rule.Breach.{Breach}
+use Rattle.luo_rules.specs.Counted.{limits_passed}
+use Rattle.luo_rules.specs.Whole.{IsCore, breaches}
 use Rattle.luo_top.specs.declared.status.Status.TheVariants.{Refused, Limit}
 use Rattle.luo_top.specs.Answer.{Refusal}
 use Rattle.luo_top.specs.Commands.Analyse.{plain, reported}

@@ -6,14 +6,14 @@ use Rattle.luo_model.specs.Invariant.{IsProgram}
 use Rattle.luo_scan.specs.declared.token.Token.{Token}
 use Rattle.luo_scan.specs.Tokens.{Tokens, LexicalFault, FirstFault}
 use Rattle.luo_scan.proofs.Decide.{tokens_or}
-use Rattle.luo_syntax.specs.declared.source.Source.{Source}
+use Rattle.luo_source.specs.declared.source.Source.{Source}
 use Rattle.luo_syntax.proofs.SourceOrError.{source_or_error}
-use Rattle.luo_value_types.specs.declared.rule.Breach.{Breach}
-use Rattle.luo_types.specs.declared.error.CountLimit.{CountLimit}
-use Rattle.luo_types.specs.Checks.{IsSource}
-use Rattle.luo_types.specs.Counted.{limits_passed}
-use Rattle.luo_types.specs.Whole.{IsCore, breaches, core, walk_count}
-use Rattle.luo_types.proofs.CoreIsProgram.{core_is_program}
+use Rattle.luo_rules.specs.declared.rule.Breach.{Breach}
+use Rattle.luo_rules.specs.declared.error.CountLimit.{CountLimit}
+use Rattle.luo_rules.specs.Checks.{IsSource}
+use Rattle.luo_rules.specs.Counted.{limits_passed}
+use Rattle.luo_rules.specs.Whole.{IsCore, breaches, core, walk_count}
+use Rattle.luo_rules.proofs.CoreIsProgram.{core_is_program}
 use Rattle.luo_top.specs.Answer.{Answer, Output, Untold}
 use Rattle.luo_top.specs.Outcome.{Outcome, steps_of}
 use Rattle.luo_top.specs.Refusals.{LimitRefusal}

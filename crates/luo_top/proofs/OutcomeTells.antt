@@ -4,7 +4,7 @@ use Rattle.luo_finite.specs.Listing.{In}
 use Rattle.luo_scan.specs.declared.token.Token.{Token}
 use Rattle.luo_scan.specs.Tokens.{bad_byte, long_name, large_number}
 use Rattle.luo_syntax.specs.declared.error.SyntaxError.TheVariants.{Grammar, Depth, NoMemory}
-use Rattle.luo_syntax.specs.declared.source.Source.{Source}
+use Rattle.luo_source.specs.declared.source.Source.{Source}
 use Rattle.luo_top.specs.declared.status.Status.{Status}
 use Rattle.luo_top.specs.Answer.{Output, Refusal, Untold}
 use Rattle.luo_top.specs.Commands.Analyse.{plain}

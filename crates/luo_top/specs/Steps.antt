@@ -5,9 +5,9 @@ use Rattle.luo_model.specs.Program.{Program}
 use Rattle.luo_num.specs.declared.limits.TheConstants.{TEXT_LIMIT}
 use Rattle.luo_scan.specs.declared.token.Token.{Token}
 use Rattle.luo_scan.specs.Tokens.{Tokens}
-use Rattle.luo_syntax.specs.declared.source.Source.{Source}
-use Rattle.luo_syntax.specs.Grammar.{Derives}
-use Rattle.luo_types.specs.Whole.{IsCore}
+use Rattle.luo_source.specs.declared.source.Source.{Source}
+use Rattle.luo_source.specs.Grammar.{Derives}
+use Rattle.luo_rules.specs.Whole.{IsCore}
 use Rattle.luo_num.specs.declared.limits.TheConstants.{SIZE_LIMIT}
 use Rattle.luo_top.specs.declared.status.Status.TheVariants.{Limit}
 use Rattle.luo_top.specs.Answer.{Answer}

@@ -6,18 +6,18 @@ use Rattle.luo_model.specs.declared.body.Arm.{Arm}
 use Rattle.luo_model.specs.Program as plain
 use Rattle.luo_model.specs.Scopes.{Stand}
 use Rattle.luo_model.specs.View.{body_of}
-use Rattle.luo_syntax.specs.declared.names.Name.{Name}
-use Rattle.luo_syntax.specs.declared.statements.SourceArm.{SourceArm}
-use Rattle.luo_value_types.specs.declared.rule.Stop.{Stop}
-use Rattle.luo_value_types.specs.declared.setting.Setting.{Setting}
-use Rattle.luo_value_types.specs.Breaches.{StopsAt}
-use Rattle.luo_value_types.specs.Patterns.{bound, bind_of}
-use Rattle.luo_value_types.specs.Room.{HasRoom}
-use Rattle.luo_value_types.specs.ValueLists.{arm_list}
-use Rattle.luo_value_types.proofs.Joins.{join_arms, arm_list_append}
+use Rattle.luo_source.specs.declared.names.Name.{Name}
+use Rattle.luo_source.specs.declared.statements.SourceArm.{SourceArm}
+use Rattle.luo_rules.specs.declared.rule.Stop.{Stop}
+use Rattle.luo_rules.specs.declared.setting.Setting.{Setting}
+use Rattle.luo_rules.specs.Breaches.{StopsAt}
+use Rattle.luo_rules.specs.Patterns.{bound, bind_of}
+use Rattle.luo_value_types.specs.inner.Room.{HasRoom}
+use Rattle.luo_rules.specs.inner.ValueLists.{arm_list}
+use Rattle.luo_rules.proofs.Joins.{join_arms, arm_list_append}
 use Rattle.luo_value_types.proofs.StopLemmas.{StopsAt-left}
-use Rattle.luo_types.specs.StatementLists.{stmt_does, one_arm_breaches, arm_list_breaches, arm_sites, arm_statements, arm_list_core}
-use Rattle.luo_types.specs.StatementsMade.{IsArmMade, AreArmsMade}
+use Rattle.luo_rules.specs.inner.StatementLists.{stmt_does, one_arm_breaches, arm_list_breaches, arm_sites, arm_statements, arm_list_core}
+use Rattle.luo_types.specs.inner.StatementsMade.{IsArmMade, AreArmsMade}
 use Rattle.luo_types.proofs.StatementRoom.{sites-within, room-first}
 
 -- what is left of a list at an element

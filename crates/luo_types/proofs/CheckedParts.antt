@@ -11,35 +11,35 @@ use Rattle.luo_model.specs.Invariant.{IsProgram, IsAllowed, inner_parts}
 use Rattle.luo_model.specs.Program as plain
 use Rattle.luo_model.specs.Program.{no_node}
 use Rattle.luo_model.specs.View.{plain_of, procedure_of}
-use Rattle.luo_syntax.specs.declared.source.Source.{Source}
-use Rattle.luo_value_types.specs.declared.names.Meaning.TheVariants.{Measure}
-use Rattle.luo_value_types.specs.declared.rule.Breach.{Breach}
-use Rattle.luo_value_types.specs.declared.rule.Stop.{Stop}
-use Rattle.luo_value_types.specs.declared.setting.Setting.{Setting}
-use Rattle.luo_value_types.specs.Breaches.{StopsAt}
-use Rattle.luo_value_types.specs.Meanings as meanings
-use Rattle.luo_value_types.specs.Meanings.{procedure_use}
-use Rattle.luo_value_types.specs.Settings.{meant, shape_at, types_of}
-use Rattle.luo_value_types.specs.Room.{HasMeasuresWithin, HasFewBranches}
-use Rattle.luo_value_types.proofs.ListFacts.{get_or-none}
+use Rattle.luo_source.specs.declared.source.Source.{Source}
+use Rattle.luo_rules.specs.declared.names.Meaning.TheVariants.{Measure}
+use Rattle.luo_rules.specs.declared.rule.Breach.{Breach}
+use Rattle.luo_rules.specs.declared.rule.Stop.{Stop}
+use Rattle.luo_rules.specs.declared.setting.Setting.{Setting}
+use Rattle.luo_rules.specs.Breaches.{StopsAt}
+use Rattle.luo_rules.specs.Meanings as meanings
+use Rattle.luo_rules.specs.Meanings.{procedure_use}
+use Rattle.luo_rules.specs.Settings.{meant, shape_at, types_of}
+use Rattle.luo_value_types.specs.inner.Room.{HasMeasuresWithin, HasFewBranches}
+use Rattle.luo_rules.proofs.ListFacts.{get_or-none}
 use Rattle.luo_value_types.proofs.StopLemmas.{StopsAt-left, StopsAt-right, StopsAt-first, StopsAt-then, none-append, none-or_if_none}
-use Rattle.luo_types.specs.Checks.{IsSource, IsWithinLimits, IsChecked, WalksTooMuch}
-use Rattle.luo_types.specs.Definitions.{definitions, measures, names_of}
-use Rattle.luo_types.specs.Nodes.{setting_of}
-use Rattle.luo_types.specs.ProceduresMade.{AreProcsMade}
-use Rattle.luo_types.specs.SitesFound.{sites_in, procedure_walks, procedure_items}
-use Rattle.luo_types.specs.TypeBreaches.{types_breaches, measures_breaches}
-use Rattle.luo_types.specs.Typed.{IsTyped}
-use Rattle.luo_types.specs.Whole.{breaches, procs_breaches, procs_core, core, walk_count}
+use Rattle.luo_rules.specs.Checks.{IsSource, IsWithinLimits, IsChecked, WalksTooMuch}
+use Rattle.luo_rules.specs.Definitions.{definitions, measures, names_of}
+use Rattle.luo_rules.specs.Nodes.{setting_of}
+use Rattle.luo_types.specs.inner.ProceduresMade.{AreProcsMade}
+use Rattle.luo_types.specs.inner.SitesFound.{sites_in, procedure_walks, procedure_items}
+use Rattle.luo_rules.specs.TypeBreaches.{types_breaches, measures_breaches}
+use Rattle.luo_types.specs.inner.Typed.{IsTyped}
+use Rattle.luo_rules.specs.Whole.{breaches, procs_breaches, procs_core, core, walk_count}
 use Rattle.luo_types.specs.declared.checking.Typed.{Typed}
-use Rattle.luo_types.proofs.CleanSource.{sound_all}
-use Rattle.luo_types.proofs.CoreAllowed.{allowed}
-use Rattle.luo_types.proofs.CoreIsProgram.{core_is_program}
-use Rattle.luo_types.proofs.CoreProcs.{procs_few}
-use Rattle.luo_types.proofs.Lists.{nil_left}
-use Rattle.luo_types.proofs.NameFacts.{names_within, all_within}
-use Rattle.luo_types.proofs.ProperSource.{source_proper}
-use Rattle.luo_types.proofs.SourceFacts.{within_limits, copies_limited}
+use Rattle.luo_rules.proofs.CleanSource.{sound_all}
+use Rattle.luo_rules.proofs.CoreAllowed.{allowed}
+use Rattle.luo_rules.proofs.CoreIsProgram.{core_is_program}
+use Rattle.luo_rules.proofs.CoreProcs.{procs_few}
+use Rattle.luo_rules.proofs.Lists.{nil_left}
+use Rattle.luo_rules.proofs.NameFacts.{names_within, all_within}
+use Rattle.luo_rules.proofs.ProperSource.{source_proper}
+use Rattle.luo_rules.proofs.SourceFacts.{within_limits, copies_limited}
 use Rattle.luo_types.proofs.WalksSame.{walks-same}
 
 -- the measures of a source are within the greatest charge

@@ -1,8 +1,8 @@
 -- The way from a definition round to itself.
 use Rattle.std.proofs.Common.{◌≡◌, ℕ, zero, suc, ◌-◌, ◌<◌, List, [], ◌∷◌, ◌++◌, cond, nat_eq, Option, Some, None, refl, ap, ◌∙◌, sym, subst, arith, append_assoc, ne_eqb}
 use Rattle.std.specs.Option.{option_map}
-use Rattle.luo_value_types.specs.declared.names.Meaning.{Meaning}
-use Rattle.luo_types.specs.Definitions.{Definition, next, name_of, way_within, circle, or_by}
+use Rattle.luo_rules.specs.declared.names.Meaning.{Meaning}
+use Rattle.luo_rules.specs.Definitions.{Definition, next, name_of, way_within, circle, or_by}
 
 -- the circle is what was gone so far, and what is left to go
 pub record Goes (names : List (List ℕ × Meaning)) (defs : List Definition) (home : ℕ) (way : List (List ℕ)) (steps at : ℕ) : Type 0 where

@@ -4,9 +4,9 @@ use mathlib.Core.Former.{Count}
 use denote.Hole.Carrier.{hidden}
 use Rattle.std.proofs.lemmas.List.Sums.{sum_by-cons}
 use Rattle.luo_model.specs.declared.program.Kind.{Kind}
-use Rattle.luo_syntax.specs.declared.types.Bound.{Bound}
-use Rattle.luo_syntax.specs.declared.types.TypeExpr.{TypeExpr, Union, Union', Product, Product', Coll, Row_of-TypeExpr, end_of-TypeExpr, more_of-TypeExpr, items-the_row-TypeExpr, items_hidden-the_row-TypeExpr-0}
-use Rattle.luo_types.specs.Counted.{multiset_of, greatest_of, own_nodes, own_nodes_of, own_multisets, own_multisets_of, most_parts, most_parts_of, greatest_bound, greatest_bound_of, greatest_by, count_exprs}
+use Rattle.luo_source.specs.declared.types.Bound.{Bound}
+use Rattle.luo_source.specs.declared.types.TypeExpr.{TypeExpr, Union, Union', Product, Product', Coll, Row_of-TypeExpr, end_of-TypeExpr, more_of-TypeExpr, items-the_row-TypeExpr, items_hidden-the_row-TypeExpr-0}
+use Rattle.luo_rules.specs.Counted.{multiset_of, greatest_of, own_nodes, own_nodes_of, own_multisets, own_multisets_of, most_parts, most_parts_of, greatest_bound, greatest_bound_of, greatest_by, count_exprs}
 
 nodes_row : (n : _) (row : Row_of-TypeExpr n) → own_nodes_of row ≡ sum_by own_nodes (items-the_row-TypeExpr n row)
 nodes_row n end_of-TypeExpr = refl
@@ -70,7 +70,7 @@ pub record CollCounts (e : TypeExpr) (kind : Kind) (part : TypeExpr) (bound : Op
   pub greatest : greatest_bound e ≡ max (greatest_bound part) (greatest_of bound)
 
 pub coll_counts : (kind : Kind) (part : TypeExpr) (bound : Option Bound) (at : ℕ) → CollCounts (Coll kind part bound at) kind part bound
-unfolding Rattle.luo_syntax.specs.declared.types.TypeExpr.TheBlock.hidden-the_row-TypeExpr-1 hidden
+unfolding Rattle.luo_source.specs.declared.types.TypeExpr.TheBlock.hidden-the_row-TypeExpr-1 hidden
 coll_counts kind part bound at = record {
   nodes = omega arith;
   multisets = omega arith;

@@ -4,11 +4,11 @@ use Rattle.std.proofs.lemmas.List.Sums.{sum_by-cons}
 use Rattle.luo_num.specs.declared.limits.TheConstants.{BOUND_LIMIT, NODE_LIMIT}
 use Rattle.luo_model.specs.declared.program.Universe.{Universe}
 use Rattle.luo_model.specs.declared.program.Node.{Node}
-use Rattle.luo_value_types.specs.declared.names.Meaning.{Meaning}
-use Rattle.luo_types.specs.Counted.{own_nodes, greatest_bound, greatest_by}
-use Rattle.luo_types.specs.Definitions.{Definition}
-use Rattle.luo_types.specs.TypeBreaches.{expr_breaches}
-use Rattle.luo_types.specs.Nodes.{nodes_at, nodes_from}
+use Rattle.luo_rules.specs.declared.names.Meaning.{Meaning}
+use Rattle.luo_rules.specs.Counted.{own_nodes, greatest_bound, greatest_by}
+use Rattle.luo_rules.specs.Definitions.{Definition}
+use Rattle.luo_rules.specs.TypeBreaches.{expr_breaches}
+use Rattle.luo_rules.specs.Nodes.{nodes_at, nodes_from}
 use Rattle.luo_types.proofs.NodeLemmas.{none-of-append, drop_at}
 
 -- the next of definitions, and those behind it

@@ -4,10 +4,10 @@ use mathlib.Core.Former.{Count}
 use denote.Hole.Carrier.{hidden}
 use Rattle.luo_model.specs.declared.program.Kind.{Kind}
 use Rattle.luo_model.specs.declared.program.Universe.{Universe}
-use Rattle.luo_syntax.specs.declared.types.Bound.{Bound}
-use Rattle.luo_syntax.specs.declared.types.TypeExpr.{TypeExpr, Union, Union', Product, Product', Coll, Row_of-TypeExpr, end_of-TypeExpr, more_of-TypeExpr, items-the_row-TypeExpr, items_hidden-the_row-TypeExpr-0}
-use Rattle.luo_value_types.specs.declared.names.Meaning.{Meaning}
-use Rattle.luo_types.specs.TypeBreaches.{kind_breaches, bound_breaches, expr_breaches, exprs_breaches}
+use Rattle.luo_source.specs.declared.types.Bound.{Bound}
+use Rattle.luo_source.specs.declared.types.TypeExpr.{TypeExpr, Union, Union', Product, Product', Coll, Row_of-TypeExpr, end_of-TypeExpr, more_of-TypeExpr, items-the_row-TypeExpr, items_hidden-the_row-TypeExpr-0}
+use Rattle.luo_rules.specs.declared.names.Meaning.{Meaning}
+use Rattle.luo_rules.specs.TypeBreaches.{kind_breaches, bound_breaches, expr_breaches, exprs_breaches}
 
 module _ (universe : Universe) (names : List (List ℕ × Meaning)) where
   row : (n : _) (row : Row_of-TypeExpr n) → exprs_breaches universe names row ≡ flat_map (expr_breaches universe names) (items-the_row-TypeExpr n row)
@@ -30,7 +30,7 @@ module _ (universe : Universe) (names : List (List ℕ × Meaning)) where
       ap (flat_map (expr_breaches universe names)) (same ∙ sym (items_hidden-the_row-TypeExpr-0 es)) ∙ sym (row r.0 r.1) ∙ ap (expr_breaches universe names) (sym is)
 
   boxed : (part : TypeExpr) (kind : Kind) (bound : Option Bound) (at : ℕ) → kind_breaches universe kind at ++ expr_breaches universe names part ++ bound_breaches kind bound ≡ expr_breaches universe names (Coll kind part bound at)
-  unfolding Rattle.luo_syntax.specs.declared.types.TypeExpr.TheBlock.hidden-the_row-TypeExpr-1 hidden
+  unfolding Rattle.luo_source.specs.declared.types.TypeExpr.TheBlock.hidden-the_row-TypeExpr-1 hidden
   boxed part kind bound at = ap (λ bs. kind_breaches universe kind at ++ bs ++ bound_breaches kind bound) (sym (append-nil (expr_breaches universe names part)))
 
   pub collection_breaches : (e : TypeExpr) (kind : Kind) (part inner : TypeExpr) (bound : Option Bound) (at : ℕ) → e ≡ Coll kind part bound at → inner ≡ part

@@ -4,12 +4,12 @@ use Rattle.std.specs.Option.{option_map_or}
 use Rattle.std.proofs.lemmas.Bool.{lt-ltb, cases_lt}
 use Rattle.std.proofs.lemmas.List.Sums.{sum_by-cons}
 use Rattle.luo_num.specs.declared.limits.TheConstants.{ANALYSIS_LIMIT, BOUND_LIMIT, DEFINITION_LIMIT, MULTISET_LIMIT, NODE_LIMIT, PART_LIMIT, PROCEDURE_LIMIT, STATEMENT_LIMIT}
-use Rattle.luo_syntax.specs.declared.source.ProcDef.{ProcDef}
-use Rattle.luo_syntax.specs.declared.source.Source.{Source}
-use Rattle.luo_types.specs.declared.error.CountLimit.{CountLimit}
-use Rattle.luo_types.specs.declared.error.CountLimit.TheVariants.{Definitions, Nodes, Parts, Bounds, Multisets, Procedures, Statements, Analyses}
-use Rattle.luo_types.specs.Counted.{passed, definition_count, node_count, most_parts, greatest_bound, greatest_by, multiset_count, body_statements, statement_count}
-use Rattle.luo_types.specs.Checks.{PassesFirst, IsWithinLimits}
+use Rattle.luo_source.specs.declared.source.ProcDef.{ProcDef}
+use Rattle.luo_source.specs.declared.source.Source.{Source}
+use Rattle.luo_rules.specs.declared.error.CountLimit.{CountLimit}
+use Rattle.luo_rules.specs.declared.error.CountLimit.TheVariants.{Definitions, Nodes, Parts, Bounds, Multisets, Procedures, Statements, Analyses}
+use Rattle.luo_rules.specs.Counted.{passed, definition_count, node_count, most_parts, greatest_bound, greatest_by, multiset_count, body_statements, statement_count}
+use Rattle.luo_rules.specs.Checks.{PassesFirst, IsWithinLimits}
 
 -- this is the first of the limits
 abbrev IsFirst : List CountLimit → CountLimit → Type 0

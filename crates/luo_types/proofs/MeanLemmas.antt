@@ -1,14 +1,14 @@
 -- Names mean definitions that are there.
 use Rattle.std.proofs.Common.{◌≡◌, ℕ, suc, ◌+◌, ◌<◌, true, false, cond, List, [], ◌∷◌, ◌++◌, length, Option, Some, None, is_some, ◌⊎◌, inl, inr, refl, ap, ◌∙◌, sym, arith}
 use Rattle.std.specs.Str.{bytes_eq}
-use Rattle.luo_syntax.specs.declared.source.ProcDef.{ProcDef}
-use Rattle.luo_syntax.specs.declared.source.Source.{Source}
-use Rattle.luo_syntax.specs.declared.names.Name.{Name}
-use Rattle.luo_value_types.specs.declared.names.Meaning.{Meaning}
-use Rattle.luo_value_types.specs.declared.names.Meaning.TheVariants as mean
-use Rattle.luo_value_types.specs.Meanings.{meaning, with_name}
-use Rattle.luo_types.specs.Definitions.{Definition, definitions, measures, definition_meant, with_definitions, with_measures, with_procedures, names_of}
-use Rattle.luo_types.specs.NodeLists.{MeanBelow}
+use Rattle.luo_source.specs.declared.source.ProcDef.{ProcDef}
+use Rattle.luo_source.specs.declared.source.Source.{Source}
+use Rattle.luo_source.specs.declared.names.Name.{Name}
+use Rattle.luo_rules.specs.declared.names.Meaning.{Meaning}
+use Rattle.luo_rules.specs.declared.names.Meaning.TheVariants as mean
+use Rattle.luo_rules.specs.Meanings.{meaning, with_name}
+use Rattle.luo_rules.specs.Definitions.{Definition, definitions, measures, definition_meant, with_definitions, with_measures, with_procedures, names_of}
+use Rattle.luo_types.specs.inner.NodeLists.{MeanBelow}
 
 -- one name more gives its meaning or changes nothing
 snoc : (names : List (List ℕ × Meaning)) (more : List ℕ × Meaning) (text : List ℕ) → (meaning (names ++ more ∷ []) text ≡ meaning names text) ⊎ (meaning (names ++ more ∷ []) text ≡ Some more.1)

@@ -9,16 +9,16 @@ use Rattle.luo_model.specs.declared.program.Universe.{Universe}
 use Rattle.luo_model.specs.declared.program.Node.{Node}
 use Rattle.luo_model.specs.declared.program.Part.{Part}
 use Rattle.luo_model.specs.declared.program.Shape.TheVariants as shape
-use Rattle.luo_syntax.specs.declared.types.Bound.{Bound}
-use Rattle.luo_syntax.specs.declared.types.TypeExpr.{TypeExpr, Union, Union', Product, Product', Coll, Row_of-TypeExpr, end_of-TypeExpr, more_of-TypeExpr, items-the_row-TypeExpr, items_hidden-the_row-TypeExpr-0}
-use Rattle.luo_value_types.specs.declared.names.Meaning.{Meaning}
-use Rattle.luo_value_types.specs.declared.rule.Breach.{Breach}
+use Rattle.luo_source.specs.declared.types.Bound.{Bound}
+use Rattle.luo_source.specs.declared.types.TypeExpr.{TypeExpr, Union, Union', Product, Product', Coll, Row_of-TypeExpr, end_of-TypeExpr, more_of-TypeExpr, items-the_row-TypeExpr, items_hidden-the_row-TypeExpr-0}
+use Rattle.luo_rules.specs.declared.names.Meaning.{Meaning}
+use Rattle.luo_rules.specs.declared.rule.Breach.{Breach}
 use Rattle.std.proofs.lemmas.List.{drop_more}
-use Rattle.luo_types.specs.Counted.{own_nodes, greatest_bound, greatest_by}
-use Rattle.luo_types.specs.Definitions.{Definition}
-use Rattle.luo_types.specs.TypeBreaches.{kind_breaches, expr_breaches, low_of, high_of}
-use Rattle.luo_types.specs.Nodes.{Spot, behind, part_at, parts_at, nodes_at, all_nodes_at}
-use Rattle.luo_types.specs.NodeLists.{parts_of, nodes_of}
+use Rattle.luo_rules.specs.Counted.{own_nodes, greatest_bound, greatest_by}
+use Rattle.luo_rules.specs.Definitions.{Definition}
+use Rattle.luo_rules.specs.TypeBreaches.{kind_breaches, expr_breaches, low_of, high_of}
+use Rattle.luo_rules.specs.Nodes.{Spot, behind, part_at, parts_at, nodes_at, all_nodes_at}
+use Rattle.luo_types.specs.inner.NodeLists.{parts_of, nodes_of}
 use Rattle.luo_types.proofs.ExpressionLemmas.{collection_breaches}
 
 pub none-of-append : (xs ys : List Breach) → xs ++ ys ≡ [] → (xs ≡ []) × (ys ≡ [])
@@ -109,7 +109,7 @@ module _ (names : List (List ℕ × Meaning)) (defs : List Definition) where
   coll_over owner at kind bound part nodes = record { shape = shape.Coll kind (part_at names defs (behind at 1) part) (low_of kind bound) (high_of bound); owner = owner; place = at.place } ∷ nodes
 
   boxed : (owner : ℕ) (at : Spot) (kind : Kind) (part : TypeExpr) (bound : Option Bound) (token : ℕ) → coll_over owner at kind bound part (nodes_at names defs owner (behind at 1) part) ≡ nodes_at names defs owner at (Coll kind part bound token)
-  unfolding Rattle.luo_syntax.specs.declared.types.TypeExpr.TheBlock.hidden-the_row-TypeExpr-1 hidden
+  unfolding Rattle.luo_source.specs.declared.types.TypeExpr.TheBlock.hidden-the_row-TypeExpr-1 hidden
   boxed owner at kind part bound token = ap (λ ns. coll_over owner at kind bound part ns) (sym (append-nil (nodes_at names defs owner (behind at 1) part)))
 
   pub collection_nodes : (owner : ℕ) (at : Spot) (e : TypeExpr) (kind : Kind) (part inner : TypeExpr) (bound : Option Bound) (token : ℕ) → e ≡ Coll kind part bound token → inner ≡ part

@@ -2,7 +2,7 @@
 use Rattle.std.proofs.Common.{◌≡◌, Result, IfErr}
 use Rattle.std.specs.Result.{IsErrAnd}
 use Rattle.std.proofs.lemmas.Result.{err_from_is_err_and}
-use Rattle.luo_value_types.specs.declared.rule.Stop.{Stop}
+use Rattle.luo_rules.specs.declared.rule.Stop.{Stop}
 
 -- a stop of a part is passed on as one of the whole
 pub passed-on : {T : Type 0} (r : Result T Stop) (e : Stop) (P : Stop → Type 0) → IsErrAnd r (λ y. y ≡ e) → P e → IfErr r P

@@ -5,28 +5,28 @@ use Rattle.std.proofs.lemmas.List.Sums.{sum_by-cons}
 use Rattle.luo_num.specs.declared.limits.TheConstants.{PROCEDURE_LIMIT, STATEMENT_LIMIT}
 use Rattle.luo_model.specs.declared.program.Proc.{Proc}
 use Rattle.luo_model.specs.View.{procedure_of}
-use Rattle.luo_syntax.specs.declared.names.Name.{Name}
-use Rattle.luo_syntax.specs.declared.source.ProcBody.{ProcBody}
-use Rattle.luo_syntax.specs.declared.source.ProcBody.TheVariants.{Statements, Value}
-use Rattle.luo_syntax.specs.declared.source.ProcDef.{ProcDef}
-use Rattle.luo_syntax.specs.declared.statements.Stmt.{Stmt}
-use Rattle.luo_syntax.specs.declared.values.SourceValue.{SourceValue}
-use Rattle.luo_value_types.specs.declared.names.Meaning.TheVariants.{Procedure}
-use Rattle.luo_value_types.specs.declared.rule.Breach.{Breach}
-use Rattle.luo_value_types.specs.declared.rule.Stop.{Stop}
-use Rattle.luo_value_types.specs.declared.setting.Setting.{Setting}
-use Rattle.luo_value_types.specs.Breaches.{StopsAt}
-use Rattle.luo_value_types.specs.Meanings as meanings
-use Rattle.luo_value_types.specs.Meanings.{type_use, procedure_use}
-use Rattle.luo_value_types.specs.Settings.{meant, type_node}
-use Rattle.luo_value_types.specs.Room.{HasRoom}
-use Rattle.luo_value_types.specs.ValueBreaches.{value_breaches}
+use Rattle.luo_source.specs.declared.names.Name.{Name}
+use Rattle.luo_source.specs.declared.source.ProcBody.{ProcBody}
+use Rattle.luo_source.specs.declared.source.ProcBody.TheVariants.{Statements, Value}
+use Rattle.luo_source.specs.declared.source.ProcDef.{ProcDef}
+use Rattle.luo_source.specs.declared.statements.Stmt.{Stmt}
+use Rattle.luo_source.specs.declared.values.SourceValue.{SourceValue}
+use Rattle.luo_rules.specs.declared.names.Meaning.TheVariants.{Procedure}
+use Rattle.luo_rules.specs.declared.rule.Breach.{Breach}
+use Rattle.luo_rules.specs.declared.rule.Stop.{Stop}
+use Rattle.luo_rules.specs.declared.setting.Setting.{Setting}
+use Rattle.luo_rules.specs.Breaches.{StopsAt}
+use Rattle.luo_rules.specs.Meanings as meanings
+use Rattle.luo_rules.specs.Meanings.{type_use, procedure_use}
+use Rattle.luo_rules.specs.Settings.{meant, type_node}
+use Rattle.luo_value_types.specs.inner.Room.{HasRoom}
+use Rattle.luo_rules.specs.ValueBreaches.{value_breaches}
 use Rattle.luo_value_types.proofs.StopLemmas.{StopsAt-left, StopsAt-right}
 use Rattle.luo_value_types.proofs.ValueRoom.{sites_within}
-use Rattle.luo_types.specs.Counted.{stmt_statements, body_statements}
-use Rattle.luo_types.specs.ProceduresMade.{IsProcMade, AreProcsMade}
-use Rattle.luo_types.specs.StatementCore.{stmt_sites}
-use Rattle.luo_types.specs.Whole.{result_breaches, parameter, node_or, body_breaches, sites_of, proc_breaches, procs_breaches, proc_core, procs_core}
+use Rattle.luo_rules.specs.Counted.{stmt_statements, body_statements}
+use Rattle.luo_types.specs.inner.ProceduresMade.{IsProcMade, AreProcsMade}
+use Rattle.luo_rules.specs.StatementCore.{stmt_sites}
+use Rattle.luo_rules.specs.Whole.{result_breaches, parameter, node_or, body_breaches, sites_of, proc_breaches, procs_breaches, proc_core, procs_core}
 use Rattle.luo_types.proofs.ArmsSoFar.{at-element}
 use Rattle.luo_types.proofs.StatementRoom.{sites-within}
 

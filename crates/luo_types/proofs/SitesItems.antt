@@ -8,9 +8,9 @@ use Rattle.luo_model.specs.declared.body.Item.{Item, Case, Forall}
 use Rattle.luo_model.specs.Program.{Program, shape_of}
 use Rattle.luo_model.specs.Scopes.{stands, component, node_at, body_sites, item_sites, arms_sites, body_items, item_in, arms_in, walk_of, body_walks, item_walks, arms_walks}
 use Rattle.luo_model.specs.View.{body_of, item_of}
-use Rattle.luo_value_types.specs.ValueLists.{arm_list}
+use Rattle.luo_rules.specs.inner.ValueLists.{arm_list}
 use Rattle.luo_value_types.proofs.CoreForms.{case_item}
-use Rattle.luo_types.specs.SitesFound.{nodes_of, IsFound}
+use Rattle.luo_types.specs.inner.SitesFound.{nodes_of, IsFound}
 use Rattle.luo_types.specs.declared.sites.Found.{Found}
 use Rattle.luo_types.proofs.StatementSteps.{walk-item}
 

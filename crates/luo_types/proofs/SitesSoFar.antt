@@ -10,8 +10,8 @@ use Rattle.luo_model.specs.Program as plain
 use Rattle.luo_model.specs.Program.{Program, shape_of}
 use Rattle.luo_model.specs.Scopes.{Stand, stands, component, bound_nodes, node_at, body_sites, items_sites, item_sites, arms_sites, body_items, items_in, item_in, arms_in, walk_of, body_walks, items_walks, item_walks, arms_walks}
 use Rattle.luo_model.specs.View.{body_of, item_of, item_list}
-use Rattle.luo_value_types.specs.ValueLists.{arm_list}
-use Rattle.luo_types.specs.SitesFound.{nodes_of, IsFound}
+use Rattle.luo_rules.specs.inner.ValueLists.{arm_list}
+use Rattle.luo_types.specs.inner.SitesFound.{nodes_of, IsFound}
 use Rattle.luo_types.specs.declared.sites.Found.{Found}
 use Rattle.luo_types.proofs.ArmsSoFar.{at-element, drop-get}
 

@@ -3,10 +3,10 @@ use Rattle.std.proofs.Common.{◌≡◌, suc, ◌+◌, List, refl, ap, ◌∙◌
 use mathlib.Core.Former.{Count}
 use denote.Hole.Carrier.{hidden}
 use Rattle.std.proofs.lemmas.List.Sums.{sum_by-cons}
-use Rattle.luo_syntax.specs.declared.names.Name.{Name}
-use Rattle.luo_syntax.specs.declared.statements.SourceArm.{SourceArm}
-use Rattle.luo_syntax.specs.declared.statements.Stmt.{Stmt, Block, Block', Case, Case', Forall, Row_of-Stmt, end_of-Stmt, more_of-Stmt, items-the_row-Stmt, items_hidden-the_row-Stmt-0, Row_of-SourceArm, end_of-SourceArm, more_of-SourceArm, items-the_row-SourceArm, items_hidden-the_row-SourceArm-1}
-use Rattle.luo_types.specs.Counted.{stmt_statements, stmts_statements, arms_statements}
+use Rattle.luo_source.specs.declared.names.Name.{Name}
+use Rattle.luo_source.specs.declared.statements.SourceArm.{SourceArm}
+use Rattle.luo_source.specs.declared.statements.Stmt.{Stmt, Block, Block', Case, Case', Forall, Row_of-Stmt, end_of-Stmt, more_of-Stmt, items-the_row-Stmt, items_hidden-the_row-Stmt-0, Row_of-SourceArm, end_of-SourceArm, more_of-SourceArm, items-the_row-SourceArm, items_hidden-the_row-SourceArm-1}
+use Rattle.luo_rules.specs.Counted.{stmt_statements, stmts_statements, arms_statements}
 
 stmt_row : (k : _) (row : Row_of-Stmt k) → stmts_statements row ≡ sum_by stmt_statements (items-the_row-Stmt k row)
 stmt_row k end_of-Stmt = refl
@@ -35,7 +35,7 @@ case_statements s var arms items is same =
     ap stmt_statements is ∙ ap suc (arm_row row.0 row.1 ∙ ap (sum_by (λ (a : SourceArm). stmt_statements a.body)) (items_hidden-the_row-SourceArm-1 arms ∙ sym same))
 
 forall_of : (var source : Name) (body : Stmt) → stmt_statements (Forall var source body) ≡ suc (stmt_statements body)
-unfolding Rattle.luo_syntax.specs.declared.statements.Stmt.TheBlock.hidden-the_row-Stmt-2 hidden
+unfolding Rattle.luo_source.specs.declared.statements.Stmt.TheBlock.hidden-the_row-Stmt-2 hidden
 forall_of var source body = omega arith
 
 pub forall_statements : (s : Stmt) (var source : Name) (body held : Stmt) → s ≡ Forall var source body → held ≡ body → stmt_statements s ≡ suc (stmt_statements held)

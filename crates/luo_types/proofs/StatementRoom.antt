@@ -2,14 +2,14 @@
 use Rattle.std.proofs.Common.{ℕ, suc, ◌+◌, ◌*◌, ◌≤◌, List, [], ◌∷◌, Some, sum_by, arith}
 use Rattle.std.proofs.lemmas.List.Sums.{sum_by-cons}
 use Rattle.luo_num.specs.declared.limits.TheConstants.{NUMBER_LIMIT}
-use Rattle.luo_syntax.specs.declared.statements.SourceArm.{SourceArm}
-use Rattle.luo_syntax.specs.declared.statements.Stmt.{Stmt, Skip, Charge, Call, Block', Case', Forall', Row_of-Stmt, end_of-Stmt, more_of-Stmt, Row_of-SourceArm, end_of-SourceArm, more_of-SourceArm}
-use Rattle.luo_value_types.specs.declared.setting.Setting.{Setting}
-use Rattle.luo_value_types.specs.Room.{HasMeasuresWithin, HasRoom}
+use Rattle.luo_source.specs.declared.statements.SourceArm.{SourceArm}
+use Rattle.luo_source.specs.declared.statements.Stmt.{Stmt, Skip, Charge, Call, Block', Case', Forall', Row_of-Stmt, end_of-Stmt, more_of-Stmt, Row_of-SourceArm, end_of-SourceArm, more_of-SourceArm}
+use Rattle.luo_rules.specs.declared.setting.Setting.{Setting}
+use Rattle.luo_value_types.specs.inner.Room.{HasMeasuresWithin, HasRoom}
 use Rattle.luo_value_types.proofs.ValueRoom.{charge_within}
-use Rattle.luo_types.specs.Counted.{stmt_statements, stmts_statements, arms_statements}
-use Rattle.luo_types.specs.StatementCore.{stmt_own, stmts_own, stmt_sites, stmts_sites, arms_sites}
-use Rattle.luo_types.specs.StatementLists.{arm_sites, arm_statements}
+use Rattle.luo_rules.specs.Counted.{stmt_statements, stmts_statements, arms_statements}
+use Rattle.luo_rules.specs.StatementCore.{stmt_own, stmts_own, stmt_sites, stmts_sites, arms_sites}
+use Rattle.luo_rules.specs.inner.StatementLists.{arm_sites, arm_statements}
 
 mutual
   pub own-within : (s : Setting) (stmt : Stmt) → HasMeasuresWithin s → stmt_own s stmt ≤ stmt_statements stmt * NUMBER_LIMIT

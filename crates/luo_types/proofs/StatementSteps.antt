@@ -9,30 +9,30 @@ use Rattle.luo_model.specs.declared.body.Item as done
 use Rattle.luo_model.specs.Program as plain
 use Rattle.luo_model.specs.Scopes.{stands, join_items}
 use Rattle.luo_model.specs.View.{body_of, item_of, item_list, items_of}
-use Rattle.luo_syntax.specs.declared.names.Name.{Name}
-use Rattle.luo_syntax.specs.declared.statements.SourceArm.{SourceArm}
-use Rattle.luo_syntax.specs.declared.statements.Stmt.{Stmt, Skip, Charge, Call, Block, Case, Forall}
-use Rattle.luo_value_types.specs.declared.names.Meaning.TheVariants.{Procedure}
-use Rattle.luo_value_types.specs.declared.rule.Breach.{Breach}
-use Rattle.luo_value_types.specs.declared.rule.Stop.{Stop}
-use Rattle.luo_value_types.specs.declared.setting.Setting.{Setting}
-use Rattle.luo_value_types.specs.declared.setting.Variable.{Variable}
-use Rattle.luo_value_types.specs.Breaches.{StopsAt}
-use Rattle.luo_value_types.specs.Meanings.{measure_use, procedure_use, value_of, procedure_of}
-use Rattle.luo_value_types.specs.Patterns.{case_breaches}
-use Rattle.luo_value_types.specs.Settings.{meant, signature_meant, shape_at, found, place_of, argument_breaches, case_stands}
-use Rattle.luo_value_types.specs.Room.{HasRoom}
-use Rattle.luo_value_types.specs.ValueMade.{extended}
+use Rattle.luo_source.specs.declared.names.Name.{Name}
+use Rattle.luo_source.specs.declared.statements.SourceArm.{SourceArm}
+use Rattle.luo_source.specs.declared.statements.Stmt.{Stmt, Skip, Charge, Call, Block, Case, Forall}
+use Rattle.luo_rules.specs.declared.names.Meaning.TheVariants.{Procedure}
+use Rattle.luo_rules.specs.declared.rule.Breach.{Breach}
+use Rattle.luo_rules.specs.declared.rule.Stop.{Stop}
+use Rattle.luo_rules.specs.declared.setting.Setting.{Setting}
+use Rattle.luo_rules.specs.declared.setting.Variable.{Variable}
+use Rattle.luo_rules.specs.Breaches.{StopsAt}
+use Rattle.luo_rules.specs.Meanings.{measure_use, procedure_use, value_of, procedure_of}
+use Rattle.luo_rules.specs.Patterns.{case_breaches}
+use Rattle.luo_rules.specs.Settings.{meant, signature_meant, shape_at, found, place_of, argument_breaches, case_stands}
+use Rattle.luo_value_types.specs.inner.Room.{HasRoom}
+use Rattle.luo_rules.specs.inner.ValueMade.{extended}
 use Rattle.luo_value_types.proofs.CoreForms.{case_item}
-use Rattle.luo_value_types.proofs.Joins.{items_none, item_list_append, extended_none, extended_empty}
+use Rattle.luo_rules.proofs.Joins.{items_none, item_list_append, extended_none, extended_empty}
 use Rattle.luo_value_types.proofs.StopLemmas.{none-append, case-arms}
-use Rattle.luo_types.specs.Counted.{stmt_statements}
-use Rattle.luo_types.specs.StatementBreaches.{walk_breaches, stmt_breaches}
-use Rattle.luo_types.specs.StatementCore.{stmt_sites}
-use Rattle.luo_types.specs.StatementLists.{list_breaches, stmt_does, arm_list_breaches, arm_sites, arm_statements, arm_list_core}
-use Rattle.luo_types.specs.StatementsMade.{IsStmtAdded, AreStmtsAdded, AreArmsMade, IsWalked, HasItem}
+use Rattle.luo_rules.specs.Counted.{stmt_statements}
+use Rattle.luo_rules.specs.StatementBreaches.{walk_breaches, stmt_breaches}
+use Rattle.luo_rules.specs.StatementCore.{stmt_sites}
+use Rattle.luo_rules.specs.inner.StatementLists.{list_breaches, stmt_does, arm_list_breaches, arm_sites, arm_statements, arm_list_core}
+use Rattle.luo_types.specs.inner.StatementsMade.{IsStmtAdded, AreStmtsAdded, AreArmsMade, IsWalked, HasItem}
 use Rattle.luo_types.proofs.StatementRoom.{sites-within, sum_sites-within, room-inside}
-use Rattle.luo_types.proofs.StatementForms.{block-breaches, block-does, block-sites, block-statements, case-breaches, case-does, case-sites, case-statements, walk_scope, walk-breaches, walk-does, walk-sites, walk-statements}
+use Rattle.luo_rules.proofs.StatementForms.{block-breaches, block-does, block-sites, block-statements, case-breaches, case-does, case-sites, case-statements, walk_scope, walk-breaches, walk-does, walk-sites, walk-statements}
 
 item_row : (k : _) (row : Row_of-Item k) → items_of row ≡ item_list (items-the_row-Item k row)
 item_row k end_of-Item = refl

@@ -6,21 +6,21 @@ use Rattle.luo_model.specs.declared.body.Body.{Body}
 use Rattle.luo_model.specs.Program as plain
 use Rattle.luo_model.specs.Scopes.{join_items}
 use Rattle.luo_model.specs.View.{body_of}
-use Rattle.luo_syntax.specs.declared.statements.Stmt.{Stmt}
-use Rattle.luo_value_types.specs.declared.rule.Stop.{Stop}
-use Rattle.luo_value_types.specs.declared.setting.Setting.{Setting}
-use Rattle.luo_value_types.specs.declared.setting.Variable.{Variable}
-use Rattle.luo_value_types.specs.Breaches.{StopsAt}
-use Rattle.luo_value_types.specs.Room.{HasMeasuresWithin, HasRoom}
-use Rattle.luo_value_types.specs.ValueMade.{extended}
-use Rattle.luo_value_types.proofs.Joins.{extended_none, extended_assoc}
+use Rattle.luo_source.specs.declared.statements.Stmt.{Stmt}
+use Rattle.luo_rules.specs.declared.rule.Stop.{Stop}
+use Rattle.luo_rules.specs.declared.setting.Setting.{Setting}
+use Rattle.luo_rules.specs.declared.setting.Variable.{Variable}
+use Rattle.luo_rules.specs.Breaches.{StopsAt}
+use Rattle.luo_value_types.specs.inner.Room.{HasMeasuresWithin, HasRoom}
+use Rattle.luo_rules.specs.inner.ValueMade.{extended}
+use Rattle.luo_rules.proofs.Joins.{extended_none, extended_assoc}
 use Rattle.luo_value_types.proofs.StopLemmas.{StopsAt-left}
-use Rattle.luo_types.specs.Counted.{stmt_statements}
-use Rattle.luo_types.specs.StatementBreaches.{stmt_breaches}
-use Rattle.luo_types.specs.StatementCore.{stmt_own, stmt_sites, stmt_items}
-use Rattle.luo_types.specs.StatementLists.{list_breaches, stmt_does, list_does}
-use Rattle.luo_types.specs.StatementsMade.{IsStmtAdded, AreStmtsAdded}
-use Rattle.luo_types.specs.Whole.{items_of}
+use Rattle.luo_rules.specs.Counted.{stmt_statements}
+use Rattle.luo_rules.specs.StatementBreaches.{stmt_breaches}
+use Rattle.luo_rules.specs.StatementCore.{stmt_own, stmt_sites, stmt_items}
+use Rattle.luo_rules.specs.inner.StatementLists.{list_breaches, stmt_does, list_does}
+use Rattle.luo_types.specs.inner.StatementsMade.{IsStmtAdded, AreStmtsAdded}
+use Rattle.luo_rules.specs.Whole.{items_of}
 use Rattle.luo_types.proofs.ArmsSoFar.{at-element}
 use Rattle.luo_types.proofs.StatementRoom.{own-within, sites-within, room-first, room-rest}
 

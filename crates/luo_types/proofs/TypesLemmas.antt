@@ -3,19 +3,19 @@ use Rattle.std.proofs.Common.{◌≡◌, ℕ, suc, ◌+◌, ◌*◌, ◌≤◌, 
 use Rattle.std.proofs.lemmas.List.Sums.{sum_by-cons}
 use Rattle.luo_num.specs.declared.limits.TheConstants.{BOUND_LIMIT, DEFINITION_LIMIT, NODE_LIMIT}
 use Rattle.luo_model.specs.declared.program.Universe.{Universe}
-use Rattle.luo_syntax.specs.declared.names.Name.{Name}
-use Rattle.luo_syntax.specs.declared.types.TypeExpr.{TypeExpr}
-use Rattle.luo_syntax.specs.declared.types.TypeDef.{TypeDef}
-use Rattle.luo_syntax.specs.declared.source.ProcDef.{ProcDef}
-use Rattle.luo_syntax.specs.declared.source.Source.{Source}
-use Rattle.luo_value_types.specs.declared.names.Meaning.{Meaning}
-use Rattle.luo_value_types.specs.declared.rule.Breach.{Breach}
-use Rattle.luo_value_types.specs.Breaches.{◌or_if_none◌}
-use Rattle.luo_types.specs.Counted.{own_nodes, greatest_bound, greatest_by}
-use Rattle.luo_types.specs.Definitions.{Definition, copies, definitions, measures, with_definitions, with_measures, with_procedures, names_of}
-use Rattle.luo_types.specs.TypeBreaches.{expr_breaches, new_types, circle_breaches, type_breaches, types_breaches, measures_breaches, first_breaches}
-use Rattle.luo_types.specs.NodeLists.{MeanBelow}
-use Rattle.luo_types.specs.Checks.{IsWithinLimits}
+use Rattle.luo_source.specs.declared.names.Name.{Name}
+use Rattle.luo_source.specs.declared.types.TypeExpr.{TypeExpr}
+use Rattle.luo_source.specs.declared.types.TypeDef.{TypeDef}
+use Rattle.luo_source.specs.declared.source.ProcDef.{ProcDef}
+use Rattle.luo_source.specs.declared.source.Source.{Source}
+use Rattle.luo_rules.specs.declared.names.Meaning.{Meaning}
+use Rattle.luo_rules.specs.declared.rule.Breach.{Breach}
+use Rattle.luo_rules.specs.Breaches.{◌or_if_none◌}
+use Rattle.luo_rules.specs.Counted.{own_nodes, greatest_bound, greatest_by}
+use Rattle.luo_rules.specs.Definitions.{Definition, copies, definitions, measures, with_definitions, with_measures, with_procedures, names_of}
+use Rattle.luo_rules.specs.TypeBreaches.{expr_breaches, new_types, circle_breaches, type_breaches, types_breaches, measures_breaches, first_breaches}
+use Rattle.luo_types.specs.inner.NodeLists.{MeanBelow}
+use Rattle.luo_rules.specs.Checks.{IsWithinLimits}
 use Rattle.luo_types.proofs.LimitLemmas.{within_limits}
 use Rattle.luo_types.proofs.MeanLemmas.{mean_below}
 use Rattle.luo_types.proofs.NodeLemmas.{none-of-append}

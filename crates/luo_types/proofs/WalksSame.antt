@@ -3,10 +3,10 @@ use Rattle.std.proofs.Common.{◌≡◌, ℕ, ◌+◌, List, [], ◌∷◌, sum_
 use Rattle.std.proofs.lemmas.List.Sums.{sum_by-cons}
 use Rattle.luo_model.specs.Program.{Procedure, Body, Does, Items, no_items, item, Item, Call, Case, Forall, Arms, no_arms, arm, shape_of}
 use Rattle.luo_model.specs.Scopes.{Stand, stands, component, node_at, bound_nodes, walk_of, body_walks, items_walks, item_walks, arms_walks}
-use Rattle.luo_value_types.specs.declared.setting.Setting.{Setting}
-use Rattle.luo_value_types.specs.Settings.{types_of}
-use Rattle.luo_types.specs.SitesFound.{procedure_walks}
-use Rattle.luo_types.specs.Whole.{with_sites}
+use Rattle.luo_rules.specs.declared.setting.Setting.{Setting}
+use Rattle.luo_rules.specs.Settings.{types_of}
+use Rattle.luo_types.specs.inner.SitesFound.{procedure_walks}
+use Rattle.luo_rules.specs.Whole.{with_sites}
 
 module _ (s : Setting) (procs : List Procedure) (analyses : List ℕ) where
   mutual

@@ -2,16 +2,15 @@
 ghost use Rattle.std.specs.Prelude.{◌≡◌, ◌≤◌, IfOk, IfErr, OnOk};
 ghost use Rattle.luo_model.specs.Program as plain;
 ghost use Rattle.luo_model.specs.View.{plain_of};
-ghost use Rattle.luo_value_types.specs.declared.rule.Breach.{Breach};
-ghost use Rattle.luo_value_types.specs.Breaches.{StopsAt};
-ghost use Rattle.luo_types.specs.declared.error.CheckError.TheVariants as error;
-ghost use Rattle.luo_types.specs.declared.error.CountLimit.{CountLimit};
-ghost use Rattle.luo_types.specs.declared.error.CountLimit.TheVariants as count;
-ghost use Rattle.luo_types.specs.Checks.{IsSource, IsWithinLimits, PassesFirst, BreaksFirst, WalksTooMuch, IsChecked, IsUnchecked, IsRefusal, IsProgramAnswer};
-ghost use Rattle.luo_types.specs.Typed.{IsTyped};
-ghost use Rattle.luo_types.specs.Whole.{breaches};
+ghost use Rattle.luo_rules.specs.declared.rule.Breach.{Breach};
+ghost use Rattle.luo_rules.specs.Breaches.{StopsAt};
+ghost use Rattle.luo_rules.specs.declared.error.CheckError.TheVariants as error;
+ghost use Rattle.luo_rules.specs.declared.error.CountLimit.{CountLimit};
+ghost use Rattle.luo_rules.specs.declared.error.CountLimit.TheVariants as count;
+ghost use Rattle.luo_rules.specs.Checks.{IsSource, IsWithinLimits, PassesFirst, BreaksFirst, WalksTooMuch, IsChecked, IsUnchecked, IsRefusal, IsProgramAnswer};
+ghost use Rattle.luo_types.specs.inner.Typed.{IsTyped};
+ghost use Rattle.luo_rules.specs.Whole.{breaches};
 
-use crate::error::{CheckError, CountLimit};
 use crate::limits::passed_limit;
 use crate::procedure_sites::sites_of;
 use crate::procedures::{analyses, procedures};
@@ -19,8 +18,8 @@ use crate::types::types;
 use luo_model::{Proc, Program};
 use luo_num::Items;
 use luo_num::limits::WALK_LIMIT;
-use luo_syntax::Source;
-use luo_value_types::{Setting, Stop};
+use luo_rules::{CheckError, CountLimit, Setting, Stop};
+use luo_source::Source;
 use std::alloc::Global;
 
 /// The parts of a source that breaks no rule.

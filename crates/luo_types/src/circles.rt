@@ -1,11 +1,11 @@
 // Definitions that are names and lead back to themselves.
 ghost use Rattle.std.specs.Prelude.{◌≡◌, IfOk};
-ghost use Rattle.luo_types.specs.Definitions.{name_of, circle};
+ghost use Rattle.luo_rules.specs.Definitions.{name_of, circle};
 
 use crate::definitions::Entry;
 use crate::links::next;
 use luo_num::{Items, NoMemory, Text};
-use luo_value_types::Names;
+use luo_rules::Names;
 use std::alloc::Global;
 
 // The name of a definition.

@@ -1,11 +1,11 @@
 // What the limits count in type expressions.
 ghost use Rattle.std.specs.Prelude.{◌≡◌, ◌+◌, suc, max, length, sum_by};
 ghost use Rattle.luo_num.specs.Mark.{capped};
-ghost use Rattle.luo_types.specs.Counted.{multiset_of, greatest_of, own_nodes, own_multisets, most_parts, greatest_bound, greatest_by};
+ghost use Rattle.luo_rules.specs.Counted.{multiset_of, greatest_of, own_nodes, own_multisets, most_parts, greatest_bound, greatest_by};
 
 use luo_model::Kind;
 use luo_num::marked_add;
-use luo_syntax::{Bound, Range, TypeExpr};
+use luo_source::{Bound, Range, TypeExpr};
 
 /// What is counted in type expressions: constructs, multisets and powersets, the most parts of one union or product,
 /// and the greatest number in a bound. Sums are marked.

@@ -3,16 +3,16 @@
 
 ghost use Rattle.std.specs.Prelude.{◌≡◌, ◌+◌, ◌≤◌, [], length, sum_by, IfErr, IfOk, OnOk};
 ghost use Rattle.luo_num.specs.declared.limits.TheConstants.{DEFINITION_LIMIT};
-ghost use Rattle.luo_value_types.specs.Breaches.{StopsAt};
-ghost use Rattle.luo_types.specs.TypeBreaches.{new_types, first_circle, circle_breaches, type_breaches, types_breaches, measures_breaches};
+ghost use Rattle.luo_rules.specs.Breaches.{StopsAt};
+ghost use Rattle.luo_rules.specs.TypeBreaches.{new_types, first_circle, circle_breaches, type_breaches, types_breaches, measures_breaches};
 
 use crate::circles::circle;
 use crate::definitions::{Entry, Measured};
 use crate::expressions::Checker;
 use crate::rules::check_name;
 use luo_num::{Items, NoMemory, Text};
-use luo_syntax::{Name, TypeDef, TypeExpr};
-use luo_value_types::{Breach, Meaning, Names, Rule, Stop};
+use luo_rules::{Breach, Meaning, Names, Rule, Stop};
+use luo_source::{Name, TypeDef, TypeExpr};
 use std::alloc::Global;
 
 // Checks the names of definitions from this number on.

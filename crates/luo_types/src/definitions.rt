@@ -1,9 +1,9 @@
 // The definitions and measures of a source, one for each name.
 ghost use Rattle.std.specs.Prelude.{◌≡◌, ◌++◌, flat_map, OnOk, IfOk};
-ghost use Rattle.luo_types.specs.Definitions.{copies, values};
+ghost use Rattle.luo_rules.specs.Definitions.{copies, values};
 
 use luo_num::NoMemory;
-use luo_syntax::{MeasureDef, Name, TypeDef, TypeExpr};
+use luo_source::{MeasureDef, Name, TypeDef, TypeExpr};
 use std::alloc::Global;
 use std::marker::Model;
 
@@ -15,8 +15,8 @@ pub(crate) struct Entry<'s> {
 }
 
 impl<'s> Model for Entry<'s> {
-    ghost use Rattle.luo_types.specs.Definitions.{Definition};
-    ghost use Rattle.luo_syntax.specs.contracts.types.TypeExpr as expr;
+    ghost use Rattle.luo_rules.specs.Definitions.{Definition};
+    ghost use Rattle.luo_source.specs.contracts.types.TypeExpr as expr;
     ghost use Rattle.std.specs.Coded.{codes};
 
     ghost Value = { Definition };
@@ -35,7 +35,7 @@ pub(crate) struct Measured<'s> {
 
 impl<'s> Model for Measured<'s> {
     ghost use Rattle.std.specs.Prelude.{ℕ};
-    ghost use Rattle.luo_syntax.specs.declared.names.Name.{Name};
+    ghost use Rattle.luo_source.specs.declared.names.Name.{Name};
 
     ghost Value = { Name × ℕ };
 

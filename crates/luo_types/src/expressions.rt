@@ -2,14 +2,15 @@
 #![tactic(auto, using(luo_value_types::proofs::StopLemmas::stop_steps))]
 
 ghost use Rattle.std.specs.Prelude.{◌≡◌, ◌++◌, [], flat_map, IfErr, OnOk};
-ghost use Rattle.luo_value_types.specs.Breaches.{StopsAt};
-ghost use Rattle.luo_value_types.specs.Meanings.{meaning, type_use};
-ghost use Rattle.luo_types.specs.TypeBreaches.{kind_breaches, bound_breaches, expr_breaches};
+ghost use Rattle.luo_rules.specs.Breaches.{StopsAt};
+ghost use Rattle.luo_rules.specs.Meanings.{meaning, type_use};
+ghost use Rattle.luo_rules.specs.TypeBreaches.{kind_breaches, bound_breaches, expr_breaches};
 
 use crate::rules::{check_bound, check_kind, check_weight};
 use luo_model::{Kind, Universe};
-use luo_syntax::{Bound, Name, TypeExpr};
-use luo_value_types::{Names, Stop, use_type};
+use luo_rules::{Names, Stop};
+use luo_source::{Bound, Name, TypeExpr};
+use luo_value_types::use_type;
 use std::alloc::Global;
 
 /// What right sides are checked by: the universe, and what names mean.

@@ -6,9 +6,7 @@ mod circles;
 mod counts;
 mod definition_check;
 mod definitions;
-mod error;
 mod expressions;
-pub mod laws;
 mod limits;
 mod links;
 mod naming;
@@ -24,5 +22,4 @@ mod statements;
 mod types;
 
 pub use checking::check;
-pub use error::{CheckError, CountLimit};
-pub use luo_value_types::Rule;
+pub use luo_rules::{CheckError, CountLimit, Rule, laws};

@@ -1,18 +1,18 @@
 // The limits that a source passes.
 ghost use Rattle.std.specs.Prelude.{◌≡◌, ◌*◌, ◌<◌, length, sum_by, IfSome, IfNone};
 ghost use Rattle.luo_num.specs.Mark.{capped};
-ghost use Rattle.luo_types.specs.Counted.{own_nodes, own_multisets, most_parts, greatest_bound, greatest_by, definition_count};
-ghost use Rattle.luo_types.specs.Checks.{PassesFirst, IsWithinLimits};
+ghost use Rattle.luo_rules.specs.Counted.{own_nodes, own_multisets, most_parts, greatest_bound, greatest_by, definition_count};
+ghost use Rattle.luo_rules.specs.Checks.{PassesFirst, IsWithinLimits};
 
 use crate::counts::{TypeCounts, count_expr};
-use crate::error::CountLimit;
 use crate::statement_counts::count_procs;
 use luo_num::limits::{
     ANALYSIS_LIMIT, BOUND_LIMIT, DEFINITION_LIMIT, MULTISET_LIMIT, NODE_LIMIT, PART_LIMIT,
     PROCEDURE_LIMIT, STATEMENT_LIMIT,
 };
 use luo_num::{marked_add, marked_mul};
-use luo_syntax::{Source, TypeDef};
+use luo_rules::CountLimit;
+use luo_source::{Source, TypeDef};
 
 // Counts in a definition, with a copy of the right side for each name.
 fn count_type(def: &TypeDef) -> TypeCounts

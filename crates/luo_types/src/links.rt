@@ -1,13 +1,13 @@
 // Where names lead from definition to definition.
 ghost use Rattle.std.specs.Prelude.{◌≡◌, ◌+◌, ◌<◌, ◌≤◌, length, sum_by, suc};
 ghost use Rattle.luo_num.specs.declared.limits.TheConstants.{NODE_LIMIT};
-ghost use Rattle.luo_types.specs.Counted.{own_nodes};
-ghost use Rattle.luo_types.specs.Definitions.{definition_meant, named_by, next, first_node, node_of};
+ghost use Rattle.luo_rules.specs.Counted.{own_nodes};
+ghost use Rattle.luo_rules.specs.Definitions.{definition_meant, named_by, next, first_node, node_of};
 
 use crate::counts::count_expr;
 use crate::definitions::Entry;
-use luo_syntax::TypeExpr;
-use luo_value_types::{Meaning, Names};
+use luo_rules::{Meaning, Names};
+use luo_source::TypeExpr;
 
 /// The definition that a name means, by its meaning.
 pub(crate) fn definition_meant(meant: Option<Meaning>) -> Option<usize>

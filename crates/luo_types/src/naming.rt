@@ -1,11 +1,11 @@
 // What the names of a source mean.
 ghost use Rattle.std.specs.Prelude.{◌≡◌, [], OnOk, IfOk};
-ghost use Rattle.luo_types.specs.Definitions.{with_definitions, with_measures, with_procedures};
+ghost use Rattle.luo_rules.specs.Definitions.{with_definitions, with_measures, with_procedures};
 
 use crate::definitions::{Entry, Measured};
 use luo_num::NoMemory;
-use luo_syntax::ProcDef;
-use luo_value_types::{Meaning, Names};
+use luo_rules::{Meaning, Names};
+use luo_source::ProcDef;
 use std::alloc::Global;
 
 fn add_definitions(alloc: Global, names: &mut Names, defs: &[Entry]) -> Result<(), NoMemory>

@@ -2,17 +2,17 @@
 ghost use Rattle.std.specs.Prelude.{◌≡◌, ◌+◌, ◌≤◌, [], ◌∷◌, ◌++◌, sum_by, flat_map, OnOk};
 ghost use Rattle.luo_num.specs.declared.limits.TheConstants.{BOUND_LIMIT, NODE_LIMIT};
 ghost use Rattle.luo_model.specs.declared.program.Shape.TheVariants as shape;
-ghost use Rattle.luo_types.specs.Counted.{own_nodes, greatest_of, greatest_bound, greatest_by};
-ghost use Rattle.luo_types.specs.TypeBreaches.{low_of, high_of, expr_breaches};
-ghost use Rattle.luo_types.specs.Nodes.{behind, part_at, nodes_at};
-ghost use Rattle.luo_types.specs.NodeLists.{parts_of, nodes_of};
+ghost use Rattle.luo_rules.specs.Counted.{own_nodes, greatest_of, greatest_bound, greatest_by};
+ghost use Rattle.luo_rules.specs.TypeBreaches.{low_of, high_of, expr_breaches};
+ghost use Rattle.luo_rules.specs.Nodes.{behind, part_at, nodes_at};
+ghost use Rattle.luo_types.specs.inner.NodeLists.{parts_of, nodes_of};
 
 use crate::counts::count_expr;
 use crate::rules::{high_in, least_of, low_in};
 use crate::scheme::{Scheme, Spot};
 use luo_model::{Kind, Node, Shape};
 use luo_num::{Items, NoMemory};
-use luo_syntax::{Bound, TypeExpr};
+use luo_source::{Bound, TypeExpr};
 
 // The least number of components under a bound.
 fn low_of(kind: Kind, bound: Option<Bound>) -> u32

@@ -3,13 +3,13 @@ ghost use Rattle.std.specs.Prelude.{◌≡◌, ◌++◌, ◌^◌, ◌≤◌, map
 ghost use Rattle.luo_model.specs.Invariant.{procedure_sites};
 ghost use Rattle.luo_model.specs.Scopes.{body_items};
 ghost use Rattle.luo_model.specs.View.{body_of, procedure_of};
-ghost use Rattle.luo_value_types.specs.Settings.{types_of};
-ghost use Rattle.luo_types.specs.SitesFound.{nodes_of, sites_at, sites_in, procedure_walks, procedure_items};
+ghost use Rattle.luo_rules.specs.Settings.{types_of};
+ghost use Rattle.luo_types.specs.inner.SitesFound.{nodes_of, sites_at, sites_in, procedure_walks, procedure_items};
 
 use crate::sites::{Found, items, one_node};
 use luo_model::{Proc, Site};
 use luo_num::Items;
-use luo_value_types::Setting;
+use luo_rules::Setting;
 use std::alloc::{AllocError, Global};
 
 // Puts the sites of a procedure behind those before it, each with its node.

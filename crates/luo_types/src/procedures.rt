@@ -5,25 +5,26 @@ ghost use Rattle.std.specs.Prelude.{◌≡◌, [], ◌∷◌, ◌++◌, ◌+◌,
 ghost use Rattle.luo_num.specs.declared.limits.TheConstants.{PROCEDURE_LIMIT, STATEMENT_LIMIT};
 ghost use Rattle.luo_model.specs.Scopes.{value_body, value_sites};
 ghost use Rattle.luo_model.specs.View as model;
-ghost use Rattle.luo_value_types.specs.Breaches.{StopsAt};
-ghost use Rattle.luo_value_types.specs.Meanings.{type_use, procedure_use, procedure_of};
-ghost use Rattle.luo_value_types.specs.Settings.{meant, type_node, part_meant};
-ghost use Rattle.luo_value_types.specs.Room.{HasMeasuresWithin, HasFewBranches, HasRoom};
-ghost use Rattle.luo_value_types.specs.Statements.{value_statements};
-ghost use Rattle.luo_value_types.specs.ValueBreaches.{value_breaches};
-ghost use Rattle.luo_value_types.specs.ValueCore.{value_core};
-ghost use Rattle.luo_types.specs.Counted.{stmt_statements, body_statements};
-ghost use Rattle.luo_types.specs.ProceduresMade.{IsDone, IsBodyMade, IsProcMade, AreProcsMade};
-ghost use Rattle.luo_types.specs.StatementCore.{stmt_sites};
-ghost use Rattle.luo_types.specs.StatementLists.{list_breaches, list_does};
-ghost use Rattle.luo_types.specs.Whole.{result_breaches, parameter, body_breaches, proc_breaches, procs_breaches};
+ghost use Rattle.luo_rules.specs.Breaches.{StopsAt};
+ghost use Rattle.luo_rules.specs.Meanings.{type_use, procedure_use, procedure_of};
+ghost use Rattle.luo_rules.specs.Settings.{meant, type_node, part_meant};
+ghost use Rattle.luo_value_types.specs.inner.Room.{HasMeasuresWithin, HasFewBranches, HasRoom};
+ghost use Rattle.luo_rules.specs.Statements.{value_statements};
+ghost use Rattle.luo_rules.specs.ValueBreaches.{value_breaches};
+ghost use Rattle.luo_rules.specs.ValueCore.{value_core};
+ghost use Rattle.luo_rules.specs.Counted.{stmt_statements, body_statements};
+ghost use Rattle.luo_types.specs.inner.ProceduresMade.{IsDone, IsBodyMade, IsProcMade, AreProcsMade};
+ghost use Rattle.luo_rules.specs.StatementCore.{stmt_sites};
+ghost use Rattle.luo_rules.specs.inner.StatementLists.{list_breaches, list_does};
+ghost use Rattle.luo_rules.specs.Whole.{result_breaches, parameter, body_breaches, proc_breaches, procs_breaches};
 
 use crate::rules::check_name;
 use crate::statements::{no_body, one_variable, stmts, take_site};
 use luo_model::{Body, Made, Proc, Universe};
 use luo_num::Items;
-use luo_syntax::{Name, ProcBody, ProcDef, SourceValue, Stmt};
-use luo_value_types::{Meaning, Rule, Setting, Stop, breach, use_procedure, use_type, value};
+use luo_rules::{Meaning, Rule, Setting, Stop};
+use luo_source::{Name, ProcBody, ProcDef, SourceValue, Stmt};
+use luo_value_types::{breach, use_procedure, use_type, value};
 use std::alloc::Global;
 
 // A procedure with a result stands in an unlabelled program.

@@ -3,14 +3,15 @@
 
 ghost use Rattle.std.specs.Prelude.{◌≡◌, [], IfErr, OnOk, decimal, nat_le, if◌then◌else◌};
 ghost use Rattle.luo_model.specs.Invariant.{greatest_weight};
-ghost use Rattle.luo_value_types.specs.declared.rule.Rule.TheVariants.{Y8};
-ghost use Rattle.luo_value_types.specs.Breaches.{broken, StopsAt};
-ghost use Rattle.luo_types.specs.TypeBreaches.{is_meaning, name_breaches, kind_word, kind_breaches, least_of, low_in, high_in, is_at_most, is_low, bound_breaches};
+ghost use Rattle.luo_rules.specs.declared.rule.Rule.TheVariants.{Y8};
+ghost use Rattle.luo_rules.specs.Breaches.{broken, StopsAt};
+ghost use Rattle.luo_rules.specs.TypeBreaches.{is_meaning, name_breaches, kind_word, kind_breaches, least_of, low_in, high_in, is_at_most, is_low, bound_breaches};
 
 use itoa::Buffer;
 use luo_model::{Kind, Universe};
-use luo_syntax::{Bound, Name, Range};
-use luo_value_types::{Meaning, Names, Rule, Stop, breach, breach_at};
+use luo_rules::{Meaning, Names, Rule, Stop};
+use luo_source::{Bound, Name, Range};
+use luo_value_types::{breach, breach_at};
 use std::alloc::Global;
 
 // The meaning is this one.

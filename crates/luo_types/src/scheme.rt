@@ -1,19 +1,19 @@
 // The definitions of a source with their nodes, and what names mean.
 ghost use Rattle.std.specs.Prelude.{◌≡◌, ◌+◌, ◌≤◌, length, sum_by, IfOk};
 ghost use Rattle.luo_num.specs.declared.limits.TheConstants.{NODE_LIMIT};
-ghost use Rattle.luo_value_types.specs.Meanings.{meaning};
-ghost use Rattle.luo_types.specs.Counted.{own_nodes};
-ghost use Rattle.luo_types.specs.Definitions.{definition_meant};
-ghost use Rattle.luo_types.specs.Nodes.{named_part, part_at, behind};
-ghost use Rattle.luo_types.specs.NodeLists.{MeanBelow, AreNodes, parts_of};
+ghost use Rattle.luo_rules.specs.Meanings.{meaning};
+ghost use Rattle.luo_rules.specs.Counted.{own_nodes};
+ghost use Rattle.luo_rules.specs.Definitions.{definition_meant};
+ghost use Rattle.luo_rules.specs.Nodes.{named_part, part_at, behind};
+ghost use Rattle.luo_types.specs.inner.NodeLists.{MeanBelow, AreNodes, parts_of};
 
 use crate::counts::count_expr;
 use crate::definitions::Entry;
 use crate::links::{definition_meant, node_of};
 use luo_model::{Part, Universe};
 use luo_num::{Items, NoMemory};
-use luo_syntax::{Name, TypeExpr};
-use luo_value_types::Names;
+use luo_rules::Names;
+use luo_source::{Name, TypeExpr};
 use std::alloc::Global;
 use std::marker::Model;
 
@@ -25,7 +25,7 @@ pub(crate) struct Spot {
 }
 
 impl Model for Spot {
-    ghost use Rattle.luo_types.specs.Nodes.{Spot};
+    ghost use Rattle.luo_rules.specs.Nodes.{Spot};
 
     ghost Value = { Spot };
 

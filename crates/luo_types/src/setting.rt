@@ -1,9 +1,9 @@
 // The setting that definitions make.
 ghost use Rattle.std.specs.Prelude.{◌≡◌, ◌≤◌, [], map, flat_map, sum_by, IfOk};
 ghost use Rattle.luo_num.specs.declared.limits.TheConstants.{BOUND_LIMIT, NODE_LIMIT};
-ghost use Rattle.luo_types.specs.Counted.{own_nodes, greatest_bound, greatest_by};
-ghost use Rattle.luo_types.specs.TypeBreaches.{expr_breaches};
-ghost use Rattle.luo_types.specs.Nodes.{defs_from, nodes_from, named_node, signature_of};
+ghost use Rattle.luo_rules.specs.Counted.{own_nodes, greatest_bound, greatest_by};
+ghost use Rattle.luo_rules.specs.TypeBreaches.{expr_breaches};
+ghost use Rattle.luo_rules.specs.Nodes.{defs_from, nodes_from, named_node, signature_of};
 
 use crate::counts::count_expr;
 use crate::links::definition_meant;
@@ -11,8 +11,8 @@ use crate::nodes::put;
 use crate::scheme::{Scheme, Spot};
 use luo_model::{Def, Node};
 use luo_num::{Items, NoMemory};
-use luo_syntax::{Name, ProcBody, ProcDef};
-use luo_value_types::{Setting, Signature};
+use luo_rules::{Setting, Signature};
+use luo_source::{Name, ProcBody, ProcDef};
 
 // The definitions in the core form.
 fn core_defs(scheme: &Scheme) -> Result<Items<Def>, NoMemory>

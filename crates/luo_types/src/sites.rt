@@ -2,14 +2,15 @@
 ghost use Rattle.std.specs.Prelude.{◌≡◌, [], ◌∷◌, ◌++◌, ◌+◌, ◌*◌, ◌^◌, ◌<◌, ◌≤◌, map, length, sum_by, IfOk, OnOk};
 ghost use Rattle.luo_model.specs.Scopes as scopes;
 ghost use Rattle.luo_model.specs.View.{body_of, item_of, item_list, procedure_of};
-ghost use Rattle.luo_value_types.specs.Settings.{shape_at, types_of};
-ghost use Rattle.luo_value_types.specs.Stands.{stand_of};
-ghost use Rattle.luo_value_types.specs.ValueLists.{arm_list};
-ghost use Rattle.luo_types.specs.SitesFound.{nodes_of, IsFound, sites_at, sites_in, procedure_walks, procedure_items};
+ghost use Rattle.luo_rules.specs.Settings.{shape_at, types_of};
+ghost use Rattle.luo_value_types.specs.inner.Stands.{stand_of};
+ghost use Rattle.luo_rules.specs.inner.ValueLists.{arm_list};
+ghost use Rattle.luo_types.specs.inner.SitesFound.{nodes_of, IsFound, sites_at, sites_in, procedure_walks, procedure_items};
 
 use luo_model::{Arm, Bind, Body, Item, Kind, Part, Proc, Shape, Site};
 use luo_num::Items;
-use luo_value_types::{Setting, Stand, stand_at};
+use luo_rules::Setting;
+use luo_value_types::{Stand, stand_at};
 use std::alloc::{AllocError, Global};
 
 /// What is found in bodies: the nodes of their sites, and the number of walks over multisets and powersets.

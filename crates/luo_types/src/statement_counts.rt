@@ -1,10 +1,10 @@
 // The number of statements.
 ghost use Rattle.std.specs.Prelude.{◌≡◌, suc, sum_by};
 ghost use Rattle.luo_num.specs.Mark.{capped};
-ghost use Rattle.luo_types.specs.Counted.{stmt_statements, body_statements};
+ghost use Rattle.luo_rules.specs.Counted.{stmt_statements, body_statements};
 
 use luo_num::marked_add;
-use luo_syntax::{ProcBody, ProcDef, SourceArm, Stmt};
+use luo_source::{ProcBody, ProcDef, SourceArm, Stmt};
 use luo_value_types::count_statements;
 
 // The marked number of statements of a statement.

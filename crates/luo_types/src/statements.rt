@@ -3,24 +3,25 @@ ghost use Rattle.std.specs.Prelude.{◌≡◌, [], ◌∷◌, ◌++◌, ◌+◌,
 ghost use Rattle.luo_model.specs.Program.{Does, no_items};
 ghost use Rattle.luo_model.specs.Scopes.{stands};
 ghost use Rattle.luo_model.specs.View.{body_of, item_of};
-ghost use Rattle.luo_syntax.specs.declared.statements.Stmt as form;
-ghost use Rattle.luo_value_types.specs.declared.rule.Breach.{Breach};
-ghost use Rattle.luo_value_types.specs.Breaches.{StopsAt};
-ghost use Rattle.luo_value_types.specs.Meanings.{measure_use, value_of};
-ghost use Rattle.luo_value_types.specs.Settings.{meant, shape_at, found};
-ghost use Rattle.luo_value_types.specs.Stands.{stand_of};
-ghost use Rattle.luo_value_types.specs.Room.{HasMeasuresWithin, HasRoom};
-ghost use Rattle.luo_types.specs.Counted.{stmt_statements};
-ghost use Rattle.luo_types.specs.StatementBreaches.{walk_breaches, stmt_breaches};
-ghost use Rattle.luo_types.specs.StatementLists.{list_breaches, one_arm_breaches, arm_list_breaches, arm_statements};
-ghost use Rattle.luo_types.specs.StatementsMade.{HasItem, IsStmtAdded, AreStmtsAdded, IsArmMade, AreArmsMade, IsWalked};
+ghost use Rattle.luo_source.specs.declared.statements.Stmt as form;
+ghost use Rattle.luo_rules.specs.declared.rule.Breach.{Breach};
+ghost use Rattle.luo_rules.specs.Breaches.{StopsAt};
+ghost use Rattle.luo_rules.specs.Meanings.{measure_use, value_of};
+ghost use Rattle.luo_rules.specs.Settings.{meant, shape_at, found};
+ghost use Rattle.luo_value_types.specs.inner.Stands.{stand_of};
+ghost use Rattle.luo_value_types.specs.inner.Room.{HasMeasuresWithin, HasRoom};
+ghost use Rattle.luo_rules.specs.Counted.{stmt_statements};
+ghost use Rattle.luo_rules.specs.StatementBreaches.{walk_breaches, stmt_breaches};
+ghost use Rattle.luo_rules.specs.inner.StatementLists.{list_breaches, one_arm_breaches, arm_list_breaches, arm_statements};
+ghost use Rattle.luo_types.specs.inner.StatementsMade.{HasItem, IsStmtAdded, AreStmtsAdded, IsArmMade, AreArmsMade, IsWalked};
 
 use luo_model::{Arm, Body, Item, Shape};
 use luo_num::Items;
-use luo_syntax::{Name, SourceArm, Stmt};
+use luo_rules::{Rule, Setting, Stop, Variable};
+use luo_source::{Name, SourceArm, Stmt};
 use luo_value_types::{
-    Rule, Setting, Stand, Stop, Variable, argument, breach_at, case_variable, pattern, stand_at,
-    use_measure, use_procedure, variable,
+    Stand, argument, breach_at, case_variable, pattern, stand_at, use_measure, use_procedure,
+    variable,
 };
 use std::alloc::{AllocError, Global};
 

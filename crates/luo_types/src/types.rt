@@ -3,11 +3,11 @@
 
 ghost use Rattle.std.specs.Prelude.{◌≡◌, ◌≤◌, ◌++◌, [], length, sum_by, IfOk, IfErr, OnOk};
 ghost use Rattle.luo_num.specs.declared.limits.TheConstants.{DEFINITION_LIMIT};
-ghost use Rattle.luo_value_types.specs.Breaches.{StopsAt};
-ghost use Rattle.luo_types.specs.Definitions.{names_of, definitions};
-ghost use Rattle.luo_types.specs.TypeBreaches.{types_breaches, measures_breaches, first_breaches};
-ghost use Rattle.luo_types.specs.Nodes.{setting_of};
-ghost use Rattle.luo_types.specs.Checks.{IsWithinLimits};
+ghost use Rattle.luo_rules.specs.Breaches.{StopsAt};
+ghost use Rattle.luo_rules.specs.Definitions.{names_of, definitions};
+ghost use Rattle.luo_rules.specs.TypeBreaches.{types_breaches, measures_breaches, first_breaches};
+ghost use Rattle.luo_rules.specs.Nodes.{setting_of};
+ghost use Rattle.luo_rules.specs.Checks.{IsWithinLimits};
 
 use crate::definition_check::{check_measures, check_types};
 use crate::definitions::{Entry, Measured, definitions, measures};
@@ -16,8 +16,8 @@ use crate::naming::names_of;
 use crate::scheme::Scheme;
 use crate::setting::setting;
 use luo_model::Universe;
-use luo_syntax::{Source, TypeDef};
-use luo_value_types::{Names, Setting, Stop};
+use luo_rules::{Names, Setting, Stop};
+use luo_source::{Source, TypeDef};
 use std::alloc::Global;
 
 // Checks definitions and then measures.

@@ -2,19 +2,19 @@
 use Rattle.std.proofs.Common.{◌≡◌, ℕ, ◌+◌, ◌≤◌, List, [], ◌∷◌, ◌++◌, Option, drop, length, ap, sym, subst, ◌∙◌, arith}
 use Rattle.std.proofs.lemmas.List.{append-nil}
 use Rattle.std.proofs.lemmas.List.{drop_all}
-use Rattle.luo_syntax.specs.declared.names.Name.{Name}
-use Rattle.luo_syntax.specs.declared.values.SourceValueArm.{SourceValueArm}
+use Rattle.luo_source.specs.declared.names.Name.{Name}
+use Rattle.luo_source.specs.declared.values.SourceValueArm.{SourceValueArm}
 use Rattle.luo_model.specs.declared.body.Arm.{Arm}
 use Rattle.luo_model.specs.declared.value.ValueArm.{ValueArm}
 use Rattle.luo_model.specs.Scopes.{Stand, value_arms_sites, value_arm_bodies}
-use Rattle.luo_value_types.specs.declared.rule.Stop.{Stop}
-use Rattle.luo_value_types.specs.declared.setting.Setting.{Setting}
-use Rattle.luo_value_types.specs.Breaches.{StopsAt}
-use Rattle.luo_value_types.specs.Patterns.{bound, arm_breaches, pattern_breaches}
-use Rattle.luo_value_types.specs.Room.{HasRoom}
-use Rattle.luo_value_types.specs.ValueBreaches.{value_breaches}
-use Rattle.luo_value_types.specs.ValueLists.{arms_breaches, arms_core, arms_statements, value_arm_list, arm_list, ArmsAreMade, ArmIsMade}
-use Rattle.luo_value_types.proofs.Joins.{join_value_arms, join_arms, value_arms_none, value_arms_assoc, value_arms_sites_join, arm_bodies_join, value_arm_list_append, arm_list_append}
+use Rattle.luo_rules.specs.declared.rule.Stop.{Stop}
+use Rattle.luo_rules.specs.declared.setting.Setting.{Setting}
+use Rattle.luo_rules.specs.Breaches.{StopsAt}
+use Rattle.luo_rules.specs.Patterns.{bound, arm_breaches, pattern_breaches}
+use Rattle.luo_value_types.specs.inner.Room.{HasRoom}
+use Rattle.luo_rules.specs.ValueBreaches.{value_breaches}
+use Rattle.luo_rules.specs.inner.ValueLists.{arms_breaches, arms_core, arms_statements, value_arm_list, arm_list, ArmsAreMade, ArmIsMade}
+use Rattle.luo_rules.proofs.Joins.{join_value_arms, join_arms, value_arms_none, value_arms_assoc, value_arms_sites_join, arm_bodies_join, value_arm_list_append, arm_list_append}
 use Rattle.luo_value_types.proofs.StopLemmas.{StopsAt-left, StopsAt-pattern}
 use Rattle.luo_value_types.proofs.ValueRoom.{sites_within}
 

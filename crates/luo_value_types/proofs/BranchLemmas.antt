@@ -1,7 +1,7 @@
 -- Branches of unions by their numbers from 1.
 use Rattle.std.proofs.Common.{◌≡◌, ℕ, zero, suc, ◌-◌, ◌<◌, ◌≤◌, List, [], ◌∷◌, Some, None, length, get_or, refl, sym, ap, subst, ◌∙◌, arith}
 use Rattle.luo_model.specs.declared.program.Part.{Part}
-use Rattle.luo_value_types.specs.ValueBreaches.{branch_at}
+use Rattle.luo_rules.specs.ValueBreaches.{branch_at}
 
 pub branch_zero : (parts : List Part) (number : ℕ) → number ≡ 0 → branch_at parts number ≡ None
 branch_zero parts number e = subst (λ z. branch_at parts z ≡ None) (sym e) (at_zero parts)

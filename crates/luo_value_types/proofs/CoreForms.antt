@@ -10,7 +10,7 @@ use Rattle.luo_model.specs.declared.value.Value.{Value, Row_of-Value, end_of-Val
 use Rattle.luo_model.specs.declared.value.Value as made
 use Rattle.luo_model.specs.Program as plain
 use Rattle.luo_model.specs.View.{value_of, values_of, value_arms_of, item_of, item_list, items_of, arms_of}
-use Rattle.luo_value_types.specs.ValueLists.{value_list, value_arm_list, arm_list}
+use Rattle.luo_rules.specs.inner.ValueLists.{value_list, value_arm_list, arm_list}
 
 abbrev parts_in : Value → (k : Count) × Row_of-Value k
 parts_in (made.Tuple' _ row) = (_, row)

@@ -1,10 +1,5 @@
-pub mod Joins
-pub mod ValueForms
 pub mod CoreForms
 pub mod ValueRoom
-pub mod ListFacts
-pub mod NameLemmas
-pub mod SettingLemmas
 pub mod StopLemmas
 pub mod PatternLemmas
 pub mod BranchLemmas

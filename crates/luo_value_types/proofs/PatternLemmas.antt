@@ -1,13 +1,13 @@
 -- Where the check of a pattern stops.
 use Rattle.std.proofs.Common.{◌≡◌, ◌++◌, true, false, List, [], ◌∷◌, refl, sym, ◌∙◌, ap, subst}
-use Rattle.luo_syntax.specs.declared.names.Name.{Name}
-use Rattle.luo_syntax.specs.declared.statements.Pattern.{Pattern}
+use Rattle.luo_source.specs.declared.names.Name.{Name}
+use Rattle.luo_source.specs.declared.statements.Pattern.{Pattern}
 use Rattle.luo_model.specs.Scopes.{Stand}
-use Rattle.luo_value_types.specs.declared.rule.Rule.TheVariants.{Y11}
-use Rattle.luo_value_types.specs.declared.rule.Stop.{Stop}
-use Rattle.luo_value_types.specs.declared.setting.Setting.{Setting}
-use Rattle.luo_value_types.specs.Breaches.{broken, StopsAt}
-use Rattle.luo_value_types.specs.Patterns.{fits, first_token, pattern_type_use, factor_names, repeated, misfit, pattern_breaches, variables}
+use Rattle.luo_rules.specs.declared.rule.Rule.TheVariants.{Y11}
+use Rattle.luo_rules.specs.declared.rule.Stop.{Stop}
+use Rattle.luo_rules.specs.declared.setting.Setting.{Setting}
+use Rattle.luo_rules.specs.Breaches.{broken, StopsAt}
+use Rattle.luo_rules.specs.Patterns.{fits, first_token, pattern_type_use, factor_names, repeated, misfit, pattern_breaches, variables}
 use Rattle.luo_value_types.proofs.StopLemmas.{StopsAt-left, StopsAt-first, StopsAt-then, none-or_if_none}
 
 module _ (s : Setting) (stand : Stand) (var : Name) (pattern : Pattern) where

@@ -2,13 +2,13 @@
 use Rattle.std.proofs.Common.{◌≡◌, ℕ, suc, ◌+◌, ◌≤◌, List, drop, length, ap, sym, ◌∙◌, arith}
 use Rattle.std.proofs.lemmas.List.{drop_all}
 use Rattle.luo_num.specs.Mark.{capped}
-use Rattle.luo_syntax.specs.declared.names.Name.{Name}
-use Rattle.luo_syntax.specs.declared.values.SourceValue.{SourceValue}
-use Rattle.luo_syntax.specs.declared.values.SourceValueArm.{SourceValueArm}
-use Rattle.luo_syntax.specs.declared.values.SourceValue as source
-use Rattle.luo_value_types.specs.Statements.{value_statements}
-use Rattle.luo_value_types.specs.ValueLists.{parts_statements, arms_statements}
-use Rattle.luo_value_types.proofs.ValueForms.{tuple_statements, branch_statements, case_statements}
+use Rattle.luo_source.specs.declared.names.Name.{Name}
+use Rattle.luo_source.specs.declared.values.SourceValue.{SourceValue}
+use Rattle.luo_source.specs.declared.values.SourceValueArm.{SourceValueArm}
+use Rattle.luo_source.specs.declared.values.SourceValue as source
+use Rattle.luo_rules.specs.Statements.{value_statements}
+use Rattle.luo_rules.specs.inner.ValueLists.{parts_statements, arms_statements}
+use Rattle.luo_rules.proofs.ValueForms.{tuple_statements, branch_statements, case_statements}
 
 -- all the statements are those so far with those that are left
 pub record CountedSoFar (all sum left : ℕ) : Type 0 where

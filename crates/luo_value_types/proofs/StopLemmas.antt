@@ -1,15 +1,15 @@
 -- Where a check over several parts stops.
 use Rattle.std.proofs.Common.{◌≡◌, ℕ, true, List, [], ◌++◌, Option, Some, None, length, nat_eq, refl, sym, ◌∙◌, ap, subst}
-use Rattle.luo_syntax.specs.declared.names.Name.{Name}
-use Rattle.luo_syntax.specs.declared.statements.Pattern.{Pattern}
+use Rattle.luo_source.specs.declared.names.Name.{Name}
+use Rattle.luo_source.specs.declared.statements.Pattern.{Pattern}
 use Rattle.luo_model.specs.Scopes.{Stand}
-use Rattle.luo_value_types.specs.declared.rule.Breach.{Breach}
-use Rattle.luo_value_types.specs.declared.rule.Stop.{Stop}
-use Rattle.luo_value_types.specs.declared.rule.Stop.TheVariants as stop
-use Rattle.luo_value_types.specs.declared.setting.Setting.{Setting}
-use Rattle.luo_value_types.specs.Breaches.{◌or_if_none◌, StopsAt}
-use Rattle.luo_value_types.specs.Settings.{case_stands}
-use Rattle.luo_value_types.specs.Patterns.{fits, pattern_breaches, arm_breaches, case_breaches}
+use Rattle.luo_rules.specs.declared.rule.Breach.{Breach}
+use Rattle.luo_rules.specs.declared.rule.Stop.{Stop}
+use Rattle.luo_rules.specs.declared.rule.Stop.TheVariants as stop
+use Rattle.luo_rules.specs.declared.setting.Setting.{Setting}
+use Rattle.luo_rules.specs.Breaches.{◌or_if_none◌, StopsAt}
+use Rattle.luo_rules.specs.Settings.{case_stands}
+use Rattle.luo_rules.specs.Patterns.{fits, pattern_breaches, arm_breaches, case_breaches}
 
 -- memory may be refused in every check
 pub StopsAt-no_memory : (bs : List Breach) → StopsAt bs stop.NoMemory

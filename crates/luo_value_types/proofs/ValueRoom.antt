@@ -1,20 +1,20 @@
 -- What the core form of a value takes is bounded by its statements.
 use Rattle.std.proofs.Common.{◌≡◌, ℕ, ◌*◌, ◌≤◌, List, [], ◌∷◌, Option, Some, None, refl, arith}
 use Rattle.luo_num.specs.declared.limits.TheConstants.{NUMBER_LIMIT}
-use Rattle.luo_syntax.specs.declared.names.Name.{Name}
-use Rattle.luo_syntax.specs.declared.values.SourceValue.{SourceValue, Given, Made, Atom, Tuple', Branch', Case', Row_of-SourceValue, end_of-SourceValue, more_of-SourceValue, Row_of-SourceValueArm, end_of-SourceValueArm, more_of-SourceValueArm}
+use Rattle.luo_source.specs.declared.names.Name.{Name}
+use Rattle.luo_source.specs.declared.values.SourceValue.{SourceValue, Given, Made, Atom, Tuple', Branch', Case', Row_of-SourceValue, end_of-SourceValue, more_of-SourceValue, Row_of-SourceValueArm, end_of-SourceValueArm, more_of-SourceValueArm}
 use Rattle.luo_model.specs.Scopes.{Stand, value_own, values_own, value_sites, values_sites, value_arms_sites}
-use Rattle.luo_value_types.specs.declared.names.Meaning.{Meaning}
-use Rattle.luo_value_types.specs.declared.names.Meaning.TheVariants.{Definition, Measure, Procedure}
-use Rattle.luo_value_types.specs.declared.setting.Setting.{Setting}
-use Rattle.luo_value_types.specs.declared.setting.Variable.{Variable}
-use Rattle.luo_value_types.specs.Meanings as meanings
-use Rattle.luo_value_types.specs.Settings.{meant, found, case_stands}
-use Rattle.luo_value_types.specs.Patterns.{bound}
-use Rattle.luo_value_types.specs.Room.{HasMeasuresWithin}
-use Rattle.luo_value_types.specs.Statements.{value_statements, values_statements, boxed_value_statements, value_arms_statements}
-use Rattle.luo_value_types.specs.ValueBreaches.{part_nodes, inner_node, count_values}
-use Rattle.luo_value_types.specs.ValueCore.{value_core, values_core, boxed_value_core, value_arms_core, charge_of}
+use Rattle.luo_rules.specs.declared.names.Meaning.{Meaning}
+use Rattle.luo_rules.specs.declared.names.Meaning.TheVariants.{Definition, Measure, Procedure}
+use Rattle.luo_rules.specs.declared.setting.Setting.{Setting}
+use Rattle.luo_rules.specs.declared.setting.Variable.{Variable}
+use Rattle.luo_rules.specs.Meanings as meanings
+use Rattle.luo_rules.specs.Settings.{meant, found, case_stands}
+use Rattle.luo_rules.specs.Patterns.{bound}
+use Rattle.luo_value_types.specs.inner.Room.{HasMeasuresWithin}
+use Rattle.luo_rules.specs.Statements.{value_statements, values_statements, boxed_value_statements, value_arms_statements}
+use Rattle.luo_rules.specs.ValueBreaches.{part_nodes, inner_node, count_values}
+use Rattle.luo_rules.specs.ValueCore.{value_core, values_core, boxed_value_core, value_arms_core, charge_of}
 
 mutual
   pub sites_within : (s : Setting) (scope : List Variable) (expected : Option ℕ) (v : SourceValue) → value_sites (value_core s scope expected v) ≤ value_statements v

@@ -4,10 +4,10 @@ use Rattle.std.specs.Prelude.{IfOk, IfErr}
 use Rattle.std.specs.Result.{IsErrAnd}
 use Rattle.std.proofs.lemmas.Bool.{eqb-true}
 use Rattle.std.proofs.lemmas.Result.{err_from_is_err_and}
-use Rattle.luo_syntax.specs.declared.names.Name.{Name}
-use Rattle.luo_syntax.specs.declared.values.SourceValue.{SourceValue}
-use Rattle.luo_syntax.specs.declared.values.SourceValueArm.{SourceValueArm}
-use Rattle.luo_syntax.specs.declared.values.SourceValue as source
+use Rattle.luo_source.specs.declared.names.Name.{Name}
+use Rattle.luo_source.specs.declared.values.SourceValue.{SourceValue}
+use Rattle.luo_source.specs.declared.values.SourceValueArm.{SourceValueArm}
+use Rattle.luo_source.specs.declared.values.SourceValue as source
 use Rattle.luo_model.specs.declared.body.Arm.{Arm}
 use Rattle.luo_model.specs.declared.body.Body.{Body}
 use Rattle.luo_model.specs.declared.body.Item.{Item}
@@ -22,24 +22,24 @@ use Rattle.luo_model.specs.Invariant.{inner_parts}
 use Rattle.luo_model.specs.Program as plain
 use Rattle.luo_model.specs.Scopes.{Stand, stands, factors, join_items, value_arms_sites, value_arm_bodies}
 use Rattle.luo_model.specs.View.{value_of, body_of, item_list, item_of}
-use Rattle.luo_value_types.specs.declared.rule.Breach.{Breach}
-use Rattle.luo_value_types.specs.declared.rule.Rule.TheVariants.{Y15}
-use Rattle.luo_value_types.specs.declared.rule.Stop.{Stop}
-use Rattle.luo_value_types.specs.declared.setting.Setting.{Setting}
-use Rattle.luo_value_types.specs.declared.setting.Variable.{Variable}
-use Rattle.luo_value_types.specs.Breaches.{◌or_if_none◌, broken, StopsAt}
-use Rattle.luo_value_types.specs.Meanings.{procedure_use, procedure_of}
-use Rattle.luo_value_types.specs.Settings.{meant, signature_meant, shape_at, found, place_of, argument_breaches, case_stands}
-use Rattle.luo_value_types.specs.Patterns.{bound, case_breaches, has_factors}
-use Rattle.luo_value_types.specs.Room.{HasFewBranches, HasRoom}
-use Rattle.luo_value_types.specs.Statements.{value_statements}
-use Rattle.luo_value_types.specs.ValueBreaches.{value_breaches, given_breaches, result_breaches, charge_use, is_atom, misplaced, branch_at, branch_of, part_nodes}
-use Rattle.luo_value_types.specs.ValueCore.{value_core, weight_of, charge_of}
-use Rattle.luo_value_types.specs.ValueLists.{parts_breaches, parts_core, parts_statements, arms_breaches, arms_core, arms_statements, AreMade, ArmsAreMade}
-use Rattle.luo_value_types.specs.ValueMade.{extended, IsMade}
-use Rattle.luo_value_types.proofs.Joins.{items_none, extended_none, item_list_append}
+use Rattle.luo_rules.specs.declared.rule.Breach.{Breach}
+use Rattle.luo_rules.specs.declared.rule.Rule.TheVariants.{Y15}
+use Rattle.luo_rules.specs.declared.rule.Stop.{Stop}
+use Rattle.luo_rules.specs.declared.setting.Setting.{Setting}
+use Rattle.luo_rules.specs.declared.setting.Variable.{Variable}
+use Rattle.luo_rules.specs.Breaches.{◌or_if_none◌, broken, StopsAt}
+use Rattle.luo_rules.specs.Meanings.{procedure_use, procedure_of}
+use Rattle.luo_rules.specs.Settings.{meant, signature_meant, shape_at, found, place_of, argument_breaches, case_stands}
+use Rattle.luo_rules.specs.Patterns.{bound, case_breaches, has_factors}
+use Rattle.luo_value_types.specs.inner.Room.{HasFewBranches, HasRoom}
+use Rattle.luo_rules.specs.Statements.{value_statements}
+use Rattle.luo_rules.specs.ValueBreaches.{value_breaches, given_breaches, result_breaches, charge_use, is_atom, misplaced, branch_at, branch_of, part_nodes}
+use Rattle.luo_rules.specs.ValueCore.{value_core, weight_of, charge_of}
+use Rattle.luo_rules.specs.inner.ValueLists.{parts_breaches, parts_core, parts_statements, arms_breaches, arms_core, arms_statements, AreMade, ArmsAreMade}
+use Rattle.luo_rules.specs.inner.ValueMade.{extended, IsMade}
+use Rattle.luo_rules.proofs.Joins.{items_none, extended_none, item_list_append}
 use Rattle.luo_value_types.proofs.StopLemmas.{StopsAt-left, none-append, case-arms}
-use Rattle.luo_value_types.proofs.ValueForms.{tuple_breaches, tuple_core, tuple_statements, branch_breaches, branch_core, branch_statements, case_value_breaches, case_core, case_statements}
+use Rattle.luo_rules.proofs.ValueForms.{tuple_breaches, tuple_core, tuple_statements, branch_breaches, branch_core, branch_statements, case_value_breaches, case_core, case_statements}
 use Rattle.luo_value_types.proofs.ValueRoom.{sites_within}
 use Rattle.luo_value_types.proofs.CoreForms.{tuple_form, branch_form, case_form, case_item}
 

@@ -1,23 +1,23 @@
 -- Parts and arms that are made one by one.
 use Rattle.std.proofs.Common.{◌≡◌, ℕ, ◌+◌, ◌<◌, ◌≤◌, List, [], ◌∷◌, ◌++◌, Option, Some, map, drop, length, get_or, refl, ap, sym, subst, ◌∙◌, arith, add-zero}
-use Rattle.luo_syntax.specs.declared.values.SourceValue.{SourceValue}
+use Rattle.luo_source.specs.declared.values.SourceValue.{SourceValue}
 use Rattle.luo_model.specs.declared.body.Body.{Body}
 use Rattle.luo_model.specs.declared.program.Part.{Part}
 use Rattle.luo_model.specs.declared.value.Value.{Value}
 use Rattle.luo_model.specs.Program as plain
 use Rattle.luo_model.specs.Scopes.{join_items, value_own, values_own, value_sites, values_sites, value_items, values_items, value_body}
 use Rattle.luo_model.specs.View.{body_of}
-use Rattle.luo_value_types.specs.declared.rule.Stop.{Stop}
-use Rattle.luo_value_types.specs.declared.setting.Setting.{Setting}
-use Rattle.luo_value_types.specs.declared.setting.Variable.{Variable}
-use Rattle.luo_value_types.specs.Breaches.{StopsAt}
-use Rattle.luo_value_types.specs.Room.{HasMeasuresWithin, HasRoom}
-use Rattle.luo_value_types.specs.Statements.{value_statements}
-use Rattle.luo_value_types.specs.ValueBreaches.{value_breaches}
-use Rattle.luo_value_types.specs.ValueCore.{value_core}
-use Rattle.luo_value_types.specs.ValueLists.{parts_breaches, parts_core, parts_statements, value_list, AreMade}
-use Rattle.luo_value_types.specs.ValueMade.{extended, IsMade}
-use Rattle.luo_value_types.proofs.Joins.{items_none, extended_none, extended_assoc, join_values, values_none, values_assoc, values_own_join, values_sites_join, values_items_join, value_list_append}
+use Rattle.luo_rules.specs.declared.rule.Stop.{Stop}
+use Rattle.luo_rules.specs.declared.setting.Setting.{Setting}
+use Rattle.luo_rules.specs.declared.setting.Variable.{Variable}
+use Rattle.luo_rules.specs.Breaches.{StopsAt}
+use Rattle.luo_value_types.specs.inner.Room.{HasMeasuresWithin, HasRoom}
+use Rattle.luo_rules.specs.Statements.{value_statements}
+use Rattle.luo_rules.specs.ValueBreaches.{value_breaches}
+use Rattle.luo_rules.specs.ValueCore.{value_core}
+use Rattle.luo_rules.specs.inner.ValueLists.{parts_breaches, parts_core, parts_statements, value_list, AreMade}
+use Rattle.luo_rules.specs.inner.ValueMade.{extended, IsMade}
+use Rattle.luo_rules.proofs.Joins.{items_none, extended_none, extended_assoc, join_values, values_none, values_assoc, values_own_join, values_sites_join, values_items_join, value_list_append}
 use Rattle.std.proofs.lemmas.List.{drop_all, drop_more}
 use Rattle.luo_value_types.proofs.StopLemmas.{StopsAt-left}
 use Rattle.luo_value_types.proofs.ValueRoom.{sites_within, own_within}

@@ -1,11 +1,1 @@
-pub mod Breaches
-pub mod Meanings
-pub mod Settings
-pub mod Stands
-pub mod Patterns
-pub mod ValueBreaches
-pub mod ValueCore
-pub mod Statements
-pub mod Room
-pub mod ValueMade
-pub mod ValueLists
+pub mod inner

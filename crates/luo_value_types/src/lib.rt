@@ -1,11 +1,8 @@
-//! What names mean, scopes and patterns, and the typing and core form of values.
+//! Scopes, patterns and the uses of names, which statements and values share, and the check of values.
 #![tactic(auto)]
 
-mod names;
 mod patterns;
-mod rule;
 mod scope;
-mod setting;
 mod shared;
 mod stands;
 mod uses;
@@ -13,11 +10,9 @@ mod value_leaves;
 mod value_statements;
 mod values;
 
-pub use names::{Meaning, Names};
+pub use luo_rules::{Breach, Meaning, Names, Rule, Setting, Signature, Stop, Variable};
 pub use patterns::{Opened, has_factors, pattern};
-pub use rule::{Breach, Rule, Stop};
 pub use scope::{argument, find, variable};
-pub use setting::{Setting, Signature, Variable};
 pub use stands::{Stand, case_variable, stand_at, stand_count};
 pub use uses::{breach, breach_at, use_measure, use_procedure, use_type};
 pub use value_statements::count_statements;

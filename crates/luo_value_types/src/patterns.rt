@@ -1,18 +1,17 @@
 // Patterns: whether they fit what an arm stands for, and what they bind.
 ghost use Rattle.std.specs.Prelude.{◌≡◌, [], ◌∷◌, true, map, IfOk, IfErr, OnOk};
 ghost use Rattle.luo_model.specs.Scopes.{stand_node, factors};
-ghost use Rattle.luo_value_types.specs.Breaches.{StopsAt};
-ghost use Rattle.luo_value_types.specs.Patterns as spec;
-ghost use Rattle.luo_value_types.specs.Settings.{type_node, shape_at};
-ghost use Rattle.luo_value_types.specs.Stands.{stand_of};
+ghost use Rattle.luo_rules.specs.Breaches.{StopsAt};
+ghost use Rattle.luo_rules.specs.Patterns as spec;
+ghost use Rattle.luo_rules.specs.Settings.{type_node, shape_at};
+ghost use Rattle.luo_value_types.specs.inner.Stands.{stand_of};
 
-use crate::rule::{Rule, Stop};
-use crate::setting::{Setting, Variable};
 use crate::stands::Stand;
 use crate::uses::{breach, breach_at, use_type};
 use luo_model::{Bind, Part, Shape};
 use luo_num::Items;
-use luo_syntax::{Name, Pattern};
+use luo_rules::{Rule, Setting, Stop, Variable};
+use luo_source::{Name, Pattern};
 use std::alloc::{AllocError, Global};
 
 /// What a pattern opens for the body of its arm.

@@ -1,15 +1,13 @@
 // The variables of a scope, and the arguments of calls.
 ghost use Rattle.std.specs.Prelude.{◌≡◌, [], ◌∷◌, Some, IfOk, IfErr, OnOk};
-ghost use Rattle.luo_value_types.specs.declared.rule.Rule.TheVariants.{Y9};
-ghost use Rattle.luo_value_types.specs.Breaches.{StopsAt};
-ghost use Rattle.luo_value_types.specs.Settings.{signature_meant, found, place_of, variable_use, argument_breaches};
+ghost use Rattle.luo_rules.specs.declared.rule.Rule.TheVariants.{Y9};
+ghost use Rattle.luo_rules.specs.Breaches.{StopsAt};
+ghost use Rattle.luo_rules.specs.Settings.{signature_meant, found, place_of, variable_use, argument_breaches};
 
-use crate::names::Meaning;
-use crate::rule::{Breach, Rule, Stop};
-use crate::setting::{Setting, Variable};
 use crate::uses::breach_at;
 use luo_num::Items;
-use luo_syntax::Name;
+use luo_rules::{Breach, Meaning, Rule, Setting, Stop, Variable};
+use luo_source::Name;
 use std::alloc::{AllocError, Global};
 
 /// The first variable of this name: its place in the scope, and its node.

@@ -1,17 +1,9 @@
-// Threads may share a setting, and hand on what is said of it.
-use crate::{Breach, Meaning, Names, Opened, Rule, Setting, Signature, Stand, Stop, Variable};
+// Threads may share what an arm stands for, and what it opens.
+use crate::{Opened, Stand};
 
 fn shared<T: Send + Sync>() {}
 
 fn all_are_shared() {
-    shared::<Meaning>();
-    shared::<Names>();
-    shared::<Rule>();
-    shared::<Breach>();
-    shared::<Stop>();
-    shared::<Setting>();
-    shared::<Signature>();
-    shared::<Variable>();
     shared::<Stand>();
     shared::<Opened>();
 }

@@ -2,18 +2,17 @@
 ghost use Rattle.std.specs.Prelude.{◌≡◌, List, true, Some, nat_eq, length, slice_get, IfOk, IfErr, OnOk};
 ghost use Rattle.std.specs.Option.{option_map};
 ghost use Rattle.luo_model.specs.Scopes.{stands};
-ghost use Rattle.luo_value_types.specs.Breaches.{StopsAt};
-ghost use Rattle.luo_value_types.specs.Patterns.{case_breaches};
-ghost use Rattle.luo_value_types.specs.Settings.{shape_at, found, case_stands};
-ghost use Rattle.luo_value_types.specs.Stands.{stand_of};
-ghost use Rattle.luo_value_types.specs.declared.rule.Breach.{Breach};
+ghost use Rattle.luo_rules.specs.Breaches.{StopsAt};
+ghost use Rattle.luo_rules.specs.Patterns.{case_breaches};
+ghost use Rattle.luo_rules.specs.Settings.{shape_at, found, case_stands};
+ghost use Rattle.luo_value_types.specs.inner.Stands.{stand_of};
+ghost use Rattle.luo_rules.specs.declared.rule.Breach.{Breach};
 
-use crate::rule::{Rule, Stop};
 use crate::scope::variable;
-use crate::setting::{Setting, Variable};
 use crate::uses::breach_at;
 use luo_model::Shape;
-use luo_syntax::Name;
+use luo_rules::{Rule, Setting, Stop, Variable};
+use luo_source::Name;
 use std::alloc::Global;
 
 /// What an arm stands for, by its node.

@@ -1,14 +1,13 @@
 // Breaches, and the uses of names as what they are.
 ghost use Rattle.std.specs.Prelude.{◌≡◌, [], ◌∷◌, Some, is_some, if◌then◌else◌, IfOk, IfErr, OnOk};
-ghost use Rattle.luo_value_types.specs.declared.names.Meaning.TheVariants.{Definition, Procedure};
-ghost use Rattle.luo_value_types.specs.declared.rule.Rule.TheVariants.{Y2, Y3};
-ghost use Rattle.luo_value_types.specs.Breaches.{broken, broken_at, StopsAt};
-ghost use Rattle.luo_value_types.specs.Meanings.{type_use, measure_use, procedure_use, value_of};
+ghost use Rattle.luo_rules.specs.declared.names.Meaning.TheVariants.{Definition, Procedure};
+ghost use Rattle.luo_rules.specs.declared.rule.Rule.TheVariants.{Y2, Y3};
+ghost use Rattle.luo_rules.specs.Breaches.{broken, broken_at, StopsAt};
+ghost use Rattle.luo_rules.specs.Meanings.{type_use, measure_use, procedure_use, value_of};
 
-use crate::names::Meaning;
-use crate::rule::{Breach, Rule, Stop};
 use luo_num::Items;
-use luo_syntax::Name;
+use luo_rules::{Breach, Meaning, Rule, Stop};
+use luo_source::Name;
 use std::alloc::{AllocError, Global};
 
 // A breach about one text.

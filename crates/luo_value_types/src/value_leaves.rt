@@ -1,21 +1,20 @@
 // Checks of single places of a value.
 ghost use Rattle.std.specs.Prelude.{◌≡◌, [], Some, false, length, decimal, IfOk, IfErr, OnOk, IfSome, IfNone};
 ghost use Rattle.luo_model.specs.declared.program.Shape.TheVariants.{Atom, Product};
-ghost use Rattle.luo_value_types.specs.Breaches.{◌or_if_none◌, broken, StopsAt};
-ghost use Rattle.luo_value_types.specs.Meanings.{procedure_use, procedure_of};
-ghost use Rattle.luo_value_types.specs.Settings.{meant, signature_meant, shape_at, found, place_of};
-ghost use Rattle.luo_value_types.specs.Patterns.{has_factors};
-ghost use Rattle.luo_value_types.specs.declared.rule.Rule.TheVariants.{Y15};
-ghost use Rattle.luo_value_types.specs.ValueBreaches.{given_breaches, result_breaches, charge_use, is_atom, branch_at, branch_of};
-ghost use Rattle.luo_value_types.specs.ValueCore.{charge_of};
+ghost use Rattle.luo_rules.specs.Breaches.{◌or_if_none◌, broken, StopsAt};
+ghost use Rattle.luo_rules.specs.Meanings.{procedure_use, procedure_of};
+ghost use Rattle.luo_rules.specs.Settings.{meant, signature_meant, shape_at, found, place_of};
+ghost use Rattle.luo_rules.specs.Patterns.{has_factors};
+ghost use Rattle.luo_rules.specs.declared.rule.Rule.TheVariants.{Y15};
+ghost use Rattle.luo_rules.specs.ValueBreaches.{given_breaches, result_breaches, charge_use, is_atom, branch_at, branch_of};
+ghost use Rattle.luo_rules.specs.ValueCore.{charge_of};
 
-use crate::rule::{Rule, Stop};
 use crate::scope::variable;
-use crate::setting::{Setting, Variable};
 use crate::uses::{breach, breach_at, use_measure, use_procedure};
 use itoa::Buffer;
 use luo_model::{Part, Shape};
-use luo_syntax::Name;
+use luo_rules::{Rule, Setting, Stop, Variable};
+use luo_source::Name;
 use std::alloc::Global;
 
 // The place of a variable that is handed on where this node is expected.

@@ -1,11 +1,11 @@
 // The number of statements of a value.
 ghost use Rattle.std.specs.Prelude.{◌≡◌};
 ghost use Rattle.luo_num.specs.Mark.{capped};
-ghost use Rattle.luo_value_types.specs.Statements.{value_statements};
-ghost use Rattle.luo_value_types.specs.ValueLists.{parts_statements, arms_statements};
+ghost use Rattle.luo_rules.specs.Statements.{value_statements};
+ghost use Rattle.luo_rules.specs.inner.ValueLists.{parts_statements, arms_statements};
 
 use luo_num::marked_add;
-use luo_syntax::{SourceValue, SourceValueArm};
+use luo_source::{SourceValue, SourceValueArm};
 
 /// How many statements a value is. Each atom, each variable that is handed on, each call and each case is
 /// one; a tuple, a branch and a case have what is inside as well.

@@ -1,23 +1,21 @@
 // The typing and the core form of values.
 ghost use Rattle.std.specs.Prelude.{◌≡◌, ◌≤◌, ◌+◌, ◌*◌, ℕ, List, [], ◌∷◌, Some, map, length, IfOk, IfErr};
 ghost use Rattle.luo_num.specs.declared.limits.TheConstants.{NUMBER_LIMIT, STATEMENT_LIMIT};
-ghost use Rattle.luo_syntax.specs.declared.values.SourceValue as source;
+ghost use Rattle.luo_source.specs.declared.values.SourceValue as source;
 ghost use Rattle.luo_model.specs.Scopes.{stands};
-ghost use Rattle.luo_value_types.specs.Breaches.{StopsAt};
-ghost use Rattle.luo_value_types.specs.declared.setting.Variable.{Variable};
-ghost use Rattle.luo_value_types.specs.Settings.{shape_at};
-ghost use Rattle.luo_value_types.specs.Stands.{stand_of};
-ghost use Rattle.luo_value_types.specs.Room.{HasMeasuresWithin, HasFewBranches, HasRoom};
-ghost use Rattle.luo_value_types.specs.Statements.{value_statements};
-ghost use Rattle.luo_value_types.specs.ValueBreaches.{value_breaches};
-ghost use Rattle.luo_value_types.specs.ValueCore.{value_core};
-ghost use Rattle.luo_value_types.specs.ValueLists.{parts_breaches, parts_core, parts_statements, arms_breaches, arms_core, arms_statements, AreMade, ArmsAreMade, ArmIsMade};
-ghost use Rattle.luo_value_types.specs.ValueMade.{IsMade};
+ghost use Rattle.luo_rules.specs.Breaches.{StopsAt};
+ghost use Rattle.luo_rules.specs.declared.setting.Variable.{Variable};
+ghost use Rattle.luo_rules.specs.Settings.{shape_at};
+ghost use Rattle.luo_value_types.specs.inner.Stands.{stand_of};
+ghost use Rattle.luo_value_types.specs.inner.Room.{HasMeasuresWithin, HasFewBranches, HasRoom};
+ghost use Rattle.luo_rules.specs.Statements.{value_statements};
+ghost use Rattle.luo_rules.specs.ValueBreaches.{value_breaches};
+ghost use Rattle.luo_rules.specs.ValueCore.{value_core};
+ghost use Rattle.luo_rules.specs.inner.ValueLists.{parts_breaches, parts_core, parts_statements, arms_breaches, arms_core, arms_statements, AreMade, ArmsAreMade, ArmIsMade};
+ghost use Rattle.luo_rules.specs.inner.ValueMade.{IsMade};
 
 use crate::patterns::pattern;
-use crate::rule::{Rule, Stop};
 use crate::scope::argument;
-use crate::setting::{Setting, Variable};
 use crate::stands::{Stand, case_variable, stand_at};
 use crate::uses::breach;
 use crate::value_leaves::{
@@ -25,7 +23,8 @@ use crate::value_leaves::{
 };
 use luo_model::{Arm, Body, Item, Part, Value, ValueArm};
 use luo_num::{Boxed, Items};
-use luo_syntax::{Name, SourceValue, SourceValueArm};
+use luo_rules::{Rule, Setting, Stop, Variable};
+use luo_source::{Name, SourceValue, SourceValueArm};
 use std::alloc::Global;
 
 /// Checks a value where a structure of this node is expected, and makes its core form. Its charges,

@@ -1,11 +1,11 @@
 -- The sites of the core form of a source rise from procedure to procedure.
 use Rattle.std.proofs.Common.{◌≡◌, ℕ, zero, suc, ◌+◌, ◌≤◌, ◌<◌, ◌⊎◌, ⊎_elim, List, [], ◌∷◌, Some, slice_get, sym, ap, ◌∙◌, arith}
 use Rattle.luo_model.specs.Program.{Program, Procedure}
-use Rattle.luo_syntax.specs.declared.source.ProcDef.{ProcDef}
-use Rattle.luo_syntax.specs.declared.source.Source.{Source}
-use Rattle.luo_value_types.specs.declared.setting.Setting.{Setting}
-use Rattle.luo_types.specs.Nodes.{setting_of}
-use Rattle.luo_types.specs.Whole.{IsCore, procs_core, proc_core, sites_of}
+use Rattle.luo_source.specs.declared.source.ProcDef.{ProcDef}
+use Rattle.luo_source.specs.declared.source.Source.{Source}
+use Rattle.luo_rules.specs.declared.setting.Setting.{Setting}
+use Rattle.luo_rules.specs.Nodes.{setting_of}
+use Rattle.luo_rules.specs.Whole.{IsCore, procs_core, proc_core, sites_of}
 use Rattle.luo_top.proofs.plain_lemmas.SiteTotals.{OneSite}
 
 some_one : {A : Type 0} (x y : A) → Some x ≡ Some y → x ≡ y

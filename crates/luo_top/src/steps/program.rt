@@ -2,7 +2,7 @@
 ghost use Rattle.std.specs.Prelude.{[], ◌∷◌};
 ghost use Rattle.luo_model.specs.View.{plain_of};
 ghost use Rattle.luo_scan.specs.Tokens.{Tokens};
-ghost use Rattle.luo_syntax.specs.Grammar.{Derives};
+ghost use Rattle.luo_source.specs.Grammar.{Derives};
 ghost use Rattle.luo_top.specs.Steps as steps;
 ghost use Rattle.luo_top.specs.inner.Passes.{Passes, PassesOver, seen};
 
@@ -14,7 +14,7 @@ use luo_model::Program;
 use luo_num::{Items, Text};
 use luo_outside::Files;
 use luo_scan::Token;
-use luo_syntax::Source;
+use luo_source::Source;
 use luo_types::check;
 use std::alloc::Global;
 

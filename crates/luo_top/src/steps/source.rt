@@ -11,7 +11,8 @@ use crate::steps::text::text_of;
 use luo_num::{Items, Text};
 use luo_outside::Files;
 use luo_scan::{Token, scan};
-use luo_syntax::{Source, parse};
+use luo_source::Source;
+use luo_syntax::parse;
 use std::alloc::Global;
 
 /// The tokens of a text.

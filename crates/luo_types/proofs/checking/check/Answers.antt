@@ -1,4 +1,4 @@
-use Rattle.luo_types.proofs.Exclusive.{limit-refusal, rule-refusal, walks-refusal, program-answer}
+use Rattle.luo_rules.proofs.Exclusive.{limit-refusal, rule-refusal, walks-refusal, program-answer}
 use Rattle.luo_types.proofs.checking.check.Goals as goal
 
 pub returns-clause-limit : goal.returns-clause-limit

@@ -1,15 +1,15 @@
 use Rattle.std.proofs.Common.{◌≤◌, sym, ◌∙◌, ap, subst, length, sum_by, flat_map}
 use Rattle.luo_num.specs.declared.limits.TheConstants.{PROCEDURE_LIMIT, STATEMENT_LIMIT}
-use Rattle.luo_value_types.specs.Breaches.{StopsAt}
-use Rattle.luo_value_types.specs.Meanings.{procedure_use}
-use Rattle.luo_value_types.specs.Settings.{meant}
-use Rattle.luo_value_types.specs.Room.{HasMeasuresWithin, HasFewBranches}
-use Rattle.luo_types.specs.Counted.{body_statements}
-use Rattle.luo_types.specs.Nodes.{setting_of}
-use Rattle.luo_types.specs.Whole.{procs_breaches}
+use Rattle.luo_rules.specs.Breaches.{StopsAt}
+use Rattle.luo_rules.specs.Meanings.{procedure_use}
+use Rattle.luo_rules.specs.Settings.{meant}
+use Rattle.luo_value_types.specs.inner.Room.{HasMeasuresWithin, HasFewBranches}
+use Rattle.luo_rules.specs.Counted.{body_statements}
+use Rattle.luo_rules.specs.Nodes.{setting_of}
+use Rattle.luo_rules.specs.Whole.{procs_breaches}
 use Rattle.luo_types.proofs.CheckedParts.{measures-within, branches-few, procs-stop, analyses-stop}
 use Rattle.luo_types.proofs.Passing.{passed-on}
-use Rattle.luo_types.proofs.SourceFacts.{within_limits}
+use Rattle.luo_rules.proofs.SourceFacts.{within_limits}
 use Rattle.luo_types.proofs.checking.check_parts.Goals as goal
 
 pub procedures-requires : goal.procedures-requires

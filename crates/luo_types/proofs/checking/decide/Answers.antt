@@ -1,7 +1,7 @@
 use Rattle.std.proofs.Common.{◌≤◌, map, sum_by, ap, ◌∙◌, sym, subst}
 use Rattle.luo_model.specs.View.{procedure_of}
-use Rattle.luo_value_types.specs.Settings.{types_of}
-use Rattle.luo_types.specs.SitesFound.{sites_in, procedure_walks, procedure_items}
+use Rattle.luo_rules.specs.Settings.{types_of}
+use Rattle.luo_types.specs.inner.SitesFound.{sites_in, procedure_walks, procedure_items}
 use Rattle.luo_types.proofs.CheckedParts.{few-items, too-many, is-program, is-checked}
 use Rattle.luo_types.proofs.checking.decide.Goals as goal
 

@@ -1,6 +1,6 @@
 use Rattle.std.proofs.Common.{◌≡◌, take, sum_by}
 use Rattle.luo_num.specs.Mark.{capped}
-use Rattle.luo_types.specs.Counted.{own_nodes, own_multisets, most_parts, greatest_bound, greatest_by}
+use Rattle.luo_rules.specs.Counted.{own_nodes, own_multisets, most_parts, greatest_bound, greatest_by}
 use Rattle.luo_types.proofs.counts.+counts.Given as goal
 
 abbrev pub invariant-count_exprs-loop-expr : goal.invariant-count_exprs-loop-expr

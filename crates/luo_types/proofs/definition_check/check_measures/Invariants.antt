@@ -1,5 +1,5 @@
 use Rattle.std.proofs.Common.{◌≡◌, drop}
-use Rattle.luo_types.specs.TypeBreaches.{measures_breaches}
+use Rattle.luo_rules.specs.TypeBreaches.{measures_breaches}
 use Rattle.luo_types.proofs.definition_check.check_measures.Given as goal
 
 abbrev pub invariant-loop-number : goal.invariant-loop-number

@@ -1,5 +1,5 @@
 use Rattle.std.proofs.Common.{◌≡◌, drop, take, sum_by, length}
-use Rattle.luo_types.specs.TypeBreaches.{types_breaches}
+use Rattle.luo_rules.specs.TypeBreaches.{types_breaches}
 use Rattle.luo_types.proofs.definition_check.check_types.Given as goal
 
 abbrev pub invariant-loop-def : goal.invariant-loop-def

@@ -1,5 +1,5 @@
 use Rattle.std.proofs.Common.{◌≡◌, ◌+◌, drop}
-use Rattle.luo_types.specs.TypeBreaches.{first_circle}
+use Rattle.luo_rules.specs.TypeBreaches.{first_circle}
 use Rattle.luo_types.proofs.definition_check.first_circle.Given as goal
 
 abbrev pub invariant-loop-k : goal.invariant-loop-k

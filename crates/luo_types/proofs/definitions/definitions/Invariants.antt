@@ -1,5 +1,5 @@
 use Rattle.std.proofs.Common.{◌≡◌, flat_map, take}
-use Rattle.luo_types.specs.Definitions.{copies}
+use Rattle.luo_rules.specs.Definitions.{copies}
 use Rattle.luo_types.proofs.definitions.definitions.Given as goal
 
 abbrev pub invariant-loop-def : goal.invariant-loop-def

@@ -1,5 +1,5 @@
 use Rattle.std.proofs.Common.{◌≡◌, flat_map, take}
-use Rattle.luo_types.specs.Definitions.{values}
+use Rattle.luo_rules.specs.Definitions.{values}
 use Rattle.luo_types.proofs.definitions.measures.Given as goal
 
 abbrev pub invariant-loop-def : goal.invariant-loop-def

@@ -1,6 +1,6 @@
 use Rattle.std.proofs.Common.{◌≡◌, ◌*◌, take, length, sum_by}
 use Rattle.luo_num.specs.Mark.{capped}
-use Rattle.luo_types.specs.Counted.{own_nodes, own_multisets, most_parts, greatest_bound, greatest_by}
+use Rattle.luo_rules.specs.Counted.{own_nodes, own_multisets, most_parts, greatest_bound, greatest_by}
 use Rattle.luo_types.proofs.limits.count_types.Given as goal
 
 abbrev pub invariant-loop-def : goal.invariant-loop-def

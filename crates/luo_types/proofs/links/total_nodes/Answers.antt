@@ -1,7 +1,7 @@
 use Rattle.std.proofs.Common.{ℕ, ap, arith}
 use Rattle.std.proofs.lemmas.List.Sums.{sum_by_more_le}
-use Rattle.luo_types.specs.Counted.{own_nodes}
-use Rattle.luo_types.specs.Definitions.{Definition}
+use Rattle.luo_rules.specs.Counted.{own_nodes}
+use Rattle.luo_rules.specs.Definitions.{Definition}
 use Rattle.luo_types.proofs.links.total_nodes.Goals as goal
 
 pub overflow_add-total : goal.overflow_add-total

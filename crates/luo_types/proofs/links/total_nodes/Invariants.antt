@@ -1,5 +1,5 @@
 use Rattle.std.proofs.Common.{◌≡◌, sum_by, take}
-use Rattle.luo_types.specs.Counted.{own_nodes}
+use Rattle.luo_rules.specs.Counted.{own_nodes}
 use Rattle.luo_types.proofs.links.total_nodes.Given as goal
 
 abbrev pub invariant-loop-def : goal.invariant-loop-def

@@ -1,5 +1,5 @@
 use Rattle.std.proofs.Common.{◌≡◌, drop}
-use Rattle.luo_types.specs.Definitions.{with_definitions}
+use Rattle.luo_rules.specs.Definitions.{with_definitions}
 use Rattle.luo_types.proofs.naming.add_definitions.Given as goal
 
 abbrev pub invariant-loop-i : goal.invariant-loop-i

@@ -1,5 +1,5 @@
 use Rattle.std.proofs.Common.{◌≡◌, drop}
-use Rattle.luo_types.specs.Definitions.{with_procedures}
+use Rattle.luo_rules.specs.Definitions.{with_procedures}
 use Rattle.luo_types.proofs.naming.add_procedures.Given as goal
 
 abbrev pub invariant-loop-f : goal.invariant-loop-f

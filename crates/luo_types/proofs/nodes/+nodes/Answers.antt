@@ -1,6 +1,6 @@
 use Rattle.std.proofs.Common.{◌≡◌, ◌∙◌, ◌++◌, OnOk, subst, ap, arith}
 use Rattle.std.proofs.lemmas.List.Sums.{get_or-le-sum_by}
-use Rattle.luo_types.specs.Counted.{own_nodes}
+use Rattle.luo_rules.specs.Counted.{own_nodes}
 use Rattle.luo_types.proofs.CountLemmas.{counts_of_union, counts_of_product, counts_of_collection}
 use Rattle.luo_types.proofs.ExpressionLemmas.{union_breaches, product_breaches}
 use Rattle.luo_types.proofs.NodeLemmas.{next_of, nodes_next, union_nodes, product_nodes, collection_nodes, collection_clean}

@@ -1,8 +1,8 @@
 use Rattle.std.proofs.Common.{◌≡◌, ◌+◌, ◌*◌, ◌≤◌, [], ◌++◌, drop, sum_by, flat_map}
 use Rattle.luo_num.specs.declared.limits.TheConstants.{BOUND_LIMIT, NODE_LIMIT}
-use Rattle.luo_types.specs.Counted.{own_nodes, greatest_bound, greatest_by}
-use Rattle.luo_types.specs.TypeBreaches.{expr_breaches}
-use Rattle.luo_types.specs.NodeLists.{nodes_of}
+use Rattle.luo_rules.specs.Counted.{own_nodes, greatest_bound, greatest_by}
+use Rattle.luo_rules.specs.TypeBreaches.{expr_breaches}
+use Rattle.luo_types.specs.inner.NodeLists.{nodes_of}
 use Rattle.luo_types.proofs.nodes.+nodes.Given as goal
 
 abbrev pub invariant-put_all-loop-expr : goal.invariant-put_all-loop-expr

@@ -1,5 +1,5 @@
 use Rattle.std.proofs.Common.{◌∙◌}
-use Rattle.luo_value_types.specs.Settings.{types_of}
+use Rattle.luo_rules.specs.Settings.{types_of}
 use Rattle.luo_types.proofs.SitesInOrder.{whole-few}
 use Rattle.luo_types.proofs.procedure_sites.push_procedure.Goals as goal
 

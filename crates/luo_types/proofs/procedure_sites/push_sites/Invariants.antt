@@ -1,5 +1,5 @@
 use Rattle.std.proofs.Common.{◌≡◌, ◌++◌, drop}
-use Rattle.luo_types.specs.SitesFound.{sites_at}
+use Rattle.luo_types.specs.inner.SitesFound.{sites_at}
 use Rattle.luo_types.proofs.procedure_sites.push_sites.Given as goal
 
 abbrev pub invariant-loop-place : goal.invariant-loop-place

@@ -1,6 +1,6 @@
 use Rattle.std.proofs.Common.{◌+◌, [], ◌∷◌, arith, drop}
 use Rattle.luo_model.specs.View.{body_of}
-use Rattle.luo_value_types.specs.Settings.{types_of}
+use Rattle.luo_rules.specs.Settings.{types_of}
 use Rattle.luo_types.proofs.SitesSoFar.{walks-within}
 use Rattle.luo_types.proofs.SitesInOrder.{procs-at, procs-few, procs-more}
 use Rattle.luo_types.proofs.procedure_sites.sites_of.Goals as goal

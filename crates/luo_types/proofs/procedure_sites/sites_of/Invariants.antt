@@ -1,5 +1,5 @@
 use Rattle.std.proofs.Common.{drop}
-use Rattle.luo_value_types.specs.Settings.{types_of}
+use Rattle.luo_rules.specs.Settings.{types_of}
 use Rattle.luo_types.proofs.SitesInOrder.{ProcsFound}
 use Rattle.luo_types.proofs.procedure_sites.sites_of.Given as goal
 

@@ -1,6 +1,6 @@
 use Rattle.std.proofs.Common.{◌+◌, sym, ◌∙◌, ap, subst, drop}
-use Rattle.luo_value_types.specs.Breaches.{StopsAt}
-use Rattle.luo_value_types.specs.Meanings.{procedure_use}
+use Rattle.luo_rules.specs.Breaches.{StopsAt}
+use Rattle.luo_rules.specs.Meanings.{procedure_use}
 use Rattle.luo_types.proofs.Passing.{passed-on}
 use Rattle.luo_types.proofs.ProceduresSoFar.{at-name, names-stop, names-more, names-all}
 use Rattle.luo_types.proofs.procedures.analyses.Goals as goal

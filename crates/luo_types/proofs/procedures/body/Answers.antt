@@ -1,6 +1,6 @@
 use Rattle.std.proofs.Common.{subst}
-use Rattle.luo_value_types.specs.Breaches.{StopsAt}
-use Rattle.luo_value_types.specs.Meanings.{type_use}
+use Rattle.luo_rules.specs.Breaches.{StopsAt}
+use Rattle.luo_rules.specs.Meanings.{type_use}
 use Rattle.luo_types.proofs.Passing.{passed-on}
 use Rattle.luo_types.proofs.ProceduresSoFar.{universe-stops, result-stops}
 use Rattle.luo_types.proofs.procedures.body.Goals as goal

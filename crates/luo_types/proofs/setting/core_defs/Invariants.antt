@@ -1,7 +1,7 @@
 use Rattle.std.proofs.Common.{◌≡◌, ◌+◌, ◌≤◌, ◌++◌, drop, sum_by}
 use Rattle.luo_num.specs.declared.limits.TheConstants.{NODE_LIMIT}
-use Rattle.luo_types.specs.Counted.{own_nodes}
-use Rattle.luo_types.specs.Nodes.{defs_from}
+use Rattle.luo_rules.specs.Counted.{own_nodes}
+use Rattle.luo_rules.specs.Nodes.{defs_from}
 use Rattle.luo_types.proofs.setting.core_defs.Given as goal
 
 abbrev pub invariant-loop-def : goal.invariant-loop-def

@@ -1,8 +1,8 @@
 use Rattle.std.proofs.Common.{◌∙◌, ◌++◌, ap, arith}
-use Rattle.luo_types.specs.Counted.{own_nodes}
-use Rattle.luo_types.specs.Definitions.{Definition}
-use Rattle.luo_types.specs.TypeBreaches.{expr_breaches}
-use Rattle.luo_types.specs.Nodes.{nodes_at}
+use Rattle.luo_rules.specs.Counted.{own_nodes}
+use Rattle.luo_rules.specs.Definitions.{Definition}
+use Rattle.luo_rules.specs.TypeBreaches.{expr_breaches}
+use Rattle.luo_rules.specs.Nodes.{nodes_at}
 use Rattle.luo_types.proofs.DefinitionLemmas.{next_definition, nodes_from_next}
 use Rattle.luo_types.proofs.setting.core_nodes.Goals as goal
 

@@ -1,8 +1,8 @@
 use Rattle.std.proofs.Common.{◌≡◌, ◌+◌, ◌≤◌, [], ◌++◌, drop, flat_map, sum_by}
 use Rattle.luo_num.specs.declared.limits.TheConstants.{BOUND_LIMIT, NODE_LIMIT}
-use Rattle.luo_types.specs.Counted.{own_nodes, greatest_bound, greatest_by}
-use Rattle.luo_types.specs.TypeBreaches.{expr_breaches}
-use Rattle.luo_types.specs.Nodes.{nodes_from}
+use Rattle.luo_rules.specs.Counted.{own_nodes, greatest_bound, greatest_by}
+use Rattle.luo_rules.specs.TypeBreaches.{expr_breaches}
+use Rattle.luo_rules.specs.Nodes.{nodes_from}
 use Rattle.luo_types.proofs.setting.core_nodes.Given as goal
 
 abbrev pub invariant-loop-owner : goal.invariant-loop-owner

@@ -1,5 +1,5 @@
 use Rattle.std.proofs.Common.{◌≡◌, map, take}
-use Rattle.luo_types.specs.Nodes.{signature_of}
+use Rattle.luo_rules.specs.Nodes.{signature_of}
 use Rattle.luo_types.proofs.setting.signatures.Given as goal
 
 abbrev pub invariant-loop-proc : goal.invariant-loop-proc

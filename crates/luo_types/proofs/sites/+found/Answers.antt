@@ -1,8 +1,8 @@
 use Rattle.std.proofs.Common.{sym, rules}
 use Rattle.luo_model.specs.declared.body.Item.TheFolds.{the_lemmas}
 use Rattle.luo_model.specs.Scopes.{stands}
-use Rattle.luo_value_types.specs.Settings.{shape_at, types_of}
-use Rattle.luo_value_types.specs.Stands.{stand_of}
+use Rattle.luo_rules.specs.Settings.{shape_at, types_of}
+use Rattle.luo_value_types.specs.inner.Stands.{stand_of}
 use Rattle.luo_types.proofs.SitesSoFar.{items-at, items-more, found-at, found-more, found-all, found-end}
 use Rattle.luo_types.proofs.SitesItems.{none-there, case-room, walk-room, case-found, walk-found}
 use Rattle.luo_types.proofs.sites.+found.Goals as goal

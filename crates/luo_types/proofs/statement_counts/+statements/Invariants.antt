@@ -1,6 +1,6 @@
 use Rattle.std.proofs.Common.{◌≡◌, suc, take, sum_by}
 use Rattle.luo_num.specs.Mark.{capped}
-use Rattle.luo_types.specs.Counted.{stmt_statements}
+use Rattle.luo_rules.specs.Counted.{stmt_statements}
 use Rattle.luo_types.proofs.statement_counts.+statements.Given as goal
 
 abbrev pub invariant-count_case-loop-arm : goal.invariant-count_case-loop-arm

@@ -1,6 +1,6 @@
 use Rattle.std.proofs.Common.{◌≡◌, take, sum_by}
 use Rattle.luo_num.specs.Mark.{capped}
-use Rattle.luo_types.specs.Counted.{body_statements}
+use Rattle.luo_rules.specs.Counted.{body_statements}
 use Rattle.luo_types.proofs.statement_counts.count_procs.Given as goal
 
 abbrev pub invariant-loop-proc : goal.invariant-loop-proc

@@ -1,16 +1,16 @@
 use Rattle.std.proofs.Common.{length, sym, ◌∙◌, ap, subst, refl, arith, rules}
 use Rattle.luo_model.specs.Scopes.{stands}
 use Rattle.luo_model.specs.View.{body_of}
-use Rattle.luo_syntax.specs.declared.statements.Stmt.{Skip, Charge, Call, Block, Case, Forall}
-use Rattle.luo_value_types.specs.Breaches.{StopsAt}
-use Rattle.luo_value_types.specs.Settings.{shape_at}
-use Rattle.luo_value_types.specs.Room.{HasRoom}
-use Rattle.luo_value_types.specs.Stands.{stand_of}
+use Rattle.luo_source.specs.declared.statements.Stmt.{Skip, Charge, Call, Block, Case, Forall}
+use Rattle.luo_rules.specs.Breaches.{StopsAt}
+use Rattle.luo_rules.specs.Settings.{shape_at}
+use Rattle.luo_value_types.specs.inner.Room.{HasRoom}
+use Rattle.luo_value_types.specs.inner.Stands.{stand_of}
 use Rattle.luo_value_types.proofs.StopLemmas.{StopsAt-pattern}
-use Rattle.luo_syntax.specs.declared.statements.Stmt.TheFolds.{the_lemmas}
-use Rattle.luo_types.specs.Counted.{stmt_statements}
-use Rattle.luo_types.specs.StatementBreaches.{stmt_breaches}
-use Rattle.luo_types.specs.StatementsMade.{IsStmtAdded}
+use Rattle.luo_source.specs.declared.statements.Stmt.TheFolds.{the_lemmas}
+use Rattle.luo_rules.specs.Counted.{stmt_statements}
+use Rattle.luo_rules.specs.StatementBreaches.{stmt_breaches}
+use Rattle.luo_types.specs.inner.StatementsMade.{IsStmtAdded}
 use Rattle.luo_types.proofs.ArmsSoFar.{at-arm, arms-stop, arms-more, arms-all}
 use Rattle.luo_types.proofs.Passing.{passed-on}
 use Rattle.luo_types.proofs.StatementsSoFar.{at-stmt, so_far-more, so_far-all}

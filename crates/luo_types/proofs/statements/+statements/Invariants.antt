@@ -1,6 +1,6 @@
 use Rattle.std.proofs.Common.{drop}
 use Rattle.luo_model.specs.Scopes.{stands}
-use Rattle.luo_value_types.specs.Settings.{shape_at}
+use Rattle.luo_rules.specs.Settings.{shape_at}
 use Rattle.luo_types.proofs.ArmsSoFar.{ArmsSoFar}
 use Rattle.luo_types.proofs.StatementsSoFar.{StmtsSoFar}
 use Rattle.luo_types.proofs.statements.+statements.Given as goal

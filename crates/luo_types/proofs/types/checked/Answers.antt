@@ -1,6 +1,6 @@
 use Rattle.std.proofs.Common.{◌∙◌, flat_map, IfErr, ap, subst, rules}
-use Rattle.luo_value_types.specs.Breaches.{StopsAt}
-use Rattle.luo_types.specs.Definitions.{copies, values}
+use Rattle.luo_rules.specs.Breaches.{StopsAt}
+use Rattle.luo_rules.specs.Definitions.{copies, values}
 use Rattle.luo_types.proofs.TypesLemmas.{known_names, known_breaches, known_below, few}
 use Rattle.luo_types.proofs.types.checked.Goals as goal
 

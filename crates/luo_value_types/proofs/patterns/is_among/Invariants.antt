@@ -1,5 +1,5 @@
 use Rattle.std.proofs.Common.{◌≡◌, drop}
-use Rattle.luo_value_types.specs.Patterns.{is_among}
+use Rattle.luo_rules.specs.Patterns.{is_among}
 use Rattle.luo_value_types.proofs.patterns.is_among.Given as goal
 
 abbrev pub invariant-loop-name : goal.invariant-loop-name

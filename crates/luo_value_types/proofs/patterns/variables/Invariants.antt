@@ -1,5 +1,5 @@
 use Rattle.std.proofs.Common.{◌≡◌, ◌++◌, drop, map}
-use Rattle.luo_value_types.specs.Patterns.{variables}
+use Rattle.luo_rules.specs.Patterns.{variables}
 use Rattle.luo_value_types.proofs.patterns.variables.Given as goal
 
 abbrev pub invariant-loop-i : goal.invariant-loop-i

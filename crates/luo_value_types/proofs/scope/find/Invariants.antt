@@ -1,5 +1,5 @@
 use Rattle.std.proofs.Common.{◌≡◌, drop}
-use Rattle.luo_value_types.specs.Settings.{found_from}
+use Rattle.luo_rules.specs.Settings.{found_from}
 use Rattle.luo_value_types.proofs.scope.find.Given as goal
 
 abbrev pub invariant-loop-i : goal.invariant-loop-i

@@ -1,15 +1,15 @@
 use Rattle.std.proofs.Common.{rules, [], ◌∷◌, Some, None, map, sym, arith}
 use Rattle.std.proofs.lemmas.List.{drop_more}
-use Rattle.luo_syntax.specs.declared.values.SourceValue as source
+use Rattle.luo_source.specs.declared.values.SourceValue as source
 use Rattle.luo_model.specs.declared.program.Part.{Part}
 use Rattle.luo_model.specs.Scopes.{stands}
-use Rattle.luo_value_types.specs.Breaches.{StopsAt}
-use Rattle.luo_value_types.specs.Settings.{shape_at}
-use Rattle.luo_value_types.specs.Stands.{stand_of}
-use Rattle.luo_value_types.specs.ValueBreaches.{value_breaches}
-use Rattle.luo_value_types.specs.ValueLists.{parts_breaches, arms_breaches}
+use Rattle.luo_rules.specs.Breaches.{StopsAt}
+use Rattle.luo_rules.specs.Settings.{shape_at}
+use Rattle.luo_value_types.specs.inner.Stands.{stand_of}
+use Rattle.luo_rules.specs.ValueBreaches.{value_breaches}
+use Rattle.luo_rules.specs.inner.ValueLists.{parts_breaches, arms_breaches}
 use Rattle.luo_value_types.proofs.ArmsSoFar.{arms_stop, arms_more, arms_end, arm_stops_pattern}
-use Rattle.luo_value_types.proofs.ListFacts.{drop-slice_get}
+use Rattle.luo_rules.proofs.ListFacts.{drop-slice_get}
 use Rattle.luo_value_types.proofs.ValuesSoFar.{drop_at, parts_start, parts_stop, parts_more, parts_end}
 use Rattle.luo_value_types.proofs.ValueSteps.{handed, atom_ok, atom_stops, case_next_small, given_made, tuple_stops, tuple_misplaced, tuple_made, branch_stops, branch_misplaced, branch_made, branch_small, case_each, case_variable_stops, case_stops, case_made, tuple_room, branch_room, case_room_inside}
 use Rattle.luo_value_types.proofs.values.+values.Goals as goal

@@ -1,6 +1,6 @@
 use Rattle.std.proofs.Common.{Some}
 use Rattle.luo_model.specs.Scopes.{stands}
-use Rattle.luo_value_types.specs.Settings.{shape_at}
+use Rattle.luo_rules.specs.Settings.{shape_at}
 use Rattle.luo_value_types.proofs.ArmsSoFar.{ArmsSoFar}
 use Rattle.luo_value_types.proofs.ValuesSoFar.{PartsSoFar}
 use Rattle.luo_value_types.proofs.values.+values.Given as goal

@@ -1,8 +1,8 @@
 use Rattle.std.proofs.Common.{List, Some}
-use Rattle.luo_syntax.specs.declared.values.SourceValue as source
-use Rattle.luo_value_types.specs.declared.setting.Variable.{Variable}
-use Rattle.luo_value_types.specs.Breaches.{StopsAt}
-use Rattle.luo_value_types.specs.ValueBreaches.{value_breaches}
+use Rattle.luo_source.specs.declared.values.SourceValue as source
+use Rattle.luo_rules.specs.declared.setting.Variable.{Variable}
+use Rattle.luo_rules.specs.Breaches.{StopsAt}
+use Rattle.luo_rules.specs.ValueBreaches.{value_breaches}
 use Rattle.luo_value_types.proofs.StopLemmas.{StopsAt-left}
 use Rattle.luo_value_types.proofs.ValueSteps.{handed, atom_made}
 use Rattle.luo_value_types.proofs.values.atom.Goals as goal

@@ -1,7 +1,7 @@
 use Rattle.std.proofs.Common.{Some}
-use Rattle.luo_syntax.specs.declared.values.SourceValue as source
-use Rattle.luo_value_types.specs.Breaches.{StopsAt}
-use Rattle.luo_value_types.specs.ValueBreaches.{value_breaches}
+use Rattle.luo_source.specs.declared.values.SourceValue as source
+use Rattle.luo_rules.specs.Breaches.{StopsAt}
+use Rattle.luo_rules.specs.ValueBreaches.{value_breaches}
 use Rattle.luo_value_types.proofs.StopLemmas.{StopsAt-left}
 use Rattle.luo_value_types.proofs.ValueSteps.{handed, call_made}
 use Rattle.luo_value_types.proofs.values.call.Goals as goal

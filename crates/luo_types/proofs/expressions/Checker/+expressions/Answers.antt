@@ -1,5 +1,5 @@
 use Rattle.std.proofs.Common.{◌≡◌, [], OnOk, IfErr, subst}
-use Rattle.luo_value_types.specs.Breaches.{StopsAt}
+use Rattle.luo_rules.specs.Breaches.{StopsAt}
 use Rattle.luo_types.proofs.ExpressionLemmas.{union_breaches, product_breaches, collection_breaches}
 use Rattle.luo_types.proofs.expressions.Checker.+expressions.Goals as goal
 

@@ -1,5 +1,5 @@
 use Rattle.std.proofs.Common.{◌≡◌, drop, flat_map}
-use Rattle.luo_types.specs.TypeBreaches.{expr_breaches}
+use Rattle.luo_rules.specs.TypeBreaches.{expr_breaches}
 use Rattle.luo_types.proofs.expressions.Checker.+expressions.Given as goal
 
 abbrev pub invariant-exprs-loop-expr : goal.invariant-exprs-loop-expr

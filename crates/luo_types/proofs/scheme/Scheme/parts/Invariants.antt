@@ -1,7 +1,7 @@
 use Rattle.std.proofs.Common.{◌≡◌, ◌+◌, ◌≤◌, ◌++◌, drop, sum_by}
 use Rattle.luo_num.specs.declared.limits.TheConstants.{NODE_LIMIT}
-use Rattle.luo_types.specs.Counted.{own_nodes}
-use Rattle.luo_types.specs.NodeLists.{parts_of}
+use Rattle.luo_rules.specs.Counted.{own_nodes}
+use Rattle.luo_types.specs.inner.NodeLists.{parts_of}
 use Rattle.luo_types.proofs.scheme.Scheme.parts.Given as goal
 
 abbrev pub invariant-loop-expr : goal.invariant-loop-expr

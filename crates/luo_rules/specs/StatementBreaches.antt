@@ -1,0 +1,56 @@
+-- The breaches of statements, in text order.
+use Rattle.std.specs.Prelude.{ℕ, suc, List, [], ◌∷◌, ◌++◌, Option, Some, None}
+use Rattle.luo_model.specs.declared.program.Shape.{Shape}
+use Rattle.luo_model.specs.declared.program.Shape.TheVariants as shape
+use Rattle.luo_model.specs.Scopes.{Stand, component}
+use Rattle.luo_source.specs.declared.names.Name.{Name}
+use Rattle.luo_source.specs.declared.statements.Stmt.{Stmt, Skip, Charge, Call, Block', Case', Forall', Row_of-Stmt, end_of-Stmt, more_of-Stmt, Row_of-SourceArm, end_of-SourceArm, more_of-SourceArm}
+use Rattle.luo_rules.specs.declared.rule.Breach.{Breach}
+use Rattle.luo_rules.specs.declared.rule.Rule.TheVariants.{Y12, Y13}
+use Rattle.luo_rules.specs.declared.setting.Setting.{Setting}
+use Rattle.luo_rules.specs.declared.setting.Variable.{Variable}
+use Rattle.luo_rules.specs.Breaches.{broken_at}
+use Rattle.luo_rules.specs.Meanings.{measure_use, procedure_use}
+use Rattle.luo_rules.specs.Settings.{meant, signature_meant, shape_at, found, argument_breaches, case_stands}
+use Rattle.luo_rules.specs.Patterns.{bound, arm_breaches, case_breaches}
+
+abbrev pub count_arms : {n : _} → Row_of-SourceArm n → ℕ
+count_arms end_of-SourceArm = 0
+count_arms (more_of-SourceArm pattern body rest) = suc (count_arms rest)
+
+-- the node of what a walk over a variable binds
+abbrev pub walked : Setting → Option (ℕ × ℕ) → ℕ
+walked s None = 0
+walked s (Some variable) = component (shape_at s variable.1)
+
+-- a walk over a variable of this construct: it is a collection, and then the breaches of the body
+abbrev pub walk_into : Shape → Name → List Breach → List Breach
+walk_into (shape.Coll kind part low high) source inner = inner
+walk_into _ source inner = broken_at Y12 source
+
+-- a walk over a variable: it is bound, and of a collection
+abbrev pub walk_breaches : Setting → Option (ℕ × ℕ) → Name → List Breach → List Breach
+walk_breaches s None source inner = broken_at Y13 source
+walk_breaches s (Some variable) source inner = walk_into (shape_at s variable.1) source inner
+
+abbrev mutual
+  -- the breaches of a statement in a scope
+  pub stmt_breaches : Setting → List Variable → Stmt → List Breach
+  stmt_breaches s scope Skip = []
+  stmt_breaches s scope (Charge measure) = measure_use (meant s measure) measure
+  stmt_breaches s scope (Call callee arg) = procedure_use (meant s callee) callee ++ argument_breaches (found scope arg) (signature_meant s (meant s callee)).on arg callee
+  stmt_breaches s scope (Block' size stmts) = stmts_breaches s scope stmts
+  stmt_breaches s scope (Case' var size arms) = case_breaches s (found scope var) var (count_arms arms) (arms_breaches s (case_stands s (found scope var)) var arms)
+  stmt_breaches s scope (Forall' var source size body) =
+      walk_breaches s (found scope source) source (stmts_breaches s (record { name = var.text; node = walked s (found scope source) } ∷ []) body)
+
+  pub stmts_breaches : Setting → List Variable → {n : _} → Row_of-Stmt n → List Breach
+  stmts_breaches s scope end_of-Stmt = []
+  stmts_breaches s scope (more_of-Stmt stmt rest) = stmt_breaches s scope stmt ++ stmts_breaches s scope rest
+
+  -- those of arms that stand for these, in a case on this variable
+  pub arms_breaches : Setting → List Stand → Name → {n : _} → Row_of-SourceArm n → List Breach
+  arms_breaches s stands var end_of-SourceArm = []
+  arms_breaches s [] var (more_of-SourceArm pattern body rest) = []
+  arms_breaches s (stand ∷ stands) var (more_of-SourceArm pattern body rest) =
+      arm_breaches s stand var pattern (stmt_breaches s (bound s stand pattern) body) ++ arms_breaches s stands var rest

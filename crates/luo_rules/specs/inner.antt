@@ -1,0 +1,3 @@
+pub mod ValueMade
+pub mod ValueLists
+pub mod StatementLists

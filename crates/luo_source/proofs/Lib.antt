@@ -1,0 +1,5 @@
+pub mod Behind
+pub mod OneTypes
+pub mod OneStatements
+pub mod OneValues
+pub mod OneProgram

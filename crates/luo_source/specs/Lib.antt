@@ -1,0 +1,6 @@
+pub mod GrammarTypes
+pub mod GrammarStatements
+pub mod GrammarValues
+pub mod Grammar
+pub mod Laws
+pub mod Ends

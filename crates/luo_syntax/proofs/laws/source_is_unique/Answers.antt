@@ -1,5 +1,0 @@
-use Rattle.luo_syntax.proofs.OneProgram.{program_one}
-use Rattle.luo_syntax.proofs.laws.source_is_unique.Goals as goal
-
-pub returns : goal.returns
-returns c = λ text tokens one two p q. program_one p q

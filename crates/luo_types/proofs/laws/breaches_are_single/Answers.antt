@@ -1,5 +1,0 @@
-use Rattle.luo_types.proofs.RiseSource as rise
-use Rattle.luo_types.proofs.laws.breaches_are_single.Goals as goal
-
-pub returns : goal.returns
-returns c = rise.breaches_are_single

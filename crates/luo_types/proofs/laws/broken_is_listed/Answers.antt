@@ -1,5 +1,0 @@
-use Rattle.luo_types.proofs.BrokenFirst.{broken_is_listed}
-use Rattle.luo_types.proofs.laws.broken_is_listed.Goals as goal
-
-pub returns : goal.returns
-returns c = broken_is_listed

@@ -1,5 +1,0 @@
-use Rattle.std.proofs.Common.{refl}
-use Rattle.luo_types.proofs.laws.circles_are_told.Goals as goal
-
-pub returns : goal.returns
-returns c = refl

@@ -1,6 +1,0 @@
-use Rattle.std.proofs.Common.{refl}
-use Rattle.luo_types.specs.Whole.{core}
-use Rattle.luo_types.proofs.laws.core_form_is_there.Goals as goal
-
-pub returns : goal.returns
-returns c = λ source none. (core source, (none, refl))

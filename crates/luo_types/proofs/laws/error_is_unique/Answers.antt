@@ -1,5 +1,0 @@
-use Rattle.luo_types.proofs.Exclusive.{one-answer}
-use Rattle.luo_types.proofs.laws.error_is_unique.Goals as goal
-
-pub returns : goal.returns
-returns c = one-answer

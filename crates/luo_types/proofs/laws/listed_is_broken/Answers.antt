@@ -1,5 +1,0 @@
-use Rattle.luo_types.proofs.BrokenFirst.{listed_is_broken}
-use Rattle.luo_types.proofs.laws.listed_is_broken.Goals as goal
-
-pub returns : goal.returns
-returns c = listed_is_broken

@@ -1,8 +1,0 @@
--- Breaches at rising tokens.
-use Rattle.std.specs.Prelude.{◌<◌, List}
-use Rattle.luo_finite.specs.Listing.{Pairwise}
-use Rattle.luo_value_types.specs.declared.rule.Breach.{Breach}
-
--- each breach stands before those behind it
-abbrev pub Rises : List Breach → Type 0
-Rises bs = Pairwise (λ earlier later. earlier.token < later.token) bs

@@ -1,0 +1,5 @@
+pub mod StatementsMade
+pub mod SitesFound
+pub mod ProceduresMade
+pub mod Typed
+pub mod NodeLists

@@ -1,6 +1,0 @@
-use Rattle.std.proofs.Common.{sym}
-use Rattle.luo_value_types.proofs.SettingLemmas.{shape_at-none}
-use Rattle.luo_value_types.proofs.setting.Setting.shape.Goals as goal
-
-pub returns-in-None-clause-none : goal.returns-in-None-clause-none
-returns-in-None-clause-none c = shape_at-none c.args.self.now c.args.node (sym c.in-None.ensures.value)

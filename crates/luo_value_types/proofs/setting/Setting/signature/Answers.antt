@@ -1,6 +1,0 @@
-use Rattle.std.proofs.Common.{sym}
-use Rattle.luo_value_types.proofs.SettingLemmas.{signature-none}
-use Rattle.luo_value_types.proofs.setting.Setting.signature.Goals as goal
-
-pub returns-in-None : goal.returns-in-None
-returns-in-None c = sym (signature-none c.args.self.now c.args.procedure (sym c.in-None.ensures.value))
