@@ -10,3 +10,15 @@ pub mod Pairs
 pub mod Steps
 pub mod Pairwise
 pub mod Shares
+pub mod Places
+pub mod Pigeonhole
+pub mod Decided
+pub mod Walks
+pub mod Loops
+pub mod Gathered
+pub mod Binomials
+pub mod Falling
+pub mod Orders
+pub mod OrderedPlaces
+pub mod Choices
+pub mod PlacesExist

@@ -3,6 +3,11 @@ pub mod DepthLemmas
 pub mod SiteLemmas
 pub mod OrderLemmas
 pub mod TableLemmas
+pub mod NodeLemmas
+pub mod Decisions
+pub mod AllTrees
+pub mod WorkLemmas
+pub mod ViewLemmas
 pub mod Tests
 pub mod Candidates
 pub mod Solid

@@ -1,6 +1,7 @@
 -- What holds of every program.
 use Rattle.std.specs.Prelude.{◌≡◌, ◌⊎◌, ℕ, ◌+◌, ◌<◌, ◌≤◌, List, [], ◌∷◌, ◌++◌, map, length, sum_by, Some, None, slice_get, IfSome}
 use Rattle.luo_finite.specs.Listing.{In, NoDouble, Neighbours}
+use Rattle.luo_num.specs.declared.limits.TheConstants.{DEFINITION_LIMIT, NODE_LIMIT, PART_LIMIT, BOUND_LIMIT, MULTISET_LIMIT, PROCEDURE_LIMIT, STATEMENT_LIMIT, ANALYSIS_LIMIT, WALK_LIMIT}
 use Rattle.luo_model.specs.declared.program.Universe.{Universe}
 use Rattle.luo_model.specs.declared.program.Universe.TheVariants.{Unlabelled, Labelled}
 use Rattle.luo_model.specs.declared.program.Kind.{Kind}
@@ -90,9 +91,9 @@ greatest_weight Unlabelled = 16
 
 abbrev pub IsAllowed : Universe → Shape → Type 0
 IsAllowed universe (Atom weight) = weight ≤ greatest_weight universe
-IsAllowed universe (Union parts) = (2 ≤ length parts) × (length parts ≤ 64)
-IsAllowed universe (Product parts) = (2 ≤ length parts) × (length parts ≤ 64)
-IsAllowed universe (Coll kind part low high) = IsKind universe kind × IsLow kind low × (low ≤ 100) × IfSome high (λ most. (low ≤ most) × (most ≤ 100))
+IsAllowed universe (Union parts) = (2 ≤ length parts) × (length parts ≤ PART_LIMIT)
+IsAllowed universe (Product parts) = (2 ≤ length parts) × (length parts ≤ PART_LIMIT)
+IsAllowed universe (Coll kind part low high) = IsKind universe kind × IsLow kind low × (low ≤ BOUND_LIMIT) × IfSome high (λ most. (low ≤ most) × (most ≤ BOUND_LIMIT))
 
 -- 1 for a multiset or a powerset
 abbrev pub multiset_of : Shape → ℕ
@@ -148,13 +149,13 @@ pub record IsProgram (p : Program) : Type 0 where
   -- weights, kinds, bounds and numbers of parts are allowed
   pub allowed : (x : ℕ) (node : Node) → slice_get p.nodes x ≡ Some node → IsAllowed p.universe node.shape
   -- what is counted is within its limit
-  pub few_definitions : length p.defs ≤ 64
-  pub few_nodes : length p.nodes ≤ 128
-  pub few_multisets : sum_by (λ node. multiset_of node.shape) p.nodes ≤ 32
-  pub few_procedures : length p.procs ≤ 64
-  pub few_items : sum_by (λ P. body_items P.body) p.procs ≤ 1024
-  pub few_analyses : length p.analyses ≤ 16
-  pub few_walks : sum_by (λ P. body_walks p (P.on.node ∷ []) P.body) p.procs ≤ 32
+  pub few_definitions : length p.defs ≤ DEFINITION_LIMIT
+  pub few_nodes : length p.nodes ≤ NODE_LIMIT
+  pub few_multisets : sum_by (λ node. multiset_of node.shape) p.nodes ≤ MULTISET_LIMIT
+  pub few_procedures : length p.procs ≤ PROCEDURE_LIMIT
+  pub few_items : sum_by (λ P. body_items P.body) p.procs ≤ STATEMENT_LIMIT
+  pub few_analyses : length p.analyses ≤ ANALYSIS_LIMIT
+  pub few_walks : sum_by (λ P. body_walks p (P.on.node ∷ []) P.body) p.procs ≤ WALK_LIMIT
   -- each procedure stands on a type and fits it
   pub procedures : (f : ℕ) (P : Procedure) → slice_get p.procs f ≡ Some P → IsProcedure p P
   -- the sites are numbered by procedure, each item behind all that stands inside it, and each has its node

@@ -4,6 +4,8 @@ pub mod Program
 pub mod Standing
 pub mod Member
 pub mod Structures
+pub mod Collections
+pub mod Numbered
 pub mod Charges
 pub mod Tables
 pub mod View
@@ -17,3 +19,6 @@ pub mod FactsCharges
 pub mod FactsTotals
 pub mod FactsOrder
 pub mod Laws
+pub mod Founded
+pub mod Levels
+pub mod Lists

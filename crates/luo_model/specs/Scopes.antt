@@ -1,5 +1,6 @@
 -- Bodies and values over the variables of their scopes, each variable by the node of its structure.
-use Rattle.std.specs.Prelude.{◌≡◌, ℕ, suc, ◌+◌, ◌*◌, ◌^◌, ◌≤◌, List, [], ◌∷◌, ◌++◌, map, length, Some, slice_get, slice_index_or}
+use Rattle.std.specs.Prelude.{◌≡◌, ℕ, suc, ◌+◌, ◌*◌, ◌≤◌, List, [], ◌∷◌, ◌++◌, map, length, Some, slice_get, slice_index_or}
+use Rattle.luo_num.specs.declared.limits.TheConstants.{NUMBER_LIMIT, STATEMENT_LIMIT}
 use Rattle.luo_model.specs.declared.body.Bind.{Bind}
 use Rattle.luo_model.specs.declared.body.Bind.TheVariants.{Nothing, Whole, Parts}
 use Rattle.luo_model.specs.declared.program.Kind.TheVariants.{Multiset, Powerset}
@@ -7,10 +8,6 @@ use Rattle.luo_model.specs.declared.program.Part.{Part}
 use Rattle.luo_model.specs.declared.program.Shape.{Shape}
 use Rattle.luo_model.specs.declared.program.Shape.TheVariants as shape
 use Rattle.luo_model.specs.Program.{Program, Procedure, Result, Body, Does, Items, no_items, item, Item, Call, Case, Forall, Arms, no_arms, arm, Value, Given, Made, Atom, Tuple, Branch, Chosen, Values, no_values, value, ValueArms, no_value_arms, value_arm, shape_of}
-
--- the greatest value of a measure
-abbrev pub greatest_charge : ℕ
-greatest_charge = 10 ^ 35
 
 -- what an arm stands for: a branch of a union, or a product itself
 pub data Stand : Type 0 where
@@ -66,7 +63,7 @@ node_at vars var = slice_index_or vars var 0
 abbrev mutual
   -- each variable is bound; a call's has the callee's node; a case has one arm for each thing that there is to stand for, and a walk goes over a collection
   pub FitsBody : Program → List ℕ → Body → Type 0
-  FitsBody p vars (Does own items) = (own ≤ 1024 * greatest_charge) × FitsItems p vars items
+  FitsBody p vars (Does own items) = (own ≤ STATEMENT_LIMIT * NUMBER_LIMIT) × FitsItems p vars items
 
   pub FitsItems : Program → List ℕ → Items → Type 0
   FitsItems p vars no_items = Unit {0}
@@ -93,7 +90,7 @@ abbrev mutual
   FitsValue p vars expected (Given var) = slice_get vars var ≡ Some expected
   FitsValue p vars expected (Made var callee) =
       (P : Procedure) × (r : Result) × (slice_get p.procs callee ≡ Some P) × (slice_get vars var ≡ Some P.on.node) × (P.result ≡ Some r) × (r.on.node ≡ expected)
-  FitsValue p vars expected (Atom weight own) = (shape_of p expected ≡ shape.Atom weight) × (own ≤ greatest_charge)
+  FitsValue p vars expected (Atom weight own) = (shape_of p expected ≡ shape.Atom weight) × (own ≤ NUMBER_LIMIT)
   FitsValue p vars expected (Tuple vs) = IsProductOf (value_count vs) (shape_of p expected) × FitsValues p vars (factors (shape_of p expected)) vs
   FitsValue p vars expected (Branch number v) = (parts : List Part) × (i : ℕ) × (part : Part) × (shape_of p expected ≡ shape.Union parts) × (number ≡ suc i) × (slice_get parts i ≡ Some part) × FitsValue p vars part.node v
   FitsValue p vars expected (Chosen var arms) = (x : ℕ) × (slice_get vars var ≡ Some x) × (1 ≤ length (stands x (shape_of p x))) × FitsValueArms p (stands x (shape_of p x)) expected arms

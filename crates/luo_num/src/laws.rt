@@ -1,5 +1,6 @@
-//! The laws of marks.
+//! The laws of marks and of limits.
 ghost use Rattle.luo_num.specs.Laws.{CappedSum, CappedProduct, CappedSmall, CappedPast};
+ghost use Rattle.luo_num.specs.Limits.{HeadsSayLimits, LinesSayLimits};
 
 /// Marking the terms first changes no marked sum.
 pub fn capped_sum()
@@ -15,4 +16,10 @@ pub fn capped_product()
 pub fn capped_number()
     ensures small { CappedSmall }
     ensures past { CappedPast }
+{}
+
+/// The line of each limit says the limit's number.
+pub fn limit_lines()
+    ensures heads { HeadsSayLimits }
+    ensures lines { LinesSayLimits }
 {}

@@ -1,13 +1,17 @@
-//! Numbers up to a last one, texts, lists, and the answer for want of memory.
+//! Numbers up to a last one, texts, lists, limits, and the answer for want of memory.
 #![tactic(auto)]
 
 ghost use Rattle.std.specs.Prelude.{◌≡◌, ◌+◌, ◌*◌, ◌≤◌, SomeIff};
 
+mod divisors;
 pub mod laws;
+pub mod limits;
 mod marks;
 mod memory;
+mod shared;
 
-pub use marks::{marked_add, marked_mul};
+pub use divisors::gcd;
+pub use marks::{Over, marked_add, marked_mul};
 pub use memory::NoMemory;
 pub use sqlite_items::{Boxed, Items};
 
@@ -39,31 +43,5 @@ pub fn mul(a: u128, b: u128) -> Option<u128>
     match a.checked_mul(b) {
         Some(product) if product <= MAX => Some(product),
         _ => None,
-    }
-}
-
-#[cfg(test)]
-mod tests {
-    use super::*;
-
-    // Holds of a type whose values may be handed to other threads and shared by them.
-    fn shared<T: Send + Sync>() {}
-
-    #[test]
-    fn numbers_end_at_the_last(rt: HostRuntime) {
-        assert_eq!(rt; add(MAX, 1), None);
-        assert_eq!(rt; add(MAX, 0), Some(MAX));
-        assert_eq!(rt; mul(MAX, 2), None);
-        assert_eq!(rt; mul(MAX, 0), Some(0));
-        assert_eq!(rt; marked_add(MARK, MARK), MARK);
-        assert_eq!(rt; marked_mul(MARK, 0), 0);
-        assert_eq!(rt; marked_mul(MARK, MARK), MARK);
-    }
-
-    #[test]
-    fn threads_may_share_these(_rt: HostRuntime) {
-        shared::<Text>();
-        shared::<Items<Text>>();
-        shared::<NoMemory>();
     }
 }

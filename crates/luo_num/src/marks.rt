@@ -4,6 +4,10 @@ ghost use Rattle.luo_num.specs.Mark.{capped};
 
 use crate::MARK;
 
+/// The answer of calls whose value is above `MAX`.
+#[derive(Clone, Copy, Debug, PartialEq, Eq)]
+pub struct Over;
+
 /// The sum, or `MARK` where it is above `MAX`. A sum with a mark is a mark.
 pub fn marked_add(a: u128, b: u128) -> u128
     ensures { result ≡ capped (a + b) }

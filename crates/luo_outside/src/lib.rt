@@ -16,9 +16,6 @@ pub use gate::{Gate, OpenGate};
 pub use host::{HostFiles, HostSink};
 pub use mem_files::MemFiles;
 pub use mem_sink::MemSink;
-pub use reading::{TEXT_LIMIT, read_all};
+pub use reading::read_all;
 pub use sending::send;
 pub use traits::{Files, Sink};
-
-#[cfg(test)]
-mod tests;

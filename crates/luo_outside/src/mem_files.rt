@@ -2,7 +2,7 @@
 ghost use Rattle.std.specs.Prelude.{◌≡◌, ℕ, List, ◌<◌, ◌≤◌, ◌+◌, ◌^◌, length, None, Some, IfOk, IsSome, IsErr, OnOk, OnErr, Contains, ◌⊎◌, ◌↔◌, MatchOption};
 ghost use Rattle.std.specs.Io.{ReadsAtMost};
 ghost use Rattle.std.specs.Io.KnownBytes.{ReadConsumes};
-ghost use Rattle.luo_outside.specs.Causes.{Rose, NoneFell, one_more};
+ghost use Rattle.luo_outside.specs.Causes.{Rose, NoneFell, last_count, one_more};
 ghost use Rattle.luo_outside.specs.Memory.{content_of, name_at, left_at};
 
 use crate::calls::is_failing;
@@ -27,6 +27,7 @@ pub struct MemFiles {
     place: Option<usize>,
     done: usize,
     ghost some_piece: { 0 < piece },
+    ghost counted: { faults ≤ last_count },
 }
 
 impl MemFiles {
@@ -62,6 +63,8 @@ impl Files for MemFiles {
     ghost left = { λ f. left_at f.files f.place f.done };
 
     ghost faults = { λ f n. f.faults };
+
+    ghost bounded = { λ f n. f.counted };
 
     fn find(&mut self, name: &str) -> Result<(), Failed>
         ensures named { (n : List ℕ) → content_of self.new.files n ≡ content_of self.old.files n }

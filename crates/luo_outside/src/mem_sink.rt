@@ -2,7 +2,7 @@
 ghost use Rattle.std.specs.Prelude.{◌≡◌, [], ◌<◌, ◌≤◌, ◌-◌, min, length, Some, IfOk, IsErr, OnOk, OnErr, Contains, ◌⊎◌, ◌↔◌, vec_len, vec_capacity};
 ghost use Rattle.std.specs.Io.{WritesAtMost};
 ghost use Rattle.std.specs.Io.KnownBytes.{WriteAppends};
-ghost use Rattle.luo_outside.specs.Causes.{Rose, one_more};
+ghost use Rattle.luo_outside.specs.Causes.{Rose, last_count, one_more};
 
 use crate::calls::is_failing;
 use crate::{Failed, Sink};
@@ -23,6 +23,7 @@ pub struct MemSink {
     taken: Vec<u8>,
     ghost some_most: { 0 < most },
     ghost has_room: { room ≤ vec_capacity taken },
+    ghost counted: { faults ≤ last_count },
 }
 
 impl MemSink {
@@ -66,6 +67,8 @@ impl Sink for MemSink {
     ghost taken = { λ s. Some s.taken.items };
 
     ghost faults = { λ s. s.faults };
+
+    ghost bounded = { λ s. s.counted };
 
     fn write(&mut self, piece: &[u8]) -> Result<usize, Failed>
         requires { 0 < length piece.now }

@@ -3,10 +3,8 @@ ghost use Rattle.std.specs.Prelude.{◌≡◌, ℕ, List, ◌<◌, ◌≤◌, le
 ghost use Rattle.luo_outside.specs.Causes.{Rose, NoneFell};
 
 use crate::{Files, ReadError};
+use luo_num::limits::TEXT_LIMIT;
 use std::alloc::Global;
-
-/// The most bytes that a text has.
-pub const TEXT_LIMIT: usize = 65536;
 
 const PIECE: usize = 4096;
 

@@ -3,7 +3,7 @@ ghost use Rattle.std.specs.Prelude.{◌≡◌, ℕ, List, ◌<◌, ◌≤◌, �
 ghost use Rattle.std.specs.declared.option.Option.{Option};
 ghost use Rattle.std.specs.Io.{ReadsAtMost, WritesAtMost};
 ghost use Rattle.std.specs.Io.KnownBytes.{ReadConsumes, WriteAppends};
-ghost use Rattle.luo_outside.specs.Causes.{Rose, NoneFell};
+ghost use Rattle.luo_outside.specs.Causes.{Rose, NoneFell, last_count};
 
 use crate::Failed;
 
@@ -18,7 +18,7 @@ pub trait Files {
     /// What is unread of the file that was found last, where it is told.
     ghost left: { Self → Option (List ℕ) };
 
-    /// How often the file of a name failed, a count that stays at `2^64 - 1` once it is there.
+    /// How often the file of a name failed, a count of at most `2^64 - 1` that stays there once it is there.
     ghost faults: { Self → List ℕ → ℕ };
 
     /// Finds the file of this name, to be read from its first byte. `Failed` comes only where the count
@@ -41,6 +41,9 @@ pub trait Files {
         ensures found { (n : List ℕ) → (found self.new n ↔ found self.old n) }
         ensures faults { NoneFell (faults self.old) (faults self.new) }
         ensures cause { OnErr result ((n : List ℕ) → found self.old n → Rose (faults self.old n) (faults self.new n)) };
+
+    /// No count is past the last value.
+    ghost bounded: { (files : Self) (name : List ℕ) → faults files name ≤ last_count };
 }
 
 /// A sink of bytes.
@@ -48,7 +51,7 @@ pub trait Sink {
     /// The bytes taken so far, where they are told.
     ghost taken: { Self → Option (List ℕ) };
 
-    /// How often the sink failed, a count that stays at `2^64 - 1` once it is there.
+    /// How often the sink failed, a count of at most `2^64 - 1` that stays there once it is there.
     ghost faults: { Self → ℕ };
 
     /// Takes a front of `piece`, of at least one byte, and answers its length. `Failed` comes only where
@@ -60,4 +63,7 @@ pub trait Sink {
         ensures bytes { WriteAppends (taken self.old) (taken self.new) result piece.now }
         ensures faults { faults self.old ≤ faults self.new }
         ensures cause { OnErr result (Rose (faults self.old) (faults self.new)) };
+
+    /// The count is not past the last value.
+    ghost bounded: { (sink : Self) → faults sink ≤ last_count };
 }

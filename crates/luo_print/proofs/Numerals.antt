@@ -3,6 +3,7 @@ use Rattle.std.proofs.Common.{◌≡◌, ◌≤◌, ◌<◌, ◌+◌, ◌-◌, �
 use Rattle.std.proofs.lemmas.Bool.{cases_eq}
 use Rattle.std.specs.List.{AllByRecursion}
 use Rattle.std.proofs.lemmas.Fmt.{decimal_by_steps_wide}
+use Rattle.luo_num.specs.declared.limits.TheConstants.{NUMBER_LIMIT}
 use Rattle.luo_scan.specs.declared.token.TokenKind.TheVariants as kind
 use Rattle.luo_scan.specs.Bytes.{IsDigit, IsNameByte}
 use Rattle.luo_scan.specs.Fronts.{Stops}
@@ -61,5 +62,5 @@ begins_text n (d ∷ ds) rest h q =
     ]
 
 -- a number up to the limit is read
-pub number_reads : (n : ℕ) → n ≤ 10 ^ 35 → Reads Quiet (decimal n) (Takes (kind.Number n) (decimal n))
+pub number_reads : (n : ℕ) → n ≤ NUMBER_LIMIT → Reads Quiet (decimal n) (Takes (kind.Number n) (decimal n))
 number_reads n l = token_reads (kind.Number n) (decimal n) (λ rest q. begins_text n (decimal n) rest (numeral n (omega arith)) q) l

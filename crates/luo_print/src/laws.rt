@@ -1,4 +1,4 @@
-// Laws of canonical texts.
+//! The laws of canonical texts.
 #![tactic(auto)]
 
 ghost use Rattle.luo_print.specs.Laws.{FormatsOnce, ReadsBack, SameText};

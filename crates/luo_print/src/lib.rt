@@ -1,7 +1,7 @@
 //! The canonical text of a source.
 #![tactic(auto)]
 
-mod laws;
+pub mod laws;
 mod patterns;
 mod pieces;
 mod source;
@@ -9,5 +9,4 @@ mod statements;
 mod types;
 mod values;
 
-pub use laws::canonical_reads_back;
 pub use source::print_source;

@@ -1,11 +1,12 @@
 -- A text has tokens or a first fault.
-use Rattle.std.proofs.Common.{◌≡◌, ◌≢◌, ◌≤◌, ◌+◌, ◌^◌, ℕ, zero, suc, List, [], ◌∷◌, ◌++◌, length, take, drop, bytes_eq, refl, ap, sym, ◌∙◌, subst, inl, inr, arith, Option, None, Some}
+use Rattle.std.proofs.Common.{◌≡◌, ◌≢◌, ◌≤◌, ◌+◌, ℕ, zero, suc, List, [], ◌∷◌, ◌++◌, length, take, drop, bytes_eq, refl, ap, sym, ◌∙◌, subst, inl, inr, arith, Option, None, Some}
 use Rattle.std.specs.Prelude.{◌⊎◌}
 use Rattle.std.specs.List.{AllByRecursion}
 use Rattle.std.proofs.Math.Seq.{take-append_seam}
 use Rattle.std.proofs.lemmas.Bool.{cases_lt, cases_eq, cases_Bool}
 use Rattle.std.proofs.lemmas.List.{length-append, take-append-drop}
 use Rattle.std.proofs.lemmas.Slice.Eq.{bytes_eq-Decides}
+use Rattle.luo_num.specs.declared.limits.TheConstants.{NAME_LIMIT, NUMBER_LIMIT}
 use Rattle.luo_scan.specs.declared.token.Mark.{Mark}
 use Rattle.luo_scan.specs.declared.token.TokenKind.{TokenKind}
 use Rattle.luo_scan.specs.declared.token.TokenKind.TheVariants as kind
@@ -161,9 +162,9 @@ token_answer at text piece rest k b w (inr f) = inr (f.0, f.1, behind_token piec
 -- the piece is within its limit, or it is the first fault
 limit_answer : (at : ℕ) (text piece rest : List ℕ) (k : TokenKind) → Begins text piece rest (Some k) → Answer (at + length piece) rest → Answer at text
 limit_answer at text piece rest kind.Name b a =
-    elim (cases_lt 32 (length piece)) as (λ _. Answer at text) [ inl l ↦ inr (long_name, at, name_limit piece rest b l) | inr l ↦ token_answer at text piece rest kind.Name b l a ]
+    elim (cases_lt NAME_LIMIT (length piece)) as (λ _. Answer at text) [ inl l ↦ inr (long_name, at, name_limit piece rest b l) | inr l ↦ token_answer at text piece rest kind.Name b l a ]
 limit_answer at text piece rest (kind.Number n) b a =
-    elim (cases_lt (10 ^ 35) n) as (λ _. Answer at text) [ inl l ↦ inr (large_number, at, number_limit piece rest n b l) | inr l ↦ token_answer at text piece rest (kind.Number n) b l a ]
+    elim (cases_lt NUMBER_LIMIT n) as (λ _. Answer at text) [ inl l ↦ inr (large_number, at, number_limit piece rest n b l) | inr l ↦ token_answer at text piece rest (kind.Number n) b l a ]
 limit_answer at text piece rest (kind.Word w) b a = token_answer at text piece rest (kind.Word w) b tt a
 limit_answer at text piece rest (kind.Mark m) b a = token_answer at text piece rest (kind.Mark m) b tt a
 

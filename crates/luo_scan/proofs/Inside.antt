@@ -3,6 +3,7 @@ use Rattle.std.proofs.Common.{◌≡◌, ◌≤◌, ◌<◌, ◌+◌, ◌-◌, �
 use Rattle.std.specs.List.{AllByRecursion}
 use Rattle.std.proofs.Math.Seq.{take-append_seam, drop-append_seam}
 use Rattle.std.proofs.lemmas.List.{length-append, drop-drop}
+use Rattle.luo_num.specs.declared.limits.TheConstants.{NAME_LIMIT}
 use Rattle.luo_scan.specs.declared.token.TokenKind.{TokenKind}
 use Rattle.luo_scan.specs.declared.token.TokenKind.TheVariants as kind
 use Rattle.luo_scan.specs.declared.token.Token.{Token}
@@ -47,7 +48,7 @@ fit_from whole at number text ts (taken p r k b w x) e = (
 pub lexemes_fit : (text : List ℕ) (ts : List Token) → Tokens text ts → AllByRecursion IsFit (lexemes text ts)
 lexemes_fit text ts t = fit_from text 0 0 text ts t refl
 
--- the bytes of a name: at least one and at most 32
-pub name_length : (bytes : List ℕ) (at : ℕ) → IsFit (lexeme kind.Name bytes at) → (0 < length bytes) × (length bytes ≤ 32)
+-- the bytes of a name: at least one and at most the limit
+pub name_length : (bytes : List ℕ) (at : ℕ) → IsFit (lexeme kind.Name bytes at) → (0 < length bytes) × (length bytes ≤ NAME_LIMIT)
 name_length [] at f = absurd (piece_some [] (Some kind.Name) f.0 refl)
 name_length (b ∷ bs) at f = (omega arith, f.1)

@@ -1,7 +1,8 @@
 -- What the first byte of a text and a run of bytes say of the piece that begins it.
-use Rattle.std.proofs.Common.{◌≡◌, ◌≢◌, ◌≤◌, ◌<◌, ◌+◌, ◌^◌, min, ℕ, zero, suc, List, [], ◌∷◌, ◌++◌, length, take, drop, get_or, refl, ap, sym, ◌∙◌, subst, inl, arith, Option, None, Some}
+use Rattle.std.proofs.Common.{◌≡◌, ◌≢◌, ◌≤◌, ◌<◌, ◌+◌, min, ℕ, zero, suc, List, [], ◌∷◌, ◌++◌, length, take, drop, get_or, refl, ap, sym, ◌∙◌, subst, inl, arith, Option, None, Some}
 use Rattle.std.proofs.Math.Seq.{take-append_seam, drop-append_seam}
 use Rattle.std.proofs.lemmas.List.{take-append-drop, length-take-le, length-append}
+use Rattle.luo_num.specs.declared.limits.TheConstants.{NAME_LIMIT, NUMBER_LIMIT}
 use Rattle.luo_scan.specs.declared.token.Word.{Word}
 use Rattle.luo_scan.specs.declared.token.Mark.{Mark}
 use Rattle.luo_scan.specs.declared.token.TokenKind.{TokenKind}
@@ -83,14 +84,14 @@ no_cut (b ∷ t) l s c n d m at =
     no_piece (begins_not b t s c n d (λ k bs after e f. m k after (sym (ap (λ z. z ++ after) e ∙ ap (λ z. b ∷ z) (sym f)))))
 
 -- a name that is too long is a fault
-pub long_cut : (text : List ℕ) (n : ℕ) → 32 < n → IsCut text n (Some kind.Name) → IsFaulty text long_name
+pub long_cut : (text : List ℕ) (n : ℕ) → NAME_LIMIT < n → IsCut text n (Some kind.Name) → IsFaulty text long_name
 long_cut text n l c at = name_limit (take n text) (drop n text) c.begins (omega (arith, length-take-le n text c.some.1))
 
-pub short_cut : (text : List ℕ) (n : ℕ) → n ≤ 32 → IsCut text n (Some kind.Name) → length (take n text) ≤ 32
+pub short_cut : (text : List ℕ) (n : ℕ) → n ≤ NAME_LIMIT → IsCut text n (Some kind.Name) → length (take n text) ≤ NAME_LIMIT
 short_cut text n l c = omega (arith, length-take-le n text c.some.1)
 
-pub large_cut : (text : List ℕ) (n : ℕ) (value number : ℕ) → number ≡ min value (10 ^ 35 + 1) → 10 ^ 35 < number → IsCut text n (Some (kind.Number value)) → IsFaulty text large_number
+pub large_cut : (text : List ℕ) (n : ℕ) (value number : ℕ) → number ≡ min value (NUMBER_LIMIT + 1) → NUMBER_LIMIT < number → IsCut text n (Some (kind.Number value)) → IsFaulty text large_number
 large_cut text n value number e l c at = number_limit (take n text) (drop n text) value c.begins (omega arith)
 
-pub exact : (value number : ℕ) → number ≡ min value (10 ^ 35 + 1) → number ≤ 10 ^ 35 → value ≡ number
+pub exact : (value number : ℕ) → number ≡ min value (NUMBER_LIMIT + 1) → number ≤ NUMBER_LIMIT → value ≡ number
 exact value number e l = omega arith

@@ -1,6 +1,7 @@
 -- A text has one list of tokens or one first fault, and not both.
-use Rattle.std.proofs.Common.{◌≡◌, ◌≤◌, ◌<◌, ◌^◌, ℕ, List, [], ◌∷◌, ◌++◌, length, take, drop, refl, ap, sym, ◌∙◌, subst, arith, Option, None, Some}
+use Rattle.std.proofs.Common.{◌≡◌, ◌≤◌, ◌<◌, ℕ, List, [], ◌∷◌, ◌++◌, length, take, drop, refl, ap, sym, ◌∙◌, subst, arith, Option, None, Some}
 use Rattle.std.proofs.Math.Seq.{take-append_seam, drop-append_seam}
+use Rattle.luo_num.specs.declared.limits.TheConstants.{NAME_LIMIT, NUMBER_LIMIT}
 use Rattle.luo_scan.specs.declared.token.TokenKind.{TokenKind}
 use Rattle.luo_scan.specs.declared.token.TokenKind.TheVariants as kind
 use Rattle.luo_scan.specs.declared.token.Token.{Token}
@@ -52,16 +53,16 @@ one_list at before text other ts us (taken p r k a w x) (taken q s l b v y) e f 
     let t = one_list _ _ r s _ _ x y (cc) o.rests in
     cc
 
-too_long : (p q : List ℕ) (k : TokenKind) → Some k ≡ Some kind.Name → p ≡ q → IsWithin p k → 32 < length q → ⊥
+too_long : (p q : List ℕ) (k : TokenKind) → Some k ≡ Some kind.Name → p ≡ q → IsWithin p k → NAME_LIMIT < length q → ⊥
 too_long p q k e f w l =
     let h : k ≡ kind.Name = cc in
-    let i : length p ≤ 32 = subst (λ z. IsWithin p z) h w in
+    let i : length p ≤ NAME_LIMIT = subst (λ z. IsWithin p z) h w in
     omega (arith, ap length f)
 
-too_large : (p : List ℕ) (k : TokenKind) (n : ℕ) → Some k ≡ Some (kind.Number n) → IsWithin p k → 10 ^ 35 < n → ⊥
+too_large : (p : List ℕ) (k : TokenKind) (n : ℕ) → Some k ≡ Some (kind.Number n) → IsWithin p k → NUMBER_LIMIT < n → ⊥
 too_large p k n e w l =
     let h : k ≡ kind.Number n = cc in
-    let i : n ≤ 10 ^ 35 = subst (λ z. IsWithin p z) h w in
+    let i : n ≤ NUMBER_LIMIT = subst (λ z. IsWithin p z) h w in
     omega arith
 
 pub not_both : (at before place : ℕ) (text other : List ℕ) (ts : List Token) (fault : LexicalFault) → TokensFrom at text ts → FaultFrom before other fault place → text ≡ other → ⊥

@@ -1,6 +1,7 @@
 -- A text as pieces, each the longest that begins where the one before ends, and the first fault where it has none.
-use Rattle.std.specs.Prelude.{◌≡◌, ◌≢◌, ℕ, ◌+◌, ◌^◌, ◌<◌, ◌≤◌, List, [], ◌∷◌, ◌++◌, length, Option, None, Some}
+use Rattle.std.specs.Prelude.{◌≡◌, ◌≢◌, ℕ, ◌+◌, ◌<◌, ◌≤◌, List, [], ◌∷◌, ◌++◌, length, Option, None, Some}
 use Rattle.std.specs.List.{AllByRecursion}
+use Rattle.luo_num.specs.declared.limits.TheConstants.{NAME_LIMIT, NUMBER_LIMIT}
 use Rattle.luo_scan.specs.declared.token.Word.{Word}
 use Rattle.luo_scan.specs.declared.token.Mark.{Mark}
 use Rattle.luo_scan.specs.declared.token.TokenKind.{TokenKind}
@@ -28,10 +29,10 @@ pub record Begins (text piece rest : List ℕ) (what : Option TokenKind) : Type 
 abbrev pub BeginsNot : List ℕ → Type 0
 BeginsNot text = (piece rest : List ℕ) (what : Option TokenKind) → text ≡ piece ++ rest → IsPiece piece what → ⊥
 
--- a name has at most 32 bytes, and a number is at most 10 ^ 35
+-- a name and a number are within their limits
 abbrev pub IsWithin : List ℕ → TokenKind → Type 0
-IsWithin piece kind.Name = length piece ≤ 32
-IsWithin piece (kind.Number n) = n ≤ 10 ^ 35
+IsWithin piece kind.Name = length piece ≤ NAME_LIMIT
+IsWithin piece (kind.Number n) = n ≤ NUMBER_LIMIT
 IsWithin piece (kind.Word w) = Unit {0}
 IsWithin piece (kind.Mark m) = Unit {0}
 
@@ -55,8 +56,8 @@ pub data LexicalFault : Type 0 where
 -- the first fault of a text that begins at this byte, and the byte where it begins
 pub data FaultFrom : ℕ → List ℕ → LexicalFault → ℕ → Type 0 where
   no_piece : {at : ℕ} {b : ℕ} {text : List ℕ} → BeginsNot (b ∷ text) → FaultFrom at (b ∷ text) bad_byte at
-  name_limit : {at : ℕ} {text : List ℕ} (piece rest : List ℕ) → Begins text piece rest (Some kind.Name) → 32 < length piece → FaultFrom at text long_name at
-  number_limit : {at : ℕ} {text : List ℕ} (piece rest : List ℕ) (n : ℕ) → Begins text piece rest (Some (kind.Number n)) → 10 ^ 35 < n → FaultFrom at text large_number at
+  name_limit : {at : ℕ} {text : List ℕ} (piece rest : List ℕ) → Begins text piece rest (Some kind.Name) → NAME_LIMIT < length piece → FaultFrom at text long_name at
+  number_limit : {at : ℕ} {text : List ℕ} (piece rest : List ℕ) (n : ℕ) → Begins text piece rest (Some (kind.Number n)) → NUMBER_LIMIT < n → FaultFrom at text large_number at
   behind_separator : {at place : ℕ} {text : List ℕ} {fault : LexicalFault} (piece rest : List ℕ) → Begins text piece rest None → FaultFrom (at + length piece) rest fault place → FaultFrom at text fault place
   behind_token : {at place : ℕ} {text : List ℕ} {fault : LexicalFault} (piece rest : List ℕ) (kind : TokenKind) → Begins text piece rest (Some kind) → IsWithin piece kind → FaultFrom (at + length piece) rest fault place → FaultFrom at text fault place
 

@@ -15,10 +15,6 @@ pub use laws::{
     fault_is_unique, lexemes_are_fit, tokens_are_unique, tokens_lie_inside, tokens_or_fault,
 };
 pub use marks::written;
-pub use piece::{NAME_LIMIT, NUMBER_LIMIT};
-pub use scanning::{TEXT_LIMIT, scan};
+pub use scanning::scan;
 pub use token::{Mark, Token, TokenKind, Word};
 pub use words::spelled;
-
-#[cfg(test)]
-mod tests;

@@ -9,12 +9,7 @@ use crate::TokenKind;
 use crate::bytes::{Class, is_digit, is_letter, is_separator, run};
 use crate::marks::{mark_of, written};
 use crate::words::word_of;
-
-/// The most bytes of a name.
-pub const NAME_LIMIT: usize = 32;
-
-/// The greatest number, 10 to the power of 35.
-pub const NUMBER_LIMIT: u128 = 100000000000000000000000000000000000;
+use luo_num::limits::{NAME_LIMIT, NUMBER_LIMIT};
 
 /// What a text that is not empty begins with.
 #[derive(Clone, Copy)]

@@ -5,10 +5,8 @@ ghost use Rattle.luo_scan.specs.Tokens.{Tokens};
 
 use crate::piece::{Piece, first_piece};
 use crate::{ScanError, Token};
+use luo_num::limits::TEXT_LIMIT;
 use std::alloc::Global;
-
-/// The most bytes of a text.
-pub const TEXT_LIMIT: usize = 65536;
 
 /// The tokens of a text, each the longest that begins where the one before ends.
 ///

@@ -1,5 +1,6 @@
 -- Tokens that open and close.
 use Rattle.std.proofs.Common.{◌≡◌, ℕ, zero, suc, List, [], ◌∷◌, ◌+◌, ◌≤◌, ◌<◌, refl, sym, subst, ap, ◌∙◌, length, take, get_or, arith}
+use Rattle.luo_num.specs.declared.limits.TheConstants.{DEPTH_LIMIT}
 use Rattle.luo_scan.specs.declared.token.Word.TheVariants.{KwLabelled}
 use Rattle.luo_scan.specs.declared.token.TokenKind.TheVariants as kind
 use Rattle.luo_scan.specs.declared.token.Token.{Token}
@@ -21,9 +22,9 @@ abbrev pub kinds_closed : List Token → ℕ
 kinds_closed [] = 0
 kinds_closed (t ∷ ts) = closes_kind t.kind + kinds_closed ts
 
--- behind none of the first tokens more than 32 are open
+-- behind none of the first tokens more than the limit are open
 abbrev pub IsShallowTo : ℕ → List Token → Type 0
-IsShallowTo i ts = (j : ℕ) → j ≤ i → kinds_closed (take j ts) + 32 < kinds_opened (take j ts) → ⊥
+IsShallowTo i ts = (j : ℕ) → j ≤ i → kinds_closed (take j ts) + DEPTH_LIMIT < kinds_opened (take j ts) → ⊥
 
 pub opened_more : (ts : List Token) (i : ℕ) (d : Token) → i < length ts → kinds_opened (take (i + 1) ts) ≡ kinds_opened (take i ts) + opens_kind (get_or ts i d).kind
 opened_more [] i d a = absurd (omega (arith, a))
@@ -43,10 +44,10 @@ pub none_shallow : (ts : List Token) → IsShallowTo 0 ts
 none_shallow ts zero a d = omega (arith, d)
 none_shallow ts (suc j) a d = omega (arith, a)
 
-pub shallow_more : (ts : List Token) (i : ℕ) → IsShallowTo i ts → (kinds_closed (take (i + 1) ts) + 32 < kinds_opened (take (i + 1) ts) → ⊥) → IsShallowTo (i + 1) ts
+pub shallow_more : (ts : List Token) (i : ℕ) → IsShallowTo i ts → (kinds_closed (take (i + 1) ts) + DEPTH_LIMIT < kinds_opened (take (i + 1) ts) → ⊥) → IsShallowTo (i + 1) ts
 shallow_more ts i before here j a d =
     let above : j ≤ i → ⊥ = λ b. before j b d in
-    here (subst (λ z. kinds_closed (take z ts) + 32 < kinds_opened (take z ts)) (omega (arith, a, above)) d)
+    here (subst (λ z. kinds_closed (take z ts) + DEPTH_LIMIT < kinds_opened (take z ts)) (omega (arith, a, above)) d)
 
 opened_kinds : (at : ℕ) (text : List ℕ) (ts : List Token) → opened (lexemes_from at text ts) ≡ kinds_opened ts
 opened_kinds at text [] = refl
@@ -65,7 +66,7 @@ closed_front text ts j = ap closed (sym (first_lexemes j 0 text ts)) ∙ closed_
 pub shallow_text : (ts : List Token) → IsShallowTo (length ts) ts → (text : List ℕ) → IsShallow (lexemes text ts)
 shallow_text ts s text j a d = s j (omega (arith, a, as_many 0 text ts)) (omega (arith, d, opened_front text ts j, closed_front text ts j))
 
-pub first_deep : (ts : List Token) (i : ℕ) → i < length ts → kinds_closed (take (i + 1) ts) + 32 < kinds_opened (take (i + 1) ts) → IsShallowTo i ts → (text : List ℕ) → IsFirstDeep (lexemes text ts) i
+pub first_deep : (ts : List Token) (i : ℕ) → i < length ts → kinds_closed (take (i + 1) ts) + DEPTH_LIMIT < kinds_opened (take (i + 1) ts) → IsShallowTo i ts → (text : List ℕ) → IsFirstDeep (lexemes text ts) i
 first_deep ts i a deep s text = (
   omega (arith, a, as_many 0 text ts),
   omega (arith, deep, opened_front text ts (i + 1), closed_front text ts (i + 1)),

@@ -35,3 +35,4 @@ pub mod ValueStuck
 pub mod ValueSteps
 pub mod ValueNo
 pub mod ValuesSoFar
+pub mod SourceOrError

@@ -12,3 +12,4 @@ pub mod StopsTypes
 pub mod StopsPatterns
 pub mod StopsStatements
 pub mod StopsValues
+pub mod SourceOrError

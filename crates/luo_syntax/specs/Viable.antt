@@ -1,6 +1,7 @@
 -- Which fronts begin a program, and what an error says.
 use Rattle.std.specs.Prelude.{ℕ, ◌+◌, ◌≤◌, ◌<◌, List, [], ◌∷◌, ◌++◌, take, length}
 use Rattle.std.specs.List.{AllByRecursion}
+use Rattle.luo_num.specs.declared.limits.TheConstants.{DEPTH_LIMIT}
 use Rattle.luo_scan.specs.declared.token.Word.TheVariants.{KwBegin, KwCase, KwEnd}
 use Rattle.luo_scan.specs.declared.token.Mark.TheVariants.{LeftRound, RightRound}
 use Rattle.luo_scan.specs.declared.token.TokenKind.{TokenKind}
@@ -59,19 +60,19 @@ abbrev pub closed : List Lexeme → ℕ
 closed [] = 0
 closed (l ∷ ls) = closes l + closed ls
 
--- behind these lexemes more than 32 are open
+-- behind these lexemes more than the limit are open
 abbrev pub IsDeep : List Lexeme → Type 0
-IsDeep front = closed front + 32 < opened front
+IsDeep front = closed front + DEPTH_LIMIT < opened front
 
--- nowhere among these lexemes more than 32 are open
+-- nowhere among these lexemes more than the limit are open
 abbrev pub IsShallow : List Lexeme → Type 0
 IsShallow ls = (j : ℕ) → j ≤ length ls → IsDeep (take j ls) → ⊥
 
--- this is the first lexeme with which more than 32 are open
+-- this is the first lexeme with which more than the limit are open
 abbrev pub IsFirstDeep : List Lexeme → ℕ → Type 0
 IsFirstDeep ls k = (k < length ls) × IsDeep (take (k + 1) ls) × ((j : ℕ) → j ≤ k → IsDeep (take j ls) → ⊥)
 
--- with this lexeme more than 32 are open for the first time, and up to and with it some program begins so
+-- with this lexeme more than the limit are open for the first time, and up to and with it some program begins so
 abbrev pub IsDeepAt : List Lexeme → ℕ → Type 0
 IsDeepAt ls k = IsFirstDeep ls k × IsViable (take (k + 1) ls)
 

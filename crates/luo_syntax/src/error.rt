@@ -5,9 +5,6 @@ ghost use Rattle.luo_syntax.specs.declared.error.SyntaxError.TheVariants.{NoMemo
 use std::alloc::{AllocError, AllocFailed};
 use thiserror::Error;
 
-/// The most of `(`, `begin` and `case` that may be open at once.
-pub const DEPTH_LIMIT: usize = 32;
-
 /// Why tokens are no program.
 #[derive(Clone, Copy, Debug, PartialEq, Eq, Error)]
 pub enum SyntaxError {

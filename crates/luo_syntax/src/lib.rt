@@ -21,14 +21,11 @@ mod types_reader_definitions;
 mod values;
 mod values_reader;
 
-pub use error::{DEPTH_LIMIT, SyntaxError};
-pub use laws::source_is_unique;
+pub use error::SyntaxError;
+pub use laws::{source_is_unique, source_or_error};
 pub use names::Name;
 pub use parsing::parse;
 pub use source::{ProcBody, ProcDef, Source};
 pub use statements::{Pattern, SourceArm, Stmt};
 pub use types::{Bound, MeasureDef, Range, TypeDef, TypeExpr};
 pub use values::{SourceValue, SourceValueArm};
-
-#[cfg(test)]
-mod tests;

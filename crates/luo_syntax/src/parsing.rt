@@ -9,9 +9,10 @@ ghost use Rattle.luo_syntax.specs.Grammar.{Derives};
 ghost use Rattle.luo_syntax.specs.Viable.{opens_kind, closes_kind, IsShallow, IsFirstDeep, StopsWhole, Explains};
 
 use crate::cursor::Cursor;
-use crate::error::{DEPTH_LIMIT, SyntaxError};
+use crate::error::SyntaxError;
 use crate::fault::Fault;
 use crate::source::Source;
+use luo_num::limits::DEPTH_LIMIT;
 use luo_scan::{Mark, Token, TokenKind, Word};
 use std::alloc::Global;
 

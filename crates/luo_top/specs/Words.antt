@@ -1,46 +1,74 @@
 -- The words of the command line.
-use Rattle.std.specs.Prelude.{◌≡◌, ℕ, List, [], ◌∷◌, map, codes, string_bytes, String}
+use Rattle.std.specs.Prelude.{◌≡◌, ℕ, List, [], ◌∷◌, map, codes, string_bytes, String, Bool, true, false, not, ◌&&◌, leb, ◌==◌, if◌then◌else◌, Option, None, Some}
 use Rattle.std.specs.declared.alloc.Global.{Global}
-use Rattle.std.specs.List.{AllByRecursion}
-use Rattle.luo_scan.specs.Bytes.{IsDigit}
+use Rattle.std.specs.Option.{option_map}
+use Rattle.std.specs.Str.{bytes_eq}
 use Rattle.luo_scan.specs.Spellings.{value_after}
+use Rattle.luo_top.specs.declared.status.Status.TheVariants.{Usage}
+use Rattle.luo_top.specs.Answer.{Answer, Refusal}
+use Rattle.luo_top.specs.Refusals.{usage_line}
+use Rattle.luo_top.specs.Step.{Step, ◌or_makes◌}
 
 -- the bytes of each word
 abbrev pub texts : List (String Global) → List (List ℕ)
 texts words = map string_bytes words
 
--- `0`, or a digit from 1 to 9 followed by digits, and the number that they give
-abbrev pub IsNumber : List ℕ → ℕ → Type 0
-IsNumber [] n = ⊥
-IsNumber (d ∷ ds) n = AllByRecursion IsDigit (d ∷ ds) × (d ≡ 48 → ds ≡ []) × (n ≡ value_after 0 (d ∷ ds))
-
--- what the words ask for: the report of a file for the sizes up to one, and the canonical text of a file
+-- what the words ask for
 pub data Command : Type 0 where
   Analyse : List ℕ → ℕ → Command
   Format : List ℕ → Command
 
--- the words `analyse FILE N`
-abbrev pub IsAnalyse : List (List ℕ) → List ℕ → ℕ → Type 0
-IsAnalyse words file n = (digits : List ℕ) × (words ≡ codes "analyse" ∷ file ∷ digits ∷ []) × IsNumber digits n
+abbrev pub are_digits : List ℕ → Bool
+are_digits [] = true
+are_digits (d ∷ ds) = leb 48 d && leb d 57 && are_digits ds
 
--- the words `format FILE`
-abbrev pub IsFormat : List (List ℕ) → List ℕ → Type 0
-IsFormat words file = words ≡ codes "format" ∷ file ∷ []
+-- there is a first digit, and where others follow it isn't 0
+abbrev pub is_led : List ℕ → Bool
+is_led [] = false
+is_led (d ∷ []) = true
+is_led (d ∷ e ∷ ds) = not (d == 48)
 
--- the words have the form of this command
-abbrev pub IsCommandLine : List (List ℕ) → Command → Type 0
-IsCommandLine words (Analyse file n) = IsAnalyse words file n
-IsCommandLine words (Format file) = IsFormat words file
+-- the number of `0`, or of a digit from 1 to 9 followed by digits
+abbrev pub number_of : List ℕ → Option ℕ
+number_of word = if is_led word && are_digits word then Some (value_after 0 word) else None
+
+-- FILE N
+abbrev pub analyse_of : List (List ℕ) → Option Command
+analyse_of (file ∷ n ∷ []) = option_map (Analyse file) (number_of n)
+analyse_of other = None
+
+-- FILE
+abbrev pub format_of : List (List ℕ) → Option Command
+format_of (file ∷ []) = Some (Format file)
+format_of other = None
+
+-- the command whose form the words have
+abbrev pub command_of : List (List ℕ) → Option Command
+command_of [] = None
+command_of (name ∷ rest) =
+    if bytes_eq name (codes "analyse") then analyse_of rest
+    else if bytes_eq name (codes "format") then format_of rest
+    else None
 
 -- the words have the form of no command
 abbrev pub HasNoForm : List (List ℕ) → Type 0
-HasNoForm words = (command : Command) → IsCommandLine words command → ⊥
+HasNoForm words = command_of words ≡ None
 
--- the file of a command
-abbrev pub file_of : Command → List ℕ
-file_of (Analyse file n) = file
-file_of (Format file) = file
+-- the files of a command, in the order in which they are read
+abbrev pub files_of : Command → List (List ℕ)
+files_of (Analyse file n) = file ∷ []
+files_of (Format file) = file ∷ []
 
--- the words name this file
-abbrev pub NamesFile : List (List ℕ) → List ℕ → Type 0
-NamesFile words file = (command : Command) × IsCommandLine words command × (file_of command ≡ file)
+-- the limits that the words of a command pass by themselves: none, where its numbers are looked at behind its file
+abbrev pub LimitOfWords : Command → Answer → Type 0
+LimitOfWords (Analyse file n) answer = ⊥
+LimitOfWords (Format file) answer = ⊥
+
+-- what the words alone refuse: that they have no form, or a limit that they pass
+abbrev pub WordsRefusal : Option Command → Answer → Type 0
+WordsRefusal None answer = answer ≡ Refusal Usage usage_line
+WordsRefusal (Some command) answer = LimitOfWords command answer
+
+-- the step that rests on the words alone: a refusal of theirs, and else their command
+abbrev pub asked_by : List (List ℕ) → Step Command
+asked_by words = WordsRefusal (command_of words) or_makes λ command. command_of words ≡ Some command

@@ -1,16 +1,22 @@
 //! The top call, which does all that the program does.
 #![tactic(auto)]
 
+mod answer;
+mod commands;
+pub mod laws;
+mod lines;
 mod plain;
+mod refusal;
 mod report;
 mod status;
-mod tables;
+mod steps;
 mod top;
 mod words;
-mod work;
 
 pub use status::{Status, code};
 pub use top::luo;
 
 #[cfg(test)]
 mod tests;
+#[cfg(test)]
+mod tests_front;

@@ -1,39 +1,45 @@
 // The words of the command line.
-ghost use Rattle.std.specs.Prelude.{◌≡◌, ℕ, min, List, MatchOption};
+ghost use Rattle.std.specs.Prelude.{◌≡◌, min, MatchOption};
 ghost use Rattle.std.specs.List.{AllByRecursion};
 ghost use Rattle.luo_scan.specs.Bytes.{IsDigit};
 ghost use Rattle.luo_scan.specs.Spellings.{value_after};
-ghost use Rattle.luo_top.specs.Commands.{IsCommandOf};
-ghost use Rattle.luo_top.specs.Words.{texts, IsAnalyse, IsFormat, IsNumber, HasNoForm};
+ghost use Rattle.luo_top.specs.Words.{texts, is_led, analyse_of, format_of, command_of};
+ghost use Rattle.luo_top.specs.inner.Requests.{Asks, IsNumber, IsRequestOf};
+
+use crate::refusal::Refusal;
 
 /// Numbers of words from here on are not told apart.
 pub const NUMBER_CAP: u64 = 1000000;
 
 /// What the words ask for.
 #[derive(Clone, Copy)]
-pub enum Command<'w> {
+pub enum Request<'w> {
     /// The report of a file for the sizes up to `last`, a number up to `NUMBER_CAP`.
     Analyse { file: &'w str, last: u64 },
     /// The canonical text of a file.
     Format { file: &'w str },
 }
 
-// What `analyse FILE N` asks for.
-#[derive(Clone, Copy)]
-struct Request<'w> {
-    file: &'w str,
-    last: u64,
+// Whether there is a first digit, and it isn't 0 where others follow it.
+fn is_led(word: &[u8]) -> bool
+    ensures { result ≡ is_led word.now }
+{
+    match word {
+        [] => false,
+        [_] => true,
+        [first, ..] => *first != b'0',
+    }
 }
 
 // The number that a word stands for, or `NUMBER_CAP` where it is larger.
+#[tactic(auto, using(crate::proofs::Numbers::unled, crate::proofs::Numbers::numbered))]
 fn number(word: &[u8]) -> Option<u64>
-    ensures { MatchOption result ((n : ℕ) → IsNumber word.now n → ⊥) (λ v. (n : ℕ) × IsNumber word.now n × (v ≡ min n NUMBER_CAP)) }
+    ensures { IsNumber word.now result }
 {
-    match word {
-        [] => None,
-        [b'0', _, ..] => None,
-        _ => digits(word),
+    if !is_led(word) {
+        return None;
     }
+    digits(word)
 }
 
 // The number that digits give, or `NUMBER_CAP` where it is larger.
@@ -51,19 +57,15 @@ fn digits(word: &[u8]) -> Option<u64>
     Some(value)
 }
 
-// The words as `analyse FILE N`.
-fn analyse(words: &[String]) -> Option<Request<'_>>
-    ensures { MatchOption result ((file : List ℕ) (n : ℕ) → IsAnalyse (texts words.now) file n → ⊥)
-        (λ c. (n : ℕ) × IsAnalyse (texts words.now) c.file.now n × (c.last ≡ min n NUMBER_CAP)) }
+// FILE N
+fn analyse(rest: &[String]) -> Option<Request<'_>>
+    ensures { IsRequestOf (analyse_of (texts rest.now)) result }
 {
-    let [name, file, last] = words else {
+    let [file, last] = rest else {
         return None;
     };
-    if name.as_str() != "analyse" {
-        return None;
-    }
     match number(last.as_bytes()) {
-        Some(last) => Some(Request {
+        Some(last) => Some(Request::Analyse {
             file: file.as_str(),
             last,
         }),
@@ -71,28 +73,40 @@ fn analyse(words: &[String]) -> Option<Request<'_>>
     }
 }
 
-// The file of the words as `format FILE`.
-fn format(words: &[String]) -> Option<&str>
-    ensures { MatchOption result ((file : List ℕ) → IsFormat (texts words.now) file → ⊥) (λ file. IsFormat (texts words.now) file.now) }
+// FILE
+fn format(rest: &[String]) -> Option<Request<'_>>
+    ensures { IsRequestOf (format_of (texts rest.now)) result }
 {
-    let [name, file] = words else {
+    let [file] = rest else {
         return None;
     };
-    if name.as_str() != "format" {
-        return None;
-    }
-    Some(file.as_str())
+    Some(Request::Format {
+        file: file.as_str(),
+    })
 }
 
-/// The command whose form the words have. `None` comes exactly where they have none.
-pub fn command_of(words: &[String]) -> Option<Command<'_>>
-    ensures { MatchOption result (HasNoForm (texts words.now)) (λ c. IsCommandOf (texts words.now) c) }
+// The request of the command whose form the words have.
+fn request_of(words: &[String]) -> Option<Request<'_>>
+    ensures { IsRequestOf (command_of (texts words.now)) result }
 {
-    match analyse(words) {
-        Some(Request { file, last }) => Some(Command::Analyse { file, last }),
-        None => match format(words) {
-            Some(file) => Some(Command::Format { file }),
-            None => None,
-        },
+    let [name, rest @ ..] = words else {
+        return None;
+    };
+    if name.as_str() == "analyse" {
+        return analyse(rest);
+    }
+    if name.as_str() == "format" {
+        return format(rest);
+    }
+    None
+}
+
+/// What the words ask for. It takes no memory.
+pub fn asked(words: &[String]) -> Result<Request<'_>, Refusal>
+    ensures { Asks (texts words.now) result }
+{
+    match request_of(words) {
+        Some(request) => Ok(request),
+        None => Err(Refusal::Usage),
     }
 }

@@ -1,6 +1,7 @@
 -- The parts of a checked source make its core form.
-use Rattle.std.proofs.Common.{◌≡◌, ℕ, ◌^◌, ◌<◌, ◌≤◌, List, [], ◌++◌, Option, Some, None, map, flat_map, length, sum_by, slice_get, refl, sym, ◌∙◌, ap, subst, arith}
+use Rattle.std.proofs.Common.{◌≡◌, ℕ, ◌<◌, ◌≤◌, List, [], ◌++◌, Option, Some, None, map, flat_map, length, sum_by, slice_get, refl, sym, ◌∙◌, ap, subst, arith}
 use Rattle.std.proofs.lemmas.Option.{get_or_from_slice_get}
+use Rattle.luo_num.specs.declared.limits.TheConstants.{NUMBER_LIMIT, WALK_LIMIT}
 use Rattle.luo_model.specs.declared.program.Node.{Node}
 use Rattle.luo_model.specs.declared.program.Shape.{Shape}
 use Rattle.luo_model.specs.declared.program.Shape.TheVariants as shape
@@ -43,7 +44,7 @@ use Rattle.luo_types.proofs.WalksSame.{walks-same}
 
 -- the measures of a source are within the greatest charge
 pub measures-within : (source : Source) → IsSource source → HasMeasuresWithin (setting_of source)
-measures-within source is text number value e = names_within source (10 ^ 35) (all_within (10 ^ 35) source.measures (source_proper source is).values) text (Measure number value) e
+measures-within source is text number value e = names_within source NUMBER_LIMIT (all_within NUMBER_LIMIT source.measures (source_proper source is).values) text (Measure number value) e
 
 allowed-few : (universe : Universe) (s : Shape) → IsAllowed universe s → length (inner_parts s) < 4294967296
 allowed-few universe (shape.Atom weight) h = omega arith
@@ -112,18 +113,18 @@ module _ (source : Source) (t : Typed) (is : IsTyped source t) where
       ∙ ap (made s (sites_in (types_of s) 0 (procs_core s 0 source.procs)) (procs_core s 0 source.procs)) is.analyses
 
   module _ (source_is : IsSource source) (within : IsWithinLimits source) (walks : ℕ) (counted : walks ≡ sum_by (procedure_walks (types_of t.setting)) (map procedure_of t.procs)) where
-    pub too-many : 32 < walks → WalksTooMuch source
+    pub too-many : WALK_LIMIT < walks → WalksTooMuch source
     too-many h = (is.unbroken, omega (arith, h, walks-counted walks counted))
 
-    module _ (few : walks ≤ 32) (sites : List Site) (e : sites ≡ sites_in (types_of t.setting) 0 (map procedure_of t.procs)) where
+    module _ (few : walks ≤ WALK_LIMIT) (sites : List Site) (e : sites ≡ sites_in (types_of t.setting) 0 (map procedure_of t.procs)) where
       abbrev whole : plain.Program
       whole = plain_of (record { universe = t.setting.universe; defs = t.setting.defs; nodes = t.setting.nodes; procs = t.procs; sites = sites; analyses = t.analyses })
 
-      few_walks : walk_count (core source) ≤ 32
+      few_walks : walk_count (core source) ≤ WALK_LIMIT
       few_walks = omega (arith, few, walks-counted walks counted)
 
       pub is-program : IsProgram whole
       is-program = subst IsProgram (sym (plain-core sites e)) (core_is_program source source_is within is.unbroken few_walks)
 
       pub is-checked : IsChecked source whole
-      is-checked = (within, (is.unbroken, plain-core sites e), subst (λ p. walk_count p ≤ 32) (sym (plain-core sites e)) few_walks)
+      is-checked = (within, (is.unbroken, plain-core sites e), subst (λ p. walk_count p ≤ WALK_LIMIT) (sym (plain-core sites e)) few_walks)

@@ -1,7 +1,8 @@
 -- A source without breach: its types, its names and its procedures.
-use Rattle.std.proofs.Common.{◌≡◌, ℕ, zero, suc, ◌+◌, ◌^◌, ◌<◌, List, [], ◌∷◌, ◌++◌, map, length, Option, Some, slice_get, refl, sym, ap, ◌∙◌, subst, arith}
+use Rattle.std.proofs.Common.{◌≡◌, ℕ, zero, suc, ◌+◌, ◌<◌, List, [], ◌∷◌, ◌++◌, map, length, Option, Some, slice_get, refl, sym, ap, ◌∙◌, subst, arith}
 use Rattle.std.specs.Prelude.{flat_map, slice_index_or}
 use Rattle.std.specs.Option.{option_map}
+use Rattle.luo_num.specs.declared.limits.TheConstants.{NUMBER_LIMIT}
 use Rattle.luo_model.specs.declared.program.Site.{Site}
 use Rattle.luo_model.specs.Program.{Procedure, Result}
 use Rattle.luo_model.specs.Invariant.{IsNamed}
@@ -33,7 +34,7 @@ use Rattle.luo_types.proofs.ValueFits.{Callee, SoundSetting}
 -- a source without breach
 pub record Clean (source : Source) : Type 0 where
   pub all : SoundAll source.universe (names_of source) (definitions source)
-  pub within : NamesWithin (length (definitions source)) (10 ^ 35) (length source.procs) (names_of source)
+  pub within : NamesWithin (length (definitions source)) NUMBER_LIMIT (length source.procs) (names_of source)
   pub procedures : procs_breaches (setting_of source) 0 source.procs ≡ []
   pub analyses : flat_map (λ name. procedure_use (meant (setting_of source) name) name) source.analyses ≡ []
 
@@ -45,7 +46,7 @@ pub sound_all : (source : Source) → ProperSource source.types source.measures 
 sound_all source p types =
     let names = names_of source in
     let defs = definitions source in
-    let within : NamesWithin (length defs) (10 ^ 35) (length source.procs) names = names_within source (10 ^ 35) (all_within (10 ^ 35) source.measures p.values) in
+    let within : NamesWithin (length defs) NUMBER_LIMIT (length source.procs) names = names_within source NUMBER_LIMIT (all_within NUMBER_LIMIT source.measures p.values) in
     record {
       each = λ i d h. subst (λ n. Sound source.universe names defs n d) (from_zero i) (sound source.universe names defs 0 source.types i d types h);
       proper = λ i d h. let c = copy_of source.types i d h in subst (λ r. ProperDef (record { names = []; body = r })) (sym c.right) (all_get ProperDef source.types c.k c.t p.right_sides c.is);
@@ -62,7 +63,7 @@ clean source p e =
     let fourth = flat_map (λ name. procedure_use (meant (setting_of source) name) name) source.analyses in
     let types = nil_left first second (none_first (first ++ second) (third ++ fourth) e) in
     let rest = none_then (first ++ second) (third ++ fourth) e in
-    let within : NamesWithin (length defs) (10 ^ 35) (length source.procs) names = names_within source (10 ^ 35) (all_within (10 ^ 35) source.measures p.values) in
+    let within : NamesWithin (length defs) NUMBER_LIMIT (length source.procs) names = names_within source NUMBER_LIMIT (all_within NUMBER_LIMIT source.measures p.values) in
     record {
       all = sound_all source p types;
       within = within;

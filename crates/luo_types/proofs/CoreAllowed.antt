@@ -4,6 +4,7 @@ use Rattle.std.specs.Prelude.{Bool, true, false, if◌then◌else◌, nat_le, fl
 use Rattle.std.proofs.Math.Nat.{le-max_left, le-max_right, zero-mul, suc-mul}
 use Rattle.std.proofs.lemmas.Bool.{leb-true}
 use Rattle.std.proofs.lemmas.List.Sums.{sum_by-cons, sum_by-append}
+use Rattle.luo_num.specs.declared.limits.TheConstants.{BOUND_LIMIT, PART_LIMIT}
 use Rattle.luo_model.specs.declared.program.Universe.{Universe}
 use Rattle.luo_model.specs.declared.program.Universe.TheVariants.{Unlabelled, Labelled}
 use Rattle.luo_model.specs.declared.program.Kind.{Kind}
@@ -68,22 +69,22 @@ both_tests true true x y h = (refl, refl)
 both_tests true false x y h = absurd (cc)
 both_tests false c x y h = absurd (cc)
 
-low_small : (kind : Kind) (range : Range) → greatest_in range ≤ 100 → low_in kind range ≤ 100
+low_small : (kind : Kind) (range : Range) → greatest_in range ≤ BOUND_LIMIT → low_in kind range ≤ BOUND_LIMIT
 low_small kind (Exactly n) h = h
 low_small kind (AtMost n) h = omega (arith, least_small kind)
 low_small kind (AtLeast n) h = h
 low_small kind (Between low high) h = omega (arith, le-max_left low high)
 
 abbrev IsHigh : ℕ → Option ℕ → Type 0
-IsHigh low high = IfSome high (λ most. (low ≤ most) × (most ≤ 100))
+IsHigh low high = IfSome high (λ most. (low ≤ most) × (most ≤ BOUND_LIMIT))
 
-high_allowed : (kind : Kind) (range : Range) → greatest_in range ≤ 100 → is_at_most (low_in kind range) (high_in range) ≡ true → IsHigh (low_in kind range) (high_in range)
+high_allowed : (kind : Kind) (range : Range) → greatest_in range ≤ BOUND_LIMIT → is_at_most (low_in kind range) (high_in range) ≡ true → IsHigh (low_in kind range) (high_in range)
 high_allowed kind (Exactly n) h t = (omega arith, h)
 high_allowed kind (AtMost n) h t = (leb-true (least_of kind) n t, h)
 high_allowed kind (AtLeast n) h t = tt
 high_allowed kind (Between low high) h t = (leb-true low high t, omega (arith, le-max_right low high))
 
-bound_allowed : (kind : Kind) (bound : Option Bound) → bound_breaches kind bound ≡ [] → greatest_of bound ≤ 100 → IsLow kind (low_of kind bound) × (low_of kind bound ≤ 100) × IsHigh (low_of kind bound) (high_of bound)
+bound_allowed : (kind : Kind) (bound : Option Bound) → bound_breaches kind bound ≡ [] → greatest_of bound ≤ BOUND_LIMIT → IsLow kind (low_of kind bound) × (low_of kind bound ≤ BOUND_LIMIT) × IsHigh (low_of kind bound) (high_of bound)
 bound_allowed kind None h l = (least_low kind, omega (arith, least_small kind), tt)
 bound_allowed kind (Some bound) h l =
     let t = both_tests (is_at_most (low_in kind bound.range) (high_in bound.range)) (is_low kind (low_in kind bound.range)) _ _ h in
@@ -94,7 +95,7 @@ module _ (universe : Universe) (names : List (List ℕ × Meaning)) (defs : List
   parts_length at end_of-TypeExpr = refl
   parts_length at (more_of-TypeExpr e rest) = ap suc (parts_length (behind at (own_nodes e)) rest)
 
-  head_allowed : (owner : ℕ) (at : Spot) (e : TypeExpr) → ProperType e → expr_breaches universe names e ≡ [] → most_parts e ≤ 64 → greatest_bound e ≤ 100 → (node : Node) → slice_get (nodes_at names defs owner at e) 0 ≡ Some node → IsAllowed universe node.shape
+  head_allowed : (owner : ℕ) (at : Spot) (e : TypeExpr) → ProperType e → expr_breaches universe names e ≡ [] → most_parts e ≤ PART_LIMIT → greatest_bound e ≤ BOUND_LIMIT → (node : Node) → slice_get (nodes_at names defs owner at e) 0 ≡ Some node → IsAllowed universe node.shape
   head_allowed owner at (Named name) p h m g node f = absurd (none_some node f)
   head_allowed owner at (Epsilon token) p h m g node f = subst (λ (z : Node). IsAllowed universe z.shape) (some_same _ node f) (omega arith)
   head_allowed owner at (Atom weight weight_at token) p h m g node f =
@@ -111,7 +112,7 @@ module _ (universe : Universe) (names : List (List ℕ × Meaning)) (defs : List
       subst (λ (z : Node). IsAllowed universe z.shape) (some_same _ node f)
       (kind_allowed universe kind token (nil_left (kind_breaches universe kind token) (exprs_breaches universe names part) first), b.0, b.1, b.2)
 
-  pub allowed : SoundAll universe names defs → ((i : ℕ) (d : Definition) → slice_get defs i ≡ Some d → (most_parts d.right ≤ 64) × (greatest_bound d.right ≤ 100))
+  pub allowed : SoundAll universe names defs → ((i : ℕ) (d : Definition) → slice_get defs i ≡ Some d → (most_parts d.right ≤ PART_LIMIT) × (greatest_bound d.right ≤ BOUND_LIMIT))
       → (x : ℕ) (node : Node) → slice_get (nodes_from names defs 0 0 defs) x ≡ Some node → IsAllowed universe node.shape
   allowed all limits x node e =
       let a = at_node universe names defs all x node e in

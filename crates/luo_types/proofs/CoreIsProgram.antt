@@ -1,6 +1,7 @@
 -- The core form of a source without breach and within the limits has the invariant of programs.
 use Rattle.std.proofs.Common.{◌≡◌, ℕ, ◌+◌, ◌≤◌, ◌<◌, ◌⊎◌, List, [], ◌++◌, map, length, Some, slice_get, sym, ap, ◌∙◌, subst, inl, inr, arith}
 use Rattle.std.proofs.lemmas.List.{length-map}
+use Rattle.luo_num.specs.declared.limits.TheConstants.{STATEMENT_LIMIT, WALK_LIMIT}
 use Rattle.luo_finite.specs.Listing.{In, NoDouble}
 use Rattle.luo_finite.proofs.Membership.{In-map_back}
 use Rattle.luo_model.specs.declared.program.Def.{Def}
@@ -73,7 +74,7 @@ module _ (source : Source) (c : Clean source) where
       omega (arith, small, same, procs_length s 0 source.procs)
 
 -- the core form of a source without breach and within the limits is a program
-pub core_is_program : (source : Source) → IsSource source → IsWithinLimits source → breaches source ≡ [] → walk_count (core source) ≤ 32 → IsProgram (core source)
+pub core_is_program : (source : Source) → IsSource source → IsWithinLimits source → breaches source ≡ [] → walk_count (core source) ≤ WALK_LIMIT → IsProgram (core source)
 core_is_program source is limits none walks =
     let s = setting_of source in
     let names = names_of source in
@@ -84,7 +85,7 @@ core_is_program source is limits none walks =
     let procs = procs_core s 0 source.procs in
     let sites = map (λ (site : ℕ × Site). site.1) (sites_from (types_of s) 0 procs) in
     let lines = map (λ (name : Name). procedure_of (meant s name)) source.analyses in
-    let small : (f : ℕ) (p : ProcDef) → slice_get source.procs f ≡ Some p → body_statements p.body ≤ 1024 = λ f p e. omega (arith, sum_get (λ (q : ProcDef). body_statements q.body) source.procs f p e, l.statements) in
+    let small : (f : ℕ) (p : ProcDef) → slice_get source.procs f ≡ Some p → body_statements p.body ≤ STATEMENT_LIMIT = λ f p e. omega (arith, sum_get (λ (q : ProcDef). body_statements q.body) source.procs f p e, l.statements) in
     let whole : (f : ℕ) (p : ProcDef) → slice_get source.procs f ≡ Some p → ProperProc p = λ f p e. all_get ProperProc source.procs f p proper.bodies e in
     let same = sites_same s procs [] sites [] lines [] 0 procs in
     let order = numbered 0 (sites_from (program_for source sites lines) 0 procs) (sites_good source c sites lines 0 0 source.procs (λ k p e at. proc_good source c sites lines k p e (whole k p e) (small k p e) at)) in

@@ -2,12 +2,13 @@
 use Rattle.std.proofs.Common.{◌≡◌, ℕ, zero, suc, ◌+◌, ◌≤◌, List, [], ◌∷◌, ◌++◌, length, sum_by, Option, Some, slice_get, refl, sym, ap, subst, arith, length-append}
 use Rattle.std.specs.Prelude.{IfSome}
 use Rattle.std.proofs.lemmas.List.Sums.{sum_by-cons}
+use Rattle.luo_num.specs.declared.limits.TheConstants.{NUMBER_LIMIT, STATEMENT_LIMIT}
 use Rattle.luo_model.specs.declared.program.Universe.{Universe}
 use Rattle.luo_model.specs.declared.program.Universe.TheVariants.{Unlabelled, Labelled}
 use Rattle.luo_model.specs.declared.program.Site.{Site}
 use Rattle.luo_model.specs.Program as plain
 use Rattle.luo_model.specs.Program.{Program, Procedure, Result}
-use Rattle.luo_model.specs.Scopes.{greatest_charge, FitsBody, FitsValue, value_body, value_sites, body_sites, body_items}
+use Rattle.luo_model.specs.Scopes.{FitsBody, FitsValue, value_body, value_sites, body_sites, body_items}
 use Rattle.luo_model.specs.Invariant.{IsNamed, IsProcedure, placed, sites_from}
 use Rattle.luo_syntax.specs.declared.names.Name.{Name}
 use Rattle.luo_syntax.specs.declared.source.ProcBody.{ProcBody}
@@ -65,14 +66,14 @@ module _ (source : Source) (c : Clean source) (sites : List Site) (analyses : Li
       value_fits s procs sites analyses (sound_setting source c) scope (def_node s j) value proper (subst (λ m. value_breaches s scope (node_meant s m) value ≡ []) e t.value)
 
   -- the body of a procedure on definition i
-  body_good : (p : ProcDef) (i at : ℕ) (body : ProcBody) → meant (setting_of source) p.on ≡ Some (mean.Definition i) → body_breaches (setting_of source) p (Some (def_node (setting_of source) i)) body ≡ [] → ProperBody body → body_statements body ≤ 1024
+  body_good : (p : ProcDef) (i at : ℕ) (body : ProcBody) → meant (setting_of source) p.on ≡ Some (mean.Definition i) → body_breaches (setting_of source) p (Some (def_node (setting_of source) i)) body ≡ [] → ProperBody body → body_statements body ≤ STATEMENT_LIMIT
       → GoodBody (program_for source sites analyses) ((part_meant (setting_of source) (meant (setting_of source) p.on)).node ∷ []) at (sites_of (setting_of source) p body) (body_core (setting_of source) p at body)
   body_good p i at (Statements stmts) on none proper few =
       let s = setting_of source in
       let procs = procs_core s 0 source.procs in
       let n = def_node s i in
       let g = list_good s procs sites analyses (sound_setting source c) (parameter p.param n) at stmts proper few none in
-      let own = own_within (sum_by (stmt_own s) stmts) (sum_by stmt_statements stmts) greatest_charge (list_own s procs sites analyses (sound_setting source c) stmts) few in
+      let own = own_within (sum_by (stmt_own s) stmts) (sum_by stmt_statements stmts) NUMBER_LIMIT (list_own s procs sites analyses (sound_setting source c) stmts) few in
       let P : Option Meaning → Type 0 = λ m.
       GoodBody (program_for source sites analyses) ((part_meant s m).node ∷ []) at (sum_by stmt_sites stmts) (plain.Does (sum_by (stmt_own s) stmts) (items_of s (parameter p.param (node_or (node_meant s m))) at stmts)) in
       let good : P (Some (mean.Definition i)) = record { fits = (own, g.fits); many = g.many; numbers = g.numbers } in
@@ -83,7 +84,7 @@ module _ (source : Source) (c : Clean source) (sites : List Site) (analyses : Li
       let t = clean_result source c colon p.name result (value_breaches s scope (type_node s result) value) none in
       let v = value_core s scope (Some (def_node s t.i)) value in
       let fit = value_fit p i colon result value none proper t.i t.on in
-      let small : value_size v ≤ 1024 = omega (arith, core_small s scope (Some (def_node s t.i)) value, few) in
+      let small : value_size v ≤ STATEMENT_LIMIT = omega (arith, core_small s scope (Some (def_node s t.i)) value, few) in
       let g = value_good (program_for source sites analyses) (def_node s i ∷ []) (def_node s t.i) at v fit small in
       let own = value_within (program_for source sites analyses) (def_node s i ∷ []) (def_node s t.i) v fit small in
       let P : Option Meaning → Option Meaning → Type 0 = λ m r.
@@ -110,11 +111,11 @@ module _ (source : Source) (c : Clean source) (sites : List Site) (analyses : Li
       subst (λ m. IsNamed (program_for source sites analyses) (part_meant s m)) (sym t.on) (type_named source c procs sites analyses t.i t.below) in
       (named, unlabelled source.universe colon p.name t.universe, fit', (at, refl))
 
-  pub proc_good : (f : ℕ) (p : ProcDef) → slice_get source.procs f ≡ Some p → ProperProc p → body_statements p.body ≤ 1024 → (at : ℕ)
+  pub proc_good : (f : ℕ) (p : ProcDef) → slice_get source.procs f ≡ Some p → ProperProc p → body_statements p.body ≤ STATEMENT_LIMIT → (at : ℕ)
       → GoodBody (program_for source sites analyses) ((part_meant (setting_of source) (meant (setting_of source) p.on)).node ∷ []) at (sites_of (setting_of source) p p.body) (body_core (setting_of source) p at p.body)
   proc_good f p e proper few at = let q = clean_proc source c f p e in body_good p q.i at p.body q.on q.body proper few
 
-  pub is_procedure : (f : ℕ) (p : ProcDef) → slice_get source.procs f ≡ Some p → ProperProc p → body_statements p.body ≤ 1024 → (at : ℕ) → IsProcedure (program_for source sites analyses) (proc_core (setting_of source) at p)
+  pub is_procedure : (f : ℕ) (p : ProcDef) → slice_get source.procs f ≡ Some p → ProperProc p → body_statements p.body ≤ STATEMENT_LIMIT → (at : ℕ) → IsProcedure (program_for source sites analyses) (proc_core (setting_of source) at p)
   is_procedure f p e proper few at =
       let s = setting_of source in
       let q = clean_proc source c f p e in

@@ -1,6 +1,7 @@
 -- Definitions one behind the other.
 use Rattle.std.proofs.Common.{◌≡◌, ℕ, suc, ◌+◌, ◌<◌, ◌≤◌, List, [], ◌++◌, length, get_or, drop, flat_map, sum_by, append_assoc, add-one, ap, ◌∙◌, sym, arith}
 use Rattle.std.proofs.lemmas.List.Sums.{sum_by-cons}
+use Rattle.luo_num.specs.declared.limits.TheConstants.{BOUND_LIMIT, NODE_LIMIT}
 use Rattle.luo_model.specs.declared.program.Universe.{Universe}
 use Rattle.luo_model.specs.declared.program.Node.{Node}
 use Rattle.luo_value_types.specs.declared.names.Meaning.{Meaning}
@@ -12,14 +13,14 @@ use Rattle.luo_types.proofs.NodeLemmas.{none-of-append, drop_at}
 
 -- the next of definitions, and those behind it
 pub record NextDefinition (universe : Universe) (names : List (List ℕ × Meaning)) (node : ℕ) (d : Definition) (rest : List Definition) : Type 0 where
-  pub room : node + own_nodes d.right + sum_by (λ (d : Definition). own_nodes d.right) rest ≤ 128
+  pub room : node + own_nodes d.right + sum_by (λ (d : Definition). own_nodes d.right) rest ≤ NODE_LIMIT
   pub clean : expr_breaches universe names d.right ≡ []
   pub clean_rest : flat_map (λ (d : Definition). expr_breaches universe names d.right) rest ≡ []
-  pub small_rest : greatest_by (λ (d : Definition). greatest_bound d.right) rest ≤ 100
+  pub small_rest : greatest_by (λ (d : Definition). greatest_bound d.right) rest ≤ BOUND_LIMIT
 
 pub next_definition : (universe : Universe) (names : List (List ℕ × Meaning)) (node : ℕ) (ds : List Definition) (i : ℕ) (d : Definition) → i < length ds → d ≡ get_or ds i d
-    → node + sum_by (λ (d : Definition). own_nodes d.right) (drop i ds) ≤ 128 → flat_map (λ (d : Definition). expr_breaches universe names d.right) (drop i ds) ≡ []
-    → greatest_by (λ (d : Definition). greatest_bound d.right) (drop i ds) ≤ 100 → NextDefinition universe names node d (drop (i + 1) ds)
+    → node + sum_by (λ (d : Definition). own_nodes d.right) (drop i ds) ≤ NODE_LIMIT → flat_map (λ (d : Definition). expr_breaches universe names d.right) (drop i ds) ≡ []
+    → greatest_by (λ (d : Definition). greatest_bound d.right) (drop i ds) ≤ BOUND_LIMIT → NextDefinition universe names node d (drop (i + 1) ds)
 next_definition universe names node ds i d h is room clean small =
     let cut = drop_at ds i d h is in
     let none = none-of-append _ _ (sym (ap (flat_map (λ (d : Definition). expr_breaches universe names d.right)) cut) ∙ clean) in

@@ -1,6 +1,7 @@
 -- Each answer of a check excludes the others.
 use Rattle.std.proofs.Common.{◌≡◌, ℕ, ◌⊎◌, inl, inr, List, [], ◌∷◌, ◌++◌, length, Result, Ok, Err, IfOk, IfErr, nat_lt, refl, sym, ◌∙◌, ap, subst, arith}
 use Rattle.std.specs.List.{AllByRecursion}
+use Rattle.luo_num.specs.declared.limits.TheConstants.{ANALYSIS_LIMIT, BOUND_LIMIT, DEFINITION_LIMIT, MULTISET_LIMIT, NODE_LIMIT, PART_LIMIT, PROCEDURE_LIMIT, STATEMENT_LIMIT}
 use Rattle.luo_model.specs.Program.{Program}
 use Rattle.luo_model.specs.View.{Held, plain_of}
 use Rattle.luo_syntax.specs.declared.source.Source.{Source}
@@ -29,14 +30,14 @@ counted_passed which most counted h = either_if (AllByRecursion IsCounted) (nat_
 counted_all : (source : Source) → AllByRecursion IsCounted (limits_passed source)
 counted_all source =
     counted_append _ _ (counted_append _ _ (counted_append _ _ (counted_append _ _ (counted_append _ _ (counted_append _ _ (counted_append _ _
-    (counted_passed count.Definitions 64 (definition_count source) tt)
-    (counted_passed count.Nodes 128 (node_count source) tt))
-    (counted_passed count.Parts 64 (greatest_by (λ d. most_parts d.body) source.types) tt))
-    (counted_passed count.Bounds 100 (greatest_by (λ d. greatest_bound d.body) source.types) tt))
-    (counted_passed count.Multisets 32 (multiset_count source) tt))
-    (counted_passed count.Procedures 64 (length source.procs) tt))
-    (counted_passed count.Statements 1024 (statement_count source) tt))
-    (counted_passed count.Analyses 16 (length source.analyses) tt)
+    (counted_passed count.Definitions DEFINITION_LIMIT (definition_count source) tt)
+    (counted_passed count.Nodes NODE_LIMIT (node_count source) tt))
+    (counted_passed count.Parts PART_LIMIT (greatest_by (λ d. most_parts d.body) source.types) tt))
+    (counted_passed count.Bounds BOUND_LIMIT (greatest_by (λ d. greatest_bound d.body) source.types) tt))
+    (counted_passed count.Multisets MULTISET_LIMIT (multiset_count source) tt))
+    (counted_passed count.Procedures PROCEDURE_LIMIT (length source.procs) tt))
+    (counted_passed count.Statements STATEMENT_LIMIT (statement_count source) tt))
+    (counted_passed count.Analyses ANALYSIS_LIMIT (length source.analyses) tt)
 
 -- why a check gives an error
 pub data Cause (source : Source) : CheckError → Type 0 where

@@ -1,9 +1,10 @@
 -- Items that fit, with their sites in order.
 use Rattle.std.proofs.Common.{◌≡◌, ℕ, suc, ◌+◌, ◌*◌, ◌≤◌, List, [], ◌∷◌, ◌++◌, length, Some, slice_get, refl, sym, ap, ◌∙◌, subst, arith, append_assoc, length-append}
 use Rattle.std.proofs.Math.Nat.{mul-le-mul_right}
+use Rattle.luo_num.specs.declared.limits.TheConstants.{NUMBER_LIMIT, STATEMENT_LIMIT}
 use Rattle.luo_model.specs.declared.body.Bind.{Bind}
 use Rattle.luo_model.specs.Program.{Program, Does, Items, no_items, item, Item, Call, Case, Forall, Arms, no_arms, arm, shape_of}
-use Rattle.luo_model.specs.Scopes.{Stand, stands, component, IsCollection, MayBind, bound_nodes, node_at, greatest_charge, FitsItems, FitsItem, FitsArms, join_items, items_sites, item_sites, arms_sites, items_in}
+use Rattle.luo_model.specs.Scopes.{Stand, stands, component, IsCollection, MayBind, bound_nodes, node_at, FitsItems, FitsItem, FitsArms, join_items, items_sites, item_sites, arms_sites, items_in}
 use Rattle.luo_types.proofs.Lists.{index_get}
 
 -- sites with numbers from this one on
@@ -76,7 +77,7 @@ good_case p vars var x first a arms e some g =
     alone p vars (Case var arms (first + a)) first (a + 1) (inner ++ (first + a, x) ∷ []) (ap (λ n. arms_sites p (stands n (shape_of p n)) arms ++ (first + a, n) ∷ []) here) (x, e, some, g.fits)
     (length-append inner ((first + a, x) ∷ []) ∙ ap (λ n. n + 1) g.many) (one_behind first a x inner g.many g.numbers)
 
-pub good_forall : (p : Program) (vars : List ℕ) (var x first a own : ℕ) (items : Items) → slice_get vars var ≡ Some x → IsCollection (shape_of p x) → own ≤ 1024 * greatest_charge → GoodItems p (component (shape_of p x) ∷ []) first a items
+pub good_forall : (p : Program) (vars : List ℕ) (var x first a own : ℕ) (items : Items) → slice_get vars var ≡ Some x → IsCollection (shape_of p x) → own ≤ STATEMENT_LIMIT * NUMBER_LIMIT → GoodItems p (component (shape_of p x) ∷ []) first a items
     → GoodItems p vars first (a + 2) (item (Forall var (Does own items) (first + a) (first + a + 1)) no_items)
 good_forall p vars var x first a own items e c l g =
     let here : node_at vars var ≡ x = index_get vars var x 0 e in
@@ -90,7 +91,7 @@ good_forall p vars var x first a own items e c l g =
 pub good_no_arms : (p : Program) (first : ℕ) → GoodArms p [] first 0 no_arms
 good_no_arms p first = record { fits = tt; many = refl; numbers = tt }
 
-pub good_arm : (p : Program) (stand : Stand) (ss : List Stand) (bind : Bind) (own first a b : ℕ) (items : Items) (arms : Arms) → MayBind p stand bind → own ≤ 1024 * greatest_charge → GoodItems p (bound_nodes p stand bind) first a items → GoodArms p ss (first + a) b arms
+pub good_arm : (p : Program) (stand : Stand) (ss : List Stand) (bind : Bind) (own first a b : ℕ) (items : Items) (arms : Arms) → MayBind p stand bind → own ≤ STATEMENT_LIMIT * NUMBER_LIMIT → GoodItems p (bound_nodes p stand bind) first a items → GoodArms p ss (first + a) b arms
     → GoodArms p (stand ∷ ss) first (a + b) (arm bind (Does own items) arms)
 good_arm p stand ss bind own first a b items arms m l h g = record {
   fits = (m, (l, h.fits), g.fits);
@@ -99,5 +100,5 @@ good_arm p stand ss bind own first a b items arms m l h g = record {
 }
 
 -- a sum of so many charges is within the limit
-pub own_within : (own k g : ℕ) → own ≤ k * g → k ≤ 1024 → own ≤ 1024 * g
-own_within own k g h l = let m : k * g ≤ 1024 * g = mul-le-mul_right g l in omega (arith, m)
+pub own_within : (own k g : ℕ) → own ≤ k * g → k ≤ STATEMENT_LIMIT → own ≤ STATEMENT_LIMIT * g
+own_within own k g h l = let m : k * g ≤ STATEMENT_LIMIT * g = mul-le-mul_right g l in omega (arith, m)

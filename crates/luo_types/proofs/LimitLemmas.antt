@@ -3,6 +3,7 @@ use Rattle.std.proofs.Common.{◌≡◌, ℕ, zero, suc, ◌<◌, ◌≤◌, Lis
 use Rattle.std.specs.Option.{option_map_or}
 use Rattle.std.proofs.lemmas.Bool.{lt-ltb, cases_lt}
 use Rattle.std.proofs.lemmas.List.Sums.{sum_by-cons}
+use Rattle.luo_num.specs.declared.limits.TheConstants.{ANALYSIS_LIMIT, BOUND_LIMIT, DEFINITION_LIMIT, MULTISET_LIMIT, NODE_LIMIT, PART_LIMIT, PROCEDURE_LIMIT, STATEMENT_LIMIT}
 use Rattle.luo_syntax.specs.declared.source.ProcDef.{ProcDef}
 use Rattle.luo_syntax.specs.declared.source.Source.{Source}
 use Rattle.luo_types.specs.declared.error.CountLimit.{CountLimit}
@@ -25,53 +26,53 @@ over which most n h = ([], ap (λ b. cond b (which ∷ []) []) (lt-ltb _ _ h))
 
 -- the limits that are passed up to each
 abbrev pub to_definitions : Source → List CountLimit
-to_definitions s = passed Definitions 64 (definition_count s)
+to_definitions s = passed Definitions DEFINITION_LIMIT (definition_count s)
 
 abbrev pub to_nodes : Source → List CountLimit
-to_nodes s = to_definitions s ++ passed Nodes 128 (node_count s)
+to_nodes s = to_definitions s ++ passed Nodes NODE_LIMIT (node_count s)
 
 abbrev pub to_parts : Source → List CountLimit
-to_parts s = to_nodes s ++ passed Parts 64 (greatest_by (λ d. most_parts d.body) s.types)
+to_parts s = to_nodes s ++ passed Parts PART_LIMIT (greatest_by (λ d. most_parts d.body) s.types)
 
 abbrev pub to_bounds : Source → List CountLimit
-to_bounds s = to_parts s ++ passed Bounds 100 (greatest_by (λ d. greatest_bound d.body) s.types)
+to_bounds s = to_parts s ++ passed Bounds BOUND_LIMIT (greatest_by (λ d. greatest_bound d.body) s.types)
 
 abbrev pub to_multisets : Source → List CountLimit
-to_multisets s = to_bounds s ++ passed Multisets 32 (multiset_count s)
+to_multisets s = to_bounds s ++ passed Multisets MULTISET_LIMIT (multiset_count s)
 
 abbrev pub to_procedures : Source → List CountLimit
-to_procedures s = to_multisets s ++ passed Procedures 64 (length s.procs)
+to_procedures s = to_multisets s ++ passed Procedures PROCEDURE_LIMIT (length s.procs)
 
 abbrev pub to_statements : Source → List CountLimit
-to_statements s = to_procedures s ++ passed Statements 1024 (statement_count s)
+to_statements s = to_procedures s ++ passed Statements STATEMENT_LIMIT (statement_count s)
 
 abbrev pub to_analyses : Source → List CountLimit
-to_analyses s = to_statements s ++ passed Analyses 16 (length s.analyses)
+to_analyses s = to_statements s ++ passed Analyses ANALYSIS_LIMIT (length s.analyses)
 
 -- the first limit that is passed, where those before it are not
-pub first_definitions : (s : Source) → 64 < definition_count s → PassesFirst s Definitions
-first_definitions s more = first-left (to_statements s) _ Definitions (first-left (to_procedures s) _ Definitions (first-left (to_multisets s) _ Definitions (first-left (to_bounds s) _ Definitions (first-left (to_parts s) _ Definitions (first-left (to_nodes s) _ Definitions (first-left (to_definitions s) _ Definitions (over Definitions 64 _ more)))))))
+pub first_definitions : (s : Source) → DEFINITION_LIMIT < definition_count s → PassesFirst s Definitions
+first_definitions s more = first-left (to_statements s) _ Definitions (first-left (to_procedures s) _ Definitions (first-left (to_multisets s) _ Definitions (first-left (to_bounds s) _ Definitions (first-left (to_parts s) _ Definitions (first-left (to_nodes s) _ Definitions (first-left (to_definitions s) _ Definitions (over Definitions DEFINITION_LIMIT _ more)))))))
 
-pub first_nodes : (s : Source) → to_definitions s ≡ [] → 128 < node_count s → PassesFirst s Nodes
-first_nodes s none more = first-left (to_statements s) _ Nodes (first-left (to_procedures s) _ Nodes (first-left (to_multisets s) _ Nodes (first-left (to_bounds s) _ Nodes (first-left (to_parts s) _ Nodes (first-left (to_nodes s) _ Nodes (first-right (to_definitions s) _ Nodes none (over Nodes 128 _ more)))))))
+pub first_nodes : (s : Source) → to_definitions s ≡ [] → NODE_LIMIT < node_count s → PassesFirst s Nodes
+first_nodes s none more = first-left (to_statements s) _ Nodes (first-left (to_procedures s) _ Nodes (first-left (to_multisets s) _ Nodes (first-left (to_bounds s) _ Nodes (first-left (to_parts s) _ Nodes (first-left (to_nodes s) _ Nodes (first-right (to_definitions s) _ Nodes none (over Nodes NODE_LIMIT _ more)))))))
 
-pub first_parts : (s : Source) → to_nodes s ≡ [] → 64 < greatest_by (λ d. most_parts d.body) s.types → PassesFirst s Parts
-first_parts s none more = first-left (to_statements s) _ Parts (first-left (to_procedures s) _ Parts (first-left (to_multisets s) _ Parts (first-left (to_bounds s) _ Parts (first-left (to_parts s) _ Parts (first-right (to_nodes s) _ Parts none (over Parts 64 _ more))))))
+pub first_parts : (s : Source) → to_nodes s ≡ [] → PART_LIMIT < greatest_by (λ d. most_parts d.body) s.types → PassesFirst s Parts
+first_parts s none more = first-left (to_statements s) _ Parts (first-left (to_procedures s) _ Parts (first-left (to_multisets s) _ Parts (first-left (to_bounds s) _ Parts (first-left (to_parts s) _ Parts (first-right (to_nodes s) _ Parts none (over Parts PART_LIMIT _ more))))))
 
-pub first_bounds : (s : Source) → to_parts s ≡ [] → 100 < greatest_by (λ d. greatest_bound d.body) s.types → PassesFirst s Bounds
-first_bounds s none more = first-left (to_statements s) _ Bounds (first-left (to_procedures s) _ Bounds (first-left (to_multisets s) _ Bounds (first-left (to_bounds s) _ Bounds (first-right (to_parts s) _ Bounds none (over Bounds 100 _ more)))))
+pub first_bounds : (s : Source) → to_parts s ≡ [] → BOUND_LIMIT < greatest_by (λ d. greatest_bound d.body) s.types → PassesFirst s Bounds
+first_bounds s none more = first-left (to_statements s) _ Bounds (first-left (to_procedures s) _ Bounds (first-left (to_multisets s) _ Bounds (first-left (to_bounds s) _ Bounds (first-right (to_parts s) _ Bounds none (over Bounds BOUND_LIMIT _ more)))))
 
-pub first_multisets : (s : Source) → to_bounds s ≡ [] → 32 < multiset_count s → PassesFirst s Multisets
-first_multisets s none more = first-left (to_statements s) _ Multisets (first-left (to_procedures s) _ Multisets (first-left (to_multisets s) _ Multisets (first-right (to_bounds s) _ Multisets none (over Multisets 32 _ more))))
+pub first_multisets : (s : Source) → to_bounds s ≡ [] → MULTISET_LIMIT < multiset_count s → PassesFirst s Multisets
+first_multisets s none more = first-left (to_statements s) _ Multisets (first-left (to_procedures s) _ Multisets (first-left (to_multisets s) _ Multisets (first-right (to_bounds s) _ Multisets none (over Multisets MULTISET_LIMIT _ more))))
 
-pub first_procedures : (s : Source) → to_multisets s ≡ [] → 64 < length s.procs → PassesFirst s Procedures
-first_procedures s none more = first-left (to_statements s) _ Procedures (first-left (to_procedures s) _ Procedures (first-right (to_multisets s) _ Procedures none (over Procedures 64 _ more)))
+pub first_procedures : (s : Source) → to_multisets s ≡ [] → PROCEDURE_LIMIT < length s.procs → PassesFirst s Procedures
+first_procedures s none more = first-left (to_statements s) _ Procedures (first-left (to_procedures s) _ Procedures (first-right (to_multisets s) _ Procedures none (over Procedures PROCEDURE_LIMIT _ more)))
 
-pub first_statements : (s : Source) → to_procedures s ≡ [] → 1024 < statement_count s → PassesFirst s Statements
-first_statements s none more = first-left (to_statements s) _ Statements (first-right (to_procedures s) _ Statements none (over Statements 1024 _ more))
+pub first_statements : (s : Source) → to_procedures s ≡ [] → STATEMENT_LIMIT < statement_count s → PassesFirst s Statements
+first_statements s none more = first-left (to_statements s) _ Statements (first-right (to_procedures s) _ Statements none (over Statements STATEMENT_LIMIT _ more))
 
-pub first_analyses : (s : Source) → to_statements s ≡ [] → 16 < length s.analyses → PassesFirst s Analyses
-first_analyses s none more = first-right (to_statements s) _ Analyses none (over Analyses 16 _ more)
+pub first_analyses : (s : Source) → to_statements s ≡ [] → ANALYSIS_LIMIT < length s.analyses → PassesFirst s Analyses
+first_analyses s none more = first-right (to_statements s) _ Analyses none (over Analyses ANALYSIS_LIMIT _ more)
 
 append-none : (xs ys : List CountLimit) → xs ++ ys ≡ [] → (xs ≡ []) × (ys ≡ [])
 append-none [] ys e = (refl, e)
@@ -82,14 +83,14 @@ within which most n e = elim (cases_lt most n) [ inl h ↦ (let (rest, f) = over
 
 -- what is counted in a source that passes no limit
 pub record Within (s : Source) : Type 0 where
-  pub definitions : definition_count s ≤ 64
-  pub nodes : node_count s ≤ 128
-  pub parts : greatest_by (λ d. most_parts d.body) s.types ≤ 64
-  pub bounds : greatest_by (λ d. greatest_bound d.body) s.types ≤ 100
-  pub multisets : multiset_count s ≤ 32
-  pub procedures : length s.procs ≤ 64
-  pub statements : statement_count s ≤ 1024
-  pub analyses : length s.analyses ≤ 16
+  pub definitions : definition_count s ≤ DEFINITION_LIMIT
+  pub nodes : node_count s ≤ NODE_LIMIT
+  pub parts : greatest_by (λ d. most_parts d.body) s.types ≤ PART_LIMIT
+  pub bounds : greatest_by (λ d. greatest_bound d.body) s.types ≤ BOUND_LIMIT
+  pub multisets : multiset_count s ≤ MULTISET_LIMIT
+  pub procedures : length s.procs ≤ PROCEDURE_LIMIT
+  pub statements : statement_count s ≤ STATEMENT_LIMIT
+  pub analyses : length s.analyses ≤ ANALYSIS_LIMIT
 
 pub within_limits : (s : Source) → IsWithinLimits s → Within s
 within_limits s e =
@@ -101,14 +102,14 @@ within_limits s e =
     let c = append-none (to_nodes s) _ d.0 in
     let b = append-none (to_definitions s) _ c.0 in
     record {
-      definitions = within Definitions 64 _ b.0;
-      nodes = within Nodes 128 _ b.1;
-      parts = within Parts 64 _ c.1;
-      bounds = within Bounds 100 _ d.1;
-      multisets = within Multisets 32 _ e.1;
-      procedures = within Procedures 64 _ f.1;
-      statements = within Statements 1024 _ g.1;
-      analyses = within Analyses 16 _ h.1;
+      definitions = within Definitions DEFINITION_LIMIT _ b.0;
+      nodes = within Nodes NODE_LIMIT _ b.1;
+      parts = within Parts PART_LIMIT _ c.1;
+      bounds = within Bounds BOUND_LIMIT _ d.1;
+      multisets = within Multisets MULTISET_LIMIT _ e.1;
+      procedures = within Procedures PROCEDURE_LIMIT _ f.1;
+      statements = within Statements STATEMENT_LIMIT _ g.1;
+      analyses = within Analyses ANALYSIS_LIMIT _ h.1;
     }
 
 sum_by-part : {X : Type 0} (f : X → ℕ) (xs : List X) (i : ℕ) (x : X) → slice_get xs i ≡ Some x → f x ≤ sum_by f xs
@@ -117,5 +118,5 @@ sum_by-part f (y ∷ ys) zero x e = omega (arith, sum_by-cons f y ys, ap (λ o. 
 sum_by-part f (y ∷ ys) (suc i) x e = omega (arith, sum_by-cons f y ys, sum_by-part f ys i x e)
 
 -- no procedure has more statements than all of them
-pub statements_within : (s : Source) (i : ℕ) (p : ProcDef) → IsWithinLimits s → slice_get s.procs i ≡ Some p → body_statements p.body ≤ 1024
+pub statements_within : (s : Source) (i : ℕ) (p : ProcDef) → IsWithinLimits s → slice_get s.procs i ≡ Some p → body_statements p.body ≤ STATEMENT_LIMIT
 statements_within s i p e is = omega (arith, (within_limits s e).statements, sum_by-part (λ (p : ProcDef). body_statements p.body) s.procs i p is)

@@ -1,5 +1,6 @@
 -- Nodes in the lists and boxes of type expressions.
 use Rattle.std.proofs.Common.{◌≡◌, ℕ, ◌+◌, ◌<◌, ◌≤◌, List, [], ◌∷◌, ◌++◌, length, get_or, drop, flat_map, sum_by, append-nil, append_assoc, refl, ap, ◌∙◌, sym, arith, Option}
+use Rattle.luo_num.specs.declared.limits.TheConstants.{BOUND_LIMIT, NODE_LIMIT}
 use mathlib.Core.Former.{Count}
 use denote.Hole.Carrier.{hidden}
 use Rattle.std.proofs.lemmas.List.Sums.{sum_by-cons}
@@ -29,14 +30,14 @@ drop_at xs i x h e = drop_more xs i x h ∙ ap (λ y. y ∷ drop (i + 1) xs) (sy
 
 -- the next of type expressions, and those behind it
 pub record Next (universe : Universe) (names : List (List ℕ × Meaning)) (at : Spot) (e : TypeExpr) (rest : List TypeExpr) : Type 0 where
-  pub room : at.node + own_nodes e + sum_by own_nodes rest ≤ 128
+  pub room : at.node + own_nodes e + sum_by own_nodes rest ≤ NODE_LIMIT
   pub clean : expr_breaches universe names e ≡ []
   pub clean_rest : flat_map (expr_breaches universe names) rest ≡ []
-  pub small : greatest_bound e ≤ 100
-  pub small_rest : greatest_by greatest_bound rest ≤ 100
+  pub small : greatest_bound e ≤ BOUND_LIMIT
+  pub small_rest : greatest_by greatest_bound rest ≤ BOUND_LIMIT
 
 pub next_of : (universe : Universe) (names : List (List ℕ × Meaning)) (at : Spot) (es : List TypeExpr) (i : ℕ) (e : TypeExpr) → i < length es → e ≡ get_or es i e
-    → at.node + sum_by own_nodes (drop i es) ≤ 128 → flat_map (expr_breaches universe names) (drop i es) ≡ [] → greatest_by greatest_bound (drop i es) ≤ 100 → Next universe names at e (drop (i + 1) es)
+    → at.node + sum_by own_nodes (drop i es) ≤ NODE_LIMIT → flat_map (expr_breaches universe names) (drop i es) ≡ [] → greatest_by greatest_bound (drop i es) ≤ BOUND_LIMIT → Next universe names at e (drop (i + 1) es)
 next_of universe names at es i e h is room clean small =
     let cut = drop_at es i e h is in
     let none = none-of-append _ _ (sym (ap (flat_map (expr_breaches universe names)) cut) ∙ clean) in

@@ -2,6 +2,7 @@
 use Rattle.std.proofs.Common.{◌≡◌, ℕ, suc, ◌+◌, ◌*◌, ◌<◌, ◌≤◌, List, [], ◌∷◌, ◌++◌, Some, map, flat_map, length, drop, get_or, sum_by, refl, sym, ◌∙◌, ap, subst, append_assoc, add-one, arith}
 use Rattle.std.proofs.lemmas.List.{map-append, append-nil, drop_all}
 use Rattle.std.proofs.lemmas.List.Sums.{sum_by-cons}
+use Rattle.luo_num.specs.declared.limits.TheConstants.{PROCEDURE_LIMIT, STATEMENT_LIMIT}
 use Rattle.luo_model.specs.declared.program.Proc.{Proc}
 use Rattle.luo_model.specs.View.{procedure_of}
 use Rattle.luo_syntax.specs.declared.names.Name.{Name}
@@ -62,11 +63,11 @@ module _ (s : Setting) (p : ProcDef) (node colon : ℕ) (result : Name) (value :
 pub record ProcsSoFar (s : Setting) (procs left : List ProcDef) (number : ℕ) (made : List Proc) (next : ℕ) : Type 0 where
   pub unbroken : procs_breaches s 0 procs ≡ procs_breaches s number left
   pub formed : map procedure_of made ++ procs_core s next left ≡ procs_core s 0 procs
-  pub statements : sum_by proc_statements left ≤ 1024
+  pub statements : sum_by proc_statements left ≤ STATEMENT_LIMIT
   pub sites : next + 2 * sum_by proc_statements left + length left ≤ 2112
 
 module _ (s : Setting) (procs : List ProcDef) where
-  pub so_far-none : sum_by proc_statements procs ≤ 1024 → length procs ≤ 64 → ProcsSoFar s procs procs 0 [] 0
+  pub so_far-none : sum_by proc_statements procs ≤ STATEMENT_LIMIT → length procs ≤ PROCEDURE_LIMIT → ProcsSoFar s procs procs 0 [] 0
   so_far-none h few = record { unbroken = refl; formed = refl; statements = h; sites = omega (arith, h, few) }
 
   pub at-proc : (i : ℕ) (p : ProcDef) (made : List Proc) (next : ℕ) → ProcsSoFar s procs (drop i procs) i made next → i < length procs → p ≡ get_or procs i p → ProcsSoFar s procs (p ∷ drop (i + 1) procs) i made next

@@ -1,6 +1,7 @@
 -- What the grammar and the scan give of a source: proper right sides and bodies, and measures within the limit of numbers.
-use Rattle.std.proofs.Common.{◌≤◌, ◌^◌, List, Option}
+use Rattle.std.proofs.Common.{◌≤◌, List, Option}
 use Rattle.std.specs.List.{AllByRecursion}
+use Rattle.luo_num.specs.declared.limits.TheConstants.{NUMBER_LIMIT}
 use Rattle.luo_scan.specs.declared.token.Mark.{Mark}
 use Rattle.luo_scan.specs.Laws.{IsFit}
 use Rattle.luo_scan.specs.Lexemes.{Lexeme}
@@ -63,7 +64,7 @@ mutual
 type_def_rest : {from to : List Lexeme} {d : TypeDef} → IsTypeDef from to d → AllFit from → AllFit to
 type_def_rest (type_def p q) h = (expr_rest q (names_rest p h.1)).1
 
-measure_rest : {from to : List Lexeme} {d : MeasureDef} → IsMeasure from to d → AllFit from → (d.value ≤ 10 ^ 35) × AllFit to
+measure_rest : {from to : List Lexeme} {d : MeasureDef} → IsMeasure from to d → AllFit from → (d.value ≤ NUMBER_LIMIT) × AllFit to
 measure_rest (measure_def p) h = let rest = names_rest p h.1 in (rest.0.1, rest.1.1)
 
 -- the body of a procedure is proper
@@ -88,7 +89,7 @@ procs_proper : {from to : List Lexeme} {ps : List ProcDef} {names : List Name} �
 procs_proper (no_procs p) = tt
 procs_proper (more_procs p ps) = (proc_proper p, procs_proper ps)
 
-from_measures : {from to : List Lexeme} {ds : List MeasureDef} {ps : List ProcDef} {names : List Name} → FromMeasures from to ds ps names → AllFit from → ValuesWithin (10 ^ 35) ds × AllByRecursion ProperProc ps
+from_measures : {from to : List Lexeme} {ds : List MeasureDef} {ps : List ProcDef} {names : List Name} → FromMeasures from to ds ps names → AllFit from → ValuesWithin NUMBER_LIMIT ds × AllByRecursion ProperProc ps
 from_measures (no_measures p) h = (tt, procs_proper p)
 from_measures (more_measures p ps) h = let rest = measure_rest p h in let more = from_measures ps rest.1 in ((rest.0, more.0), more.1)
 
@@ -98,7 +99,7 @@ def_proper (type_def p q) = expr_proper q
 -- a source is proper
 pub record ProperSource (types : List TypeDef) (measures : List MeasureDef) (procs : List ProcDef) : Type 0 where
   pub right_sides : AllByRecursion ProperDef types
-  pub values : ValuesWithin (10 ^ 35) measures
+  pub values : ValuesWithin NUMBER_LIMIT measures
   pub bodies : AllByRecursion ProperProc procs
 
 from_types : {from to : List Lexeme} {ts : List TypeDef} {ds : List MeasureDef} {ps : List ProcDef} {names : List Name} → FromTypes from to ts ds ps names → AllFit from → ProperSource ts ds ps

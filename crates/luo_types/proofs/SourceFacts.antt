@@ -4,6 +4,7 @@ use Rattle.std.specs.Prelude.{flat_map, Bool, true, false, if◌then◌else◌, 
 use Rattle.std.specs.List.{AllByRecursion}
 use Rattle.std.proofs.lemmas.Bool.{ltb-false}
 use Rattle.std.proofs.Math.Nat.{le-max_left, le-max_right}
+use Rattle.luo_num.specs.declared.limits.TheConstants.{ANALYSIS_LIMIT, BOUND_LIMIT, DEFINITION_LIMIT, MULTISET_LIMIT, NODE_LIMIT, PART_LIMIT, PROCEDURE_LIMIT, STATEMENT_LIMIT}
 use Rattle.luo_syntax.specs.declared.names.Name.{Name}
 use Rattle.luo_syntax.specs.declared.types.TypeDef.{TypeDef}
 use Rattle.luo_syntax.specs.declared.source.Source.{Source}
@@ -42,14 +43,14 @@ copy_of (t ∷ ts) i d e =
 
 -- what is counted is within its limit
 pub record Limits (source : Source) : Type 0 where
-  pub definitions : definition_count source ≤ 64
-  pub nodes : node_count source ≤ 128
-  pub parts : greatest_by (λ d. most_parts d.body) source.types ≤ 64
-  pub bounds : greatest_by (λ d. greatest_bound d.body) source.types ≤ 100
-  pub multisets : multiset_count source ≤ 32
-  pub procedures : length source.procs ≤ 64
-  pub statements : statement_count source ≤ 1024
-  pub analyses : length source.analyses ≤ 16
+  pub definitions : definition_count source ≤ DEFINITION_LIMIT
+  pub nodes : node_count source ≤ NODE_LIMIT
+  pub parts : greatest_by (λ d. most_parts d.body) source.types ≤ PART_LIMIT
+  pub bounds : greatest_by (λ d. greatest_bound d.body) source.types ≤ BOUND_LIMIT
+  pub multisets : multiset_count source ≤ MULTISET_LIMIT
+  pub procedures : length source.procs ≤ PROCEDURE_LIMIT
+  pub statements : statement_count source ≤ STATEMENT_LIMIT
+  pub analyses : length source.analyses ≤ ANALYSIS_LIMIT
 
 not_passed : (which : CountLimit) (most counted : ℕ) → passed which most counted ≡ [] → counted ≤ most
 not_passed which most counted e = ltb-false most counted (by (nat_lt most counted) e)
@@ -60,14 +61,14 @@ not_passed which most counted e = ltb-false most counted (by (nat_lt most counte
 
 pub within_limits : (source : Source) → limits_passed source ≡ [] → Limits source
 within_limits source e =
-    let a = passed count.Definitions 64 (definition_count source) in
-    let b = passed count.Nodes 128 (node_count source) in
-    let c = passed count.Parts 64 (greatest_by (λ d. most_parts d.body) source.types) in
-    let d = passed count.Bounds 100 (greatest_by (λ d. greatest_bound d.body) source.types) in
-    let f = passed count.Multisets 32 (multiset_count source) in
-    let g = passed count.Procedures 64 (length source.procs) in
-    let h = passed count.Statements 1024 (statement_count source) in
-    let i = passed count.Analyses 16 (length source.analyses) in
+    let a = passed count.Definitions DEFINITION_LIMIT (definition_count source) in
+    let b = passed count.Nodes NODE_LIMIT (node_count source) in
+    let c = passed count.Parts PART_LIMIT (greatest_by (λ d. most_parts d.body) source.types) in
+    let d = passed count.Bounds BOUND_LIMIT (greatest_by (λ d. greatest_bound d.body) source.types) in
+    let f = passed count.Multisets MULTISET_LIMIT (multiset_count source) in
+    let g = passed count.Procedures PROCEDURE_LIMIT (length source.procs) in
+    let h = passed count.Statements STATEMENT_LIMIT (statement_count source) in
+    let i = passed count.Analyses ANALYSIS_LIMIT (length source.analyses) in
     let e7 = nil_left (a ++ b ++ c ++ d ++ f ++ g ++ h) i e in
     let e6 = nil_left (a ++ b ++ c ++ d ++ f ++ g) h e7 in
     let e5 = nil_left (a ++ b ++ c ++ d ++ f) g e6 in
@@ -75,19 +76,19 @@ within_limits source e =
     let e3 = nil_left (a ++ b ++ c) d e4 in
     let e2 = nil_left (a ++ b) c e3 in
     record {
-      definitions = not_passed count.Definitions 64 (definition_count source) (nil_left a b e2);
-      nodes = not_passed count.Nodes 128 (node_count source) (nil_right a b e2);
-      parts = not_passed count.Parts 64 (greatest_by (λ d. most_parts d.body) source.types) (nil_right (a ++ b) c e3);
-      bounds = not_passed count.Bounds 100 (greatest_by (λ d. greatest_bound d.body) source.types) (nil_right (a ++ b ++ c) d e4);
-      multisets = not_passed count.Multisets 32 (multiset_count source) (nil_right (a ++ b ++ c ++ d) f e5);
-      procedures = not_passed count.Procedures 64 (length source.procs) (nil_right (a ++ b ++ c ++ d ++ f) g e6);
-      statements = not_passed count.Statements 1024 (statement_count source) (nil_right (a ++ b ++ c ++ d ++ f ++ g) h e7);
-      analyses = not_passed count.Analyses 16 (length source.analyses) (nil_right (a ++ b ++ c ++ d ++ f ++ g ++ h) i e);
+      definitions = not_passed count.Definitions DEFINITION_LIMIT (definition_count source) (nil_left a b e2);
+      nodes = not_passed count.Nodes NODE_LIMIT (node_count source) (nil_right a b e2);
+      parts = not_passed count.Parts PART_LIMIT (greatest_by (λ d. most_parts d.body) source.types) (nil_right (a ++ b) c e3);
+      bounds = not_passed count.Bounds BOUND_LIMIT (greatest_by (λ d. greatest_bound d.body) source.types) (nil_right (a ++ b ++ c) d e4);
+      multisets = not_passed count.Multisets MULTISET_LIMIT (multiset_count source) (nil_right (a ++ b ++ c ++ d) f e5);
+      procedures = not_passed count.Procedures PROCEDURE_LIMIT (length source.procs) (nil_right (a ++ b ++ c ++ d ++ f) g e6);
+      statements = not_passed count.Statements STATEMENT_LIMIT (statement_count source) (nil_right (a ++ b ++ c ++ d ++ f ++ g) h e7);
+      analyses = not_passed count.Analyses ANALYSIS_LIMIT (length source.analyses) (nil_right (a ++ b ++ c ++ d ++ f ++ g ++ h) i e);
     }
 
-pub copies_limited : (source : Source) → Limits source → (i : ℕ) (d : Definition) → slice_get (definitions source) i ≡ Some d → (most_parts d.right ≤ 64) × (greatest_bound d.right ≤ 100)
+pub copies_limited : (source : Source) → Limits source → (i : ℕ) (d : Definition) → slice_get (definitions source) i ≡ Some d → (most_parts d.right ≤ PART_LIMIT) × (greatest_bound d.right ≤ BOUND_LIMIT)
 copies_limited source l i d e =
     let c = copy_of source.types i d e in
-    let p = greatest_get (λ t. most_parts t.body) source.types c.k c.t 64 l.parts c.is in
-    let b = greatest_get (λ t. greatest_bound t.body) source.types c.k c.t 100 l.bounds c.is in
-    (subst (λ r. most_parts r ≤ 64) (sym c.right) p, subst (λ r. greatest_bound r ≤ 100) (sym c.right) b)
+    let p = greatest_get (λ t. most_parts t.body) source.types c.k c.t PART_LIMIT l.parts c.is in
+    let b = greatest_get (λ t. greatest_bound t.body) source.types c.k c.t BOUND_LIMIT l.bounds c.is in
+    (subst (λ r. most_parts r ≤ PART_LIMIT) (sym c.right) p, subst (λ r. greatest_bound r ≤ BOUND_LIMIT) (sym c.right) b)

@@ -3,11 +3,12 @@ use Rattle.std.proofs.Common.{◌≡◌, ℕ, ◌+◌, ◌*◌, ◌≤◌, List,
 use Rattle.std.specs.Prelude.{flat_map}
 use Rattle.std.proofs.Math.Nat.{add-mul}
 use Rattle.std.proofs.lemmas.List.Sums.{sum_by-cons}
+use Rattle.luo_num.specs.declared.limits.TheConstants.{NUMBER_LIMIT, STATEMENT_LIMIT}
 use Rattle.luo_model.specs.declared.program.Shape.{Shape}
 use Rattle.luo_model.specs.declared.program.Shape.TheVariants as shape
 use Rattle.luo_model.specs.declared.program.Site.{Site}
 use Rattle.luo_model.specs.Program.{Program, Procedure, Items, no_items, Does, shape_of}
-use Rattle.luo_model.specs.Scopes.{Stand, stands, component, IsCollection, greatest_charge, FitsItem, items_in, arms_in}
+use Rattle.luo_model.specs.Scopes.{Stand, stands, component, IsCollection, FitsItem, items_in, arms_in}
 use Rattle.luo_model.specs.Program as plain
 use Rattle.luo_syntax.specs.declared.names.Name.{Name}
 use Rattle.luo_syntax.specs.declared.statements.Stmt.{Stmt, Skip, Charge, Call, Block', Case', Forall', Row_of-Stmt, end_of-Stmt, more_of-Stmt, Row_of-SourceArm, end_of-SourceArm, more_of-SourceArm}
@@ -29,7 +30,7 @@ use Rattle.luo_types.proofs.PatternFacts.{program_over, nodes_of, IsFoundIn, fou
 use Rattle.luo_types.proofs.ValueFits.{SoundSetting, procedure_meant}
 use Rattle.luo_types.proofs.GoodItems.{GoodItems, GoodArms, good_none, good_join, good_call, good_case, good_forall, good_no_arms, good_arm, own_within, join_in}
 
-value_bound : (o : Option Meaning) → ((k v : ℕ) → o ≡ Some (mean.Measure k v) → v ≤ greatest_charge) → value_of o ≤ greatest_charge
+value_bound : (o : Option Meaning) → ((k v : ℕ) → o ≡ Some (mean.Measure k v) → v ≤ NUMBER_LIMIT) → value_of o ≤ NUMBER_LIMIT
 value_bound None h = omega arith
 value_bound (Some (mean.Definition i)) h = omega arith
 value_bound (Some (mean.Measure k v)) h = h k v refl
@@ -54,7 +55,7 @@ walk_fits s (Some q) source inner e = let w = walk_in (shape_at s q.1) source in
 
 module _ (s : Setting) (procs : List Procedure) (sites : List Site) (analyses : List ℕ) (sound : SoundSetting s procs) where
   mutual
-    pub own_bound : (stmt : Stmt) → stmt_own s stmt ≤ stmt_statements stmt * greatest_charge
+    pub own_bound : (stmt : Stmt) → stmt_own s stmt ≤ stmt_statements stmt * NUMBER_LIMIT
     own_bound Skip = omega arith
     own_bound (Charge measure) = omega (arith, value_bound (meant s measure) (λ k v e. sound.charges measure.text k v e))
     own_bound (Call callee arg) = omega arith
@@ -62,9 +63,9 @@ module _ (s : Setting) (procs : List Procedure) (sites : List Site) (analyses : 
     own_bound (Case' var size arms) = omega arith
     own_bound (Forall' var source size body) = omega arith
 
-    pub owns_bound : {n : _} (row : Row_of-Stmt n) → stmts_own s row ≤ stmts_statements row * greatest_charge
+    pub owns_bound : {n : _} (row : Row_of-Stmt n) → stmts_own s row ≤ stmts_statements row * NUMBER_LIMIT
     owns_bound end_of-Stmt = omega arith
-    owns_bound (more_of-Stmt stmt rest) = omega (arith, own_bound stmt, owns_bound rest, add-mul (stmt_statements stmt) (stmts_statements rest) greatest_charge)
+    owns_bound (more_of-Stmt stmt rest) = omega (arith, own_bound stmt, owns_bound rest, add-mul (stmt_statements stmt) (stmts_statements rest) NUMBER_LIMIT)
 
   call_fits : (vars : List ℕ) (o : Option (ℕ × ℕ)) (callee arg : Name) (first : ℕ) → IsFoundIn vars o → procedure_use (meant s callee) callee ≡ [] → argument_breaches o (signature_meant s (meant s callee)).on arg callee ≡ []
       → FitsItem (program_over s procs sites analyses) vars (plain.Call (place_of o) (procedure_of (meant s callee)) first)
@@ -75,7 +76,7 @@ module _ (s : Setting) (procs : List Procedure) (sites : List Site) (analyses : 
       (c.procedure, ap (λ m. slice_get procs (procedure_of m)) f.1 ∙ c.is, argument_fits vars o (signature_meant s (meant s callee)).on c.procedure.on.node arg callee h on argument)
 
   mutual
-    pub stmt_good : (scope : List Variable) (first : ℕ) (stmt : Stmt) → ProperStmt stmt → stmt_statements stmt ≤ 1024 → stmt_breaches s scope stmt ≡ []
+    pub stmt_good : (scope : List Variable) (first : ℕ) (stmt : Stmt) → ProperStmt stmt → stmt_statements stmt ≤ STATEMENT_LIMIT → stmt_breaches s scope stmt ≡ []
         → GoodItems (program_over s procs sites analyses) (nodes_of scope) first (stmt_sites stmt) (stmt_items s scope first stmt)
     stmt_good scope first Skip p l e = good_none (program_over s procs sites analyses) (nodes_of scope) first
     stmt_good scope first (Charge measure) p l e = good_none (program_over s procs sites analyses) (nodes_of scope) first
@@ -101,10 +102,10 @@ module _ (s : Setting) (procs : List Procedure) (sites : List Site) (analyses : 
         let node : walked s o ≡ component (shape_at s x) = ap (walked s) w.is in
         let inner = stmts_good inside first body p (omega arith) w.none in
         good_forall (program_over s procs sites analyses) (nodes_of scope) (place_of o) x first (stmts_sites body) (stmts_own s body) (stmts_items s inside first body)
-        (found_one (nodes_of scope) o w.variable (found_there scope source) w.is) w.collection (own_within (stmts_own s body) (stmts_statements body) greatest_charge (owns_bound body) (omega arith))
+        (found_one (nodes_of scope) o w.variable (found_there scope source) w.is) w.collection (own_within (stmts_own s body) (stmts_statements body) NUMBER_LIMIT (owns_bound body) (omega arith))
         (subst (λ n. GoodItems (program_over s procs sites analyses) (n ∷ []) first (stmts_sites body) (stmts_items s inside first body)) node inner)
 
-    stmts_good : (scope : List Variable) (first : ℕ) {n : _} (row : Row_of-Stmt n) → ProperStmts row → stmts_statements row ≤ 1024 → stmts_breaches s scope row ≡ []
+    stmts_good : (scope : List Variable) (first : ℕ) {n : _} (row : Row_of-Stmt n) → ProperStmts row → stmts_statements row ≤ STATEMENT_LIMIT → stmts_breaches s scope row ≡ []
         → GoodItems (program_over s procs sites analyses) (nodes_of scope) first (stmts_sites row) (stmts_items s scope first row)
     stmts_good scope first end_of-Stmt p l e = good_none (program_over s procs sites analyses) (nodes_of scope) first
     stmts_good scope first (more_of-Stmt stmt rest) p l e =
@@ -112,7 +113,7 @@ module _ (s : Setting) (procs : List Procedure) (sites : List Site) (analyses : 
         (stmt_good scope first stmt p.0 (omega arith) (nil_left (stmt_breaches s scope stmt) (stmts_breaches s scope rest) e))
         (stmts_good scope (first + stmt_sites stmt) rest p.1 (omega arith) (nil_right (stmt_breaches s scope stmt) (stmts_breaches s scope rest) e))
 
-    arms_good : (ss : List Stand) (var : Name) (first : ℕ) {n : _} (row : Row_of-SourceArm n) → ProperArms row → arms_statements row ≤ 1024 → length ss ≡ count_arms row → arms_breaches s ss var row ≡ []
+    arms_good : (ss : List Stand) (var : Name) (first : ℕ) {n : _} (row : Row_of-SourceArm n) → ProperArms row → arms_statements row ≤ STATEMENT_LIMIT → length ss ≡ count_arms row → arms_breaches s ss var row ≡ []
         → GoodArms (program_over s procs sites analyses) ss first (arms_sites row) (arms_core s ss first row)
     arms_good [] var first end_of-SourceArm p l m e = good_no_arms (program_over s procs sites analyses) first
     arms_good (stand ∷ ss) var first end_of-SourceArm p l m e = absurd (omega (arith, m))
@@ -122,12 +123,12 @@ module _ (s : Setting) (procs : List Procedure) (sites : List Site) (analyses : 
         let a = arm_fits s stand var pattern inner (nil_left (arm_breaches s stand var pattern inner) (arms_breaches s ss var rest) e) in
         let good = stmt_good (bound s stand pattern) first body p.0 (omega arith) a.1 in
         good_arm (program_over s procs sites analyses) stand ss (bind_of pattern) (stmt_own s body) first (stmt_sites body) (arms_sites rest) (stmt_items s (bound s stand pattern) first body) (arms_core s ss (first + stmt_sites body) rest)
-        (may_bind s procs sites analyses stand pattern a.0) (own_within (stmt_own s body) (stmt_statements body) greatest_charge (own_bound body) (omega arith))
+        (may_bind s procs sites analyses stand pattern a.0) (own_within (stmt_own s body) (stmt_statements body) NUMBER_LIMIT (own_bound body) (omega arith))
         (subst (λ vars. GoodItems (program_over s procs sites analyses) vars first (stmt_sites body) (stmt_items s (bound s stand pattern) first body)) (bound_same s procs sites analyses stand pattern a.0) good)
         (arms_good ss var (first + stmt_sites body) rest p.1 (omega arith) (omega (arith, m)) (nil_right (arm_breaches s stand var pattern inner) (arms_breaches s ss var rest) e))
 
   -- statements one behind the other
-  pub list_good : (scope : List Variable) (first : ℕ) (stmts : List Stmt) → AllStmts stmts → sum_by stmt_statements stmts ≤ 1024 → flat_map (stmt_breaches s scope) stmts ≡ []
+  pub list_good : (scope : List Variable) (first : ℕ) (stmts : List Stmt) → AllStmts stmts → sum_by stmt_statements stmts ≤ STATEMENT_LIMIT → flat_map (stmt_breaches s scope) stmts ≡ []
       → GoodItems (program_over s procs sites analyses) (nodes_of scope) first (sum_by stmt_sites stmts) (items_of s scope first stmts)
   list_good scope first [] p l e = good_none (program_over s procs sites analyses) (nodes_of scope) first
   list_good scope first (stmt ∷ stmts) p l e =
@@ -137,10 +138,10 @@ module _ (s : Setting) (procs : List Procedure) (sites : List Site) (analyses : 
       (stmt_good scope first stmt p.0 (omega (arith, few)) (nil_left (stmt_breaches s scope stmt) (flat_map (stmt_breaches s scope) stmts) e))
       (list_good scope (first + stmt_sites stmt) stmts p.1 (omega (arith, few)) (nil_right (stmt_breaches s scope stmt) (flat_map (stmt_breaches s scope) stmts) e)))
 
-  pub list_own : (stmts : List Stmt) → sum_by (stmt_own s) stmts ≤ sum_by stmt_statements stmts * greatest_charge
+  pub list_own : (stmts : List Stmt) → sum_by (stmt_own s) stmts ≤ sum_by stmt_statements stmts * NUMBER_LIMIT
   list_own [] = omega arith
   list_own (stmt ∷ stmts) =
-      omega (arith, own_bound stmt, list_own stmts, sum_by-cons (stmt_own s) stmt stmts, ap (λ n. n * greatest_charge) (sum_by-cons stmt_statements stmt stmts), add-mul (stmt_statements stmt) (sum_by stmt_statements stmts) greatest_charge)
+      omega (arith, own_bound stmt, list_own stmts, sum_by-cons (stmt_own s) stmt stmts, ap (λ n. n * NUMBER_LIMIT) (sum_by-cons stmt_statements stmt stmts), add-mul (stmt_statements stmt) (sum_by stmt_statements stmts) NUMBER_LIMIT)
 
 module _ (s : Setting) where
   mutual

@@ -1,7 +1,7 @@
 -- What statements charge and the sites that they take are bounded by their number.
 use Rattle.std.proofs.Common.{ℕ, suc, ◌+◌, ◌*◌, ◌≤◌, List, [], ◌∷◌, Some, sum_by, arith}
 use Rattle.std.proofs.lemmas.List.Sums.{sum_by-cons}
-use Rattle.luo_model.specs.Scopes.{greatest_charge}
+use Rattle.luo_num.specs.declared.limits.TheConstants.{NUMBER_LIMIT}
 use Rattle.luo_syntax.specs.declared.statements.SourceArm.{SourceArm}
 use Rattle.luo_syntax.specs.declared.statements.Stmt.{Stmt, Skip, Charge, Call, Block', Case', Forall', Row_of-Stmt, end_of-Stmt, more_of-Stmt, Row_of-SourceArm, end_of-SourceArm, more_of-SourceArm}
 use Rattle.luo_value_types.specs.declared.setting.Setting.{Setting}
@@ -12,7 +12,7 @@ use Rattle.luo_types.specs.StatementCore.{stmt_own, stmts_own, stmt_sites, stmts
 use Rattle.luo_types.specs.StatementLists.{arm_sites, arm_statements}
 
 mutual
-  pub own-within : (s : Setting) (stmt : Stmt) → HasMeasuresWithin s → stmt_own s stmt ≤ stmt_statements stmt * greatest_charge
+  pub own-within : (s : Setting) (stmt : Stmt) → HasMeasuresWithin s → stmt_own s stmt ≤ stmt_statements stmt * NUMBER_LIMIT
   own-within s Skip within = omega arith
   own-within s (Charge measure) within = omega (arith, charge_within s (Some measure) within)
   own-within s (Call callee arg) within = omega arith
@@ -20,7 +20,7 @@ mutual
   own-within s (Case' var size arms) within = omega arith
   own-within s (Forall' var source size body) within = omega arith
 
-  owns-within : (s : Setting) {n : _} (row : Row_of-Stmt n) → HasMeasuresWithin s → stmts_own s row ≤ stmts_statements row * greatest_charge
+  owns-within : (s : Setting) {n : _} (row : Row_of-Stmt n) → HasMeasuresWithin s → stmts_own s row ≤ stmts_statements row * NUMBER_LIMIT
   owns-within s end_of-Stmt within = omega arith
   owns-within s (more_of-Stmt stmt rest) within = omega (arith, own-within s stmt within, owns-within s rest within)
 
@@ -50,7 +50,7 @@ pub room-first : (one rest own next : ℕ) → HasRoom (one + rest) own next →
 room-first one rest own next room = record { charges = omega (arith, room.charges); sites = omega (arith, room.sites) }
 
 -- room for the rest
-pub room-rest : (one rest own next more taken : ℕ) → HasRoom (one + rest) own next → more ≤ one * greatest_charge → taken ≤ 2 * one → HasRoom rest (own + more) (next + taken)
+pub room-rest : (one rest own next more taken : ℕ) → HasRoom (one + rest) own next → more ≤ one * NUMBER_LIMIT → taken ≤ 2 * one → HasRoom rest (own + more) (next + taken)
 room-rest one rest own next more taken room m t = record { charges = omega (arith, room.charges, m); sites = omega (arith, room.sites, t) }
 
 -- room inside a case or a walk, whose scopes charge by themselves

@@ -1,6 +1,7 @@
 -- What the limits and the check of definitions say of each definition.
 use Rattle.std.proofs.Common.{◌≡◌, ℕ, suc, ◌+◌, ◌*◌, ◌≤◌, max, List, [], ◌∷◌, ◌++◌, map, length, flat_map, sum_by, length-append, refl, ap, ◌∙◌, sym, subst, arith}
 use Rattle.std.proofs.lemmas.List.Sums.{sum_by-cons}
+use Rattle.luo_num.specs.declared.limits.TheConstants.{BOUND_LIMIT, DEFINITION_LIMIT, NODE_LIMIT}
 use Rattle.luo_model.specs.declared.program.Universe.{Universe}
 use Rattle.luo_syntax.specs.declared.names.Name.{Name}
 use Rattle.luo_syntax.specs.declared.types.TypeExpr.{TypeExpr}
@@ -97,9 +98,9 @@ known_breaches s types defs ms names a b c d = cc
 
 -- the definitions of a source within the limits
 pub record Few (s : Source) (defs : List Definition) : Type 0 where
-  pub owners : sum_by (λ (d : TypeDef). length d.names) s.types ≤ 64
-  pub nodes : sum_by (λ (d : Definition). own_nodes d.right) defs ≤ 128
-  pub bounds : greatest_by (λ (d : Definition). greatest_bound d.right) defs ≤ 100
+  pub owners : sum_by (λ (d : TypeDef). length d.names) s.types ≤ DEFINITION_LIMIT
+  pub nodes : sum_by (λ (d : Definition). own_nodes d.right) defs ≤ NODE_LIMIT
+  pub bounds : greatest_by (λ (d : Definition). greatest_bound d.right) defs ≤ BOUND_LIMIT
 
 pub few : (s : Source) (defs : List Definition) → IsWithinLimits s → defs ≡ definitions s → Few s defs
 few s defs e is =

@@ -2,13 +2,14 @@
 use Rattle.std.proofs.Common.{◌≡◌, ℕ, zero, suc, ◌≤◌, List, [], ◌∷◌, length, Option, Some, None, slice_get, refl, sym, ap, ◌∙◌, subst, arith}
 use Rattle.std.specs.Prelude.{Bool, true, false, not, is_some, if◌then◌else◌, nat_eq, slice_index_or, codes, decimal}
 use Rattle.std.proofs.lemmas.Bool.{eqb-true}
+use Rattle.luo_num.specs.declared.limits.TheConstants.{NUMBER_LIMIT}
 use Rattle.luo_model.specs.declared.program.Part.{Part}
 use Rattle.luo_model.specs.declared.program.Shape.{Shape}
 use Rattle.luo_model.specs.declared.program.Shape.TheVariants as shape
 use Rattle.luo_model.specs.declared.program.Site.{Site}
 use Rattle.luo_model.specs.Program as plain
 use Rattle.luo_model.specs.Program.{Program, Procedure, Result}
-use Rattle.luo_model.specs.Scopes.{Stand, stands, factors, IsProductOf, greatest_charge, FitsValue, FitsValues, FitsValueArms, value_count}
+use Rattle.luo_model.specs.Scopes.{Stand, stands, factors, IsProductOf, FitsValue, FitsValues, FitsValueArms, value_count}
 use Rattle.luo_syntax.specs.declared.names.Name.{Name}
 use Rattle.luo_syntax.specs.declared.values.SourceValue.{SourceValue, Given, Made, Atom, Tuple', Branch', Case', Row_of-SourceValue, end_of-SourceValue, more_of-SourceValue, Row_of-SourceValueArm, end_of-SourceValueArm, more_of-SourceValueArm}
 use Rattle.luo_value_types.specs.declared.names.Meaning.{Meaning}
@@ -35,7 +36,7 @@ pub record Callee (s : Setting) (procs : List Procedure) (f : ℕ) : Type 0 wher
 
 -- the measures of a setting are within the limit, and its procedures are those of the program
 pub record SoundSetting (s : Setting) (procs : List Procedure) : Type 0 where
-  pub charges : (text : List ℕ) (k v : ℕ) → meaning s.names text ≡ Some (mean.Measure k v) → v ≤ greatest_charge
+  pub charges : (text : List ℕ) (k v : ℕ) → meaning s.names text ≡ Some (mean.Measure k v) → v ≤ NUMBER_LIMIT
   pub callees : (text : List ℕ) (f : ℕ) → meaning s.names text ≡ Some (mean.Procedure f) → Callee s procs f
 
 pub measure_meant : (o : Option Meaning) (name : Name) → measure_use o name ≡ [] → (k : ℕ) × (v : ℕ) × (o ≡ Some (mean.Measure k v))
@@ -119,11 +120,11 @@ chosen false x y e = absurd (cc)
 
 module _ (s : Setting) (procs : List Procedure) (sites : List Site) (analyses : List ℕ) (sound : SoundSetting s procs) where
   -- the value of a measure that is charged
-  pub charge_within : (charge : Option Name) → charge_use s charge ≡ [] → charge_of s charge ≤ greatest_charge
+  pub charge_within : (charge : Option Name) → charge_use s charge ≡ [] → charge_of s charge ≤ NUMBER_LIMIT
   charge_within None e = omega arith
   charge_within (Some measure) e =
       let m = measure_meant (meant s measure) measure e in
-      subst (λ n. n ≤ greatest_charge) (sym (ap value_of m.2)) (sound.charges measure.text m.0 m.1 m.2)
+      subst (λ n. n ≤ NUMBER_LIMIT) (sym (ap value_of m.2)) (sound.charges measure.text m.0 m.1 m.2)
 
   made_fits : (vars : List ℕ) (o : Option (ℕ × ℕ)) (expected : ℕ) (callee arg : Name) → IsFoundIn vars o
       → (procedure_use (meant s callee) callee ≡ []) → result_breaches (Some expected) (signature_meant s (meant s callee)).result callee ≡ [] → argument_breaches o (signature_meant s (meant s callee)).on arg callee ≡ []

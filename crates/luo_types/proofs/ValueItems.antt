@@ -1,8 +1,9 @@
 -- The body that a value gives: what it charges, its items and its sites.
 use Rattle.std.proofs.Common.{ℕ, suc, ◌+◌, ◌*◌, ◌≤◌, List, [], ◌∷◌, Option, Some, None, arith}
 use Rattle.std.proofs.Math.Nat.{add-mul}
+use Rattle.luo_num.specs.declared.limits.TheConstants.{NUMBER_LIMIT, STATEMENT_LIMIT}
 use Rattle.luo_model.specs.Program.{Program, Value, Given, Made, Atom, Tuple, Branch, Chosen, Values, no_values, value, ValueArms, no_value_arms, value_arm, shape_of}
-use Rattle.luo_model.specs.Scopes.{Stand, stands, bound_nodes, greatest_charge, FitsValue, FitsValues, FitsValueArms, value_own, values_own, value_sites, values_sites, value_arms_sites, value_items, values_items, value_arm_bodies, items_in, arms_in}
+use Rattle.luo_model.specs.Scopes.{Stand, stands, bound_nodes, FitsValue, FitsValues, FitsValueArms, value_own, values_own, value_sites, values_sites, value_arms_sites, value_items, values_items, value_arm_bodies, items_in, arms_in}
 use Rattle.luo_syntax.specs.declared.values.SourceValue as val
 use Rattle.luo_syntax.specs.declared.values.SourceValue.{SourceValue, Row_of-SourceValue, end_of-SourceValue, more_of-SourceValue, Row_of-SourceValueArm, end_of-SourceValueArm, more_of-SourceValueArm}
 use Rattle.luo_value_types.specs.declared.setting.Setting.{Setting}
@@ -33,7 +34,7 @@ abbrev mutual
   value_arms_size (value_arm bind v arms) = value_size v + value_arms_size arms
 
 mutual
-  own_bound : (p : Program) (vars : List ℕ) (expected : ℕ) (v : Value) → FitsValue p vars expected v → value_own v ≤ value_size v * greatest_charge
+  own_bound : (p : Program) (vars : List ℕ) (expected : ℕ) (v : Value) → FitsValue p vars expected v → value_own v ≤ value_size v * NUMBER_LIMIT
   own_bound p vars expected (Given var) h = omega arith
   own_bound p vars expected (Made var callee) h = omega arith
   own_bound p vars expected (Atom weight own) h = omega (arith, h.1)
@@ -41,18 +42,18 @@ mutual
   own_bound p vars expected (Branch number v) h = own_bound p vars _ v h.6
   own_bound p vars expected (Chosen var arms) h = omega arith
 
-  owns_bound : (p : Program) (vars nodes : List ℕ) (vs : Values) → FitsValues p vars nodes vs → values_own vs ≤ values_size vs * greatest_charge
+  owns_bound : (p : Program) (vars nodes : List ℕ) (vs : Values) → FitsValues p vars nodes vs → values_own vs ≤ values_size vs * NUMBER_LIMIT
   owns_bound p vars [] no_values h = omega arith
   owns_bound p vars (x ∷ nodes) no_values h = absurd h
   owns_bound p vars [] (value v vs) h = absurd h
-  owns_bound p vars (x ∷ nodes) (value v vs) h = omega (arith, own_bound p vars x v h.0, owns_bound p vars nodes vs h.1, add-mul (value_size v) (values_size vs) greatest_charge)
+  owns_bound p vars (x ∷ nodes) (value v vs) h = omega (arith, own_bound p vars x v h.0, owns_bound p vars nodes vs h.1, add-mul (value_size v) (values_size vs) NUMBER_LIMIT)
 
 -- what a value charges is within the limit, where it is small
-pub value_within : (p : Program) (vars : List ℕ) (expected : ℕ) (v : Value) → FitsValue p vars expected v → value_size v ≤ 1024 → value_own v ≤ 1024 * greatest_charge
-value_within p vars expected v h l = own_within (value_own v) (value_size v) greatest_charge (own_bound p vars expected v h) l
+pub value_within : (p : Program) (vars : List ℕ) (expected : ℕ) (v : Value) → FitsValue p vars expected v → value_size v ≤ STATEMENT_LIMIT → value_own v ≤ STATEMENT_LIMIT * NUMBER_LIMIT
+value_within p vars expected v h l = own_within (value_own v) (value_size v) NUMBER_LIMIT (own_bound p vars expected v h) l
 
 mutual
-  pub value_good : (p : Program) (vars : List ℕ) (expected first : ℕ) (v : Value) → FitsValue p vars expected v → value_size v ≤ 1024 → GoodItems p vars first (value_sites v) (value_items first v)
+  pub value_good : (p : Program) (vars : List ℕ) (expected first : ℕ) (v : Value) → FitsValue p vars expected v → value_size v ≤ STATEMENT_LIMIT → GoodItems p vars first (value_sites v) (value_items first v)
   value_good p vars expected first (Given var) h l = good_none p vars first
   value_good p vars expected first (Made var callee) h l = good_call p vars var callee first (h.0, h.2, h.3)
   value_good p vars expected first (Atom weight own) h l = good_none p vars first
@@ -60,14 +61,14 @@ mutual
   value_good p vars expected first (Branch number v) h l = value_good p vars _ first v h.6 l
   value_good p vars expected first (Chosen var arms) h l = good_case p vars var h.0 first (value_arms_sites arms) (value_arm_bodies first arms) h.1 h.2 (value_arms_good p (stands h.0 (shape_of p h.0)) expected first arms h.3 (omega arith))
 
-  values_good : (p : Program) (vars nodes : List ℕ) (first : ℕ) (vs : Values) → FitsValues p vars nodes vs → values_size vs ≤ 1024 → GoodItems p vars first (values_sites vs) (values_items first vs)
+  values_good : (p : Program) (vars nodes : List ℕ) (first : ℕ) (vs : Values) → FitsValues p vars nodes vs → values_size vs ≤ STATEMENT_LIMIT → GoodItems p vars first (values_sites vs) (values_items first vs)
   values_good p vars [] first no_values h l = good_none p vars first
   values_good p vars (x ∷ nodes) first no_values h l = absurd h
   values_good p vars [] first (value v vs) h l = absurd h
   values_good p vars (x ∷ nodes) first (value v vs) h l =
       good_join p vars first (value_sites v) (values_sites vs) (value_items first v) (values_items (first + value_sites v) vs) (value_good p vars x first v h.0 (omega arith)) (values_good p vars nodes (first + value_sites v) vs h.1 (omega arith))
 
-  value_arms_good : (p : Program) (ss : List Stand) (expected first : ℕ) (arms : ValueArms) → FitsValueArms p ss expected arms → value_arms_size arms ≤ 1024 → GoodArms p ss first (value_arms_sites arms) (value_arm_bodies first arms)
+  value_arms_good : (p : Program) (ss : List Stand) (expected first : ℕ) (arms : ValueArms) → FitsValueArms p ss expected arms → value_arms_size arms ≤ STATEMENT_LIMIT → GoodArms p ss first (value_arms_sites arms) (value_arm_bodies first arms)
   value_arms_good p [] expected first no_value_arms h l = good_no_arms p first
   value_arms_good p (stand ∷ ss) expected first no_value_arms h l = absurd h
   value_arms_good p [] expected first (value_arm bind v arms) h l = absurd h

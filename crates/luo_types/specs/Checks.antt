@@ -1,5 +1,6 @@
 -- The answers of a check.
 use Rattle.std.specs.Prelude.{◌≡◌, ◌⊎◌, ℕ, ◌≤◌, ◌<◌, List, [], ◌∷◌, Result, Ok, Err}
+use Rattle.luo_num.specs.declared.limits.TheConstants.{WALK_LIMIT}
 use Rattle.luo_model.specs.Program.{Program}
 use Rattle.luo_model.specs.View.{Held}
 use Rattle.luo_scan.specs.declared.token.Token.{Token}
@@ -37,11 +38,11 @@ BreaksFirst source b = (rest : List Breach) × (breaches source ≡ b ∷ rest)
 
 -- more walks over multisets and powersets than the limit, where nothing else is wrong
 abbrev pub WalksTooMuch : Source → Type 0
-WalksTooMuch source = (breaches source ≡ []) × (32 < walk_count (core source))
+WalksTooMuch source = (breaches source ≡ []) × (WALK_LIMIT < walk_count (core source))
 
 -- the source is that of this program: no limit is passed and no rule broken
 abbrev pub IsChecked : Source → Program → Type 0
-IsChecked source p = IsWithinLimits source × IsCore source p × (walk_count p ≤ 32)
+IsChecked source p = IsWithinLimits source × IsCore source p × (walk_count p ≤ WALK_LIMIT)
 
 -- why the source is no program: a limit, the first breach, the limit on walks, or memory was refused
 abbrev pub IsUnchecked : Source → CheckError → Type 0

@@ -1,5 +1,6 @@
 -- What is counted in a source, and the limits that it passes.
 use Rattle.std.specs.Prelude.{ℕ, suc, ◌+◌, ◌*◌, max, List, [], ◌∷◌, ◌++◌, length, sum_by, Option, Some, None, nat_lt, if◌then◌else◌}
+use Rattle.luo_num.specs.declared.limits.TheConstants.{ANALYSIS_LIMIT, BOUND_LIMIT, DEFINITION_LIMIT, MULTISET_LIMIT, NODE_LIMIT, PART_LIMIT, PROCEDURE_LIMIT, STATEMENT_LIMIT}
 use Rattle.luo_model.specs.declared.program.Kind.{Kind}
 use Rattle.luo_model.specs.declared.program.Kind.TheVariants.{Multiset, Powerset}
 use Rattle.luo_syntax.specs.declared.types.Range.{Range}
@@ -138,11 +139,11 @@ passed which most counted = if nat_lt most counted then which ∷ [] else []
 -- the limits that a source passes, in order, but for that on walks
 abbrev pub limits_passed : Source → List CountLimit
 limits_passed source =
-    passed count.Definitions 64 (definition_count source)
-    ++ passed count.Nodes 128 (node_count source)
-    ++ passed count.Parts 64 (greatest_by (λ d. most_parts d.body) source.types)
-    ++ passed count.Bounds 100 (greatest_by (λ d. greatest_bound d.body) source.types)
-    ++ passed count.Multisets 32 (multiset_count source)
-    ++ passed count.Procedures 64 (length source.procs)
-    ++ passed count.Statements 1024 (statement_count source)
-    ++ passed count.Analyses 16 (length source.analyses)
+    passed count.Definitions DEFINITION_LIMIT (definition_count source)
+    ++ passed count.Nodes NODE_LIMIT (node_count source)
+    ++ passed count.Parts PART_LIMIT (greatest_by (λ d. most_parts d.body) source.types)
+    ++ passed count.Bounds BOUND_LIMIT (greatest_by (λ d. greatest_bound d.body) source.types)
+    ++ passed count.Multisets MULTISET_LIMIT (multiset_count source)
+    ++ passed count.Procedures PROCEDURE_LIMIT (length source.procs)
+    ++ passed count.Statements STATEMENT_LIMIT (statement_count source)
+    ++ passed count.Analyses ANALYSIS_LIMIT (length source.analyses)

@@ -18,12 +18,10 @@ use crate::procedures::{analyses, procedures};
 use crate::types::types;
 use luo_model::{Proc, Program};
 use luo_num::Items;
+use luo_num::limits::WALK_LIMIT;
 use luo_syntax::Source;
 use luo_value_types::{Setting, Stop};
 use std::alloc::Global;
-
-/// The most walks over multisets and powersets.
-const WALKS: usize = 32;
 
 /// The parts of a source that breaks no rule.
 #[derive(Drop)]
@@ -65,7 +63,7 @@ fn decide(alloc: Global, source: &Source) -> Result<Program, CheckError>
         analyses,
     } = check_parts(alloc, source)?;
     let (sites, walks) = sites_of(alloc, &setting, procs.as_slice())?;
-    if walks > WALKS {
+    if walks > WALK_LIMIT {
         return Err(CheckError::Limit {
             which: CountLimit::Walks,
         });

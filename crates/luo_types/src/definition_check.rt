@@ -2,6 +2,7 @@
 #![tactic(auto, using(luo_value_types::proofs::StopLemmas::stop_steps))]
 
 ghost use Rattle.std.specs.Prelude.{◌≡◌, ◌+◌, ◌≤◌, [], length, sum_by, IfErr, IfOk, OnOk};
+ghost use Rattle.luo_num.specs.declared.limits.TheConstants.{DEFINITION_LIMIT};
 ghost use Rattle.luo_value_types.specs.Breaches.{StopsAt};
 ghost use Rattle.luo_types.specs.TypeBreaches.{new_types, first_circle, circle_breaches, type_breaches, types_breaches, measures_breaches};
 
@@ -16,7 +17,7 @@ use std::alloc::Global;
 
 // Checks the names of definitions from this number on.
 fn check_new_types(alloc: Global, names: &Names, first: usize, owners: &[Name]) -> Result<(), Stop>
-    requires { first + length owners.now ≤ 64 }
+    requires { first + length owners.now ≤ DEFINITION_LIMIT }
     ensures ok { OnOk result (new_types names.now first owners.now ≡ []) }
     ensures stops { IfErr result (λ s. StopsAt (new_types names.now first owners.now) s) }
 {
@@ -34,7 +35,7 @@ fn first_circle(
     first: usize,
     owners: &[Name],
 ) -> Result<Option<Items<Text>>, NoMemory>
-    requires { first + length owners.now ≤ 64 }
+    requires { first + length owners.now ≤ DEFINITION_LIMIT }
     ensures { IfOk result (λ found. found ≡ first_circle names.now defs.now first owners.now) }
 {
     for (k, _owner) in owners.iter().enumerate() {
@@ -53,7 +54,7 @@ fn check_circles(
     first: usize,
     def: &TypeDef,
 ) -> Result<(), Stop>
-    requires { first + length def.now.names ≤ 64 }
+    requires { first + length def.now.names ≤ DEFINITION_LIMIT }
     ensures ok { OnOk result (circle_breaches names.now defs.now first def.now.names def.now.body ≡ []) }
     ensures stops { IfErr result (λ s. StopsAt (circle_breaches names.now defs.now first def.now.names def.now.body) s) }
 {
@@ -74,7 +75,7 @@ fn check_circles(
 
 // Checks the definitions of one line, from this number on.
 fn check_type(checker: &Checker, defs: &[Entry], first: usize, def: &TypeDef) -> Result<(), Stop>
-    requires { first + length def.now.names ≤ 64 }
+    requires { first + length def.now.names ≤ DEFINITION_LIMIT }
     ensures ok { OnOk result (type_breaches checker.now.universe checker.now.names.now defs.now first def.now ≡ []) }
     ensures stops { IfErr result (λ s. StopsAt (type_breaches checker.now.universe checker.now.names.now defs.now first def.now) s) }
 {
@@ -86,7 +87,7 @@ fn check_type(checker: &Checker, defs: &[Entry], first: usize, def: &TypeDef) ->
 
 /// Checks the definitions.
 pub(crate) fn check_types(checker: &Checker, defs: &[Entry], types: &[TypeDef]) -> Result<(), Stop>
-    requires { sum_by (λ d. length d.names) types.now ≤ 64 }
+    requires { sum_by (λ d. length d.names) types.now ≤ DEFINITION_LIMIT }
     ensures ok { OnOk result (types_breaches checker.now.universe checker.now.names.now defs.now 0 types.now ≡ []) }
     ensures stops { IfErr result (λ s. StopsAt (types_breaches checker.now.universe checker.now.names.now defs.now 0 types.now) s) }
 {

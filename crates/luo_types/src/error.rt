@@ -10,23 +10,24 @@ use std::alloc::{AllocError, AllocFailed};
 /// What is counted in a source, and has a greatest number.
 #[derive(Clone, Copy, Debug, PartialEq, Eq)]
 pub enum CountLimit {
-    /// At most 64 names of types are defined.
+    /// Names of types that are defined, at most `DEFINITION_LIMIT`.
     Definitions,
-    /// At most 128 nodes: atoms, unions, products and collections, of each copy of a right side.
+    /// Nodes, at most `NODE_LIMIT`: atoms, unions, products and collections, of each copy of a right side.
     Nodes,
-    /// At most 64 branches of one union, or factors of one product.
+    /// Branches of one union, or factors of one product, at most `PART_LIMIT`.
     Parts,
-    /// At most 100 as a number in a bound.
+    /// A number in a bound, at most `BOUND_LIMIT`.
     Bounds,
-    /// At most 32 nodes that are multisets or powersets.
+    /// Nodes that are multisets or powersets, at most `MULTISET_LIMIT`.
     Multisets,
-    /// At most 64 procedures.
+    /// Procedures, at most `PROCEDURE_LIMIT`.
     Procedures,
-    /// At most 1,024 statements: `skip`, charges, calls, cases and walks, and in values each atom, variable handed on, call and case.
+    /// Statements, at most `STATEMENT_LIMIT`: `skip`, charges, calls, cases and walks, and in values each atom, variable
+    /// handed on, call and case.
     Statements,
-    /// At most 16 analyze lines.
+    /// Analyze lines, at most `ANALYSIS_LIMIT`.
     Analyses,
-    /// At most 32 walks over multisets and powersets.
+    /// Walks over multisets and powersets, at most `WALK_LIMIT`.
     Walks,
 }
 

@@ -7,24 +7,12 @@ ghost use Rattle.luo_types.specs.Checks.{PassesFirst, IsWithinLimits};
 use crate::counts::{TypeCounts, count_expr};
 use crate::error::CountLimit;
 use crate::statement_counts::count_procs;
+use luo_num::limits::{
+    ANALYSIS_LIMIT, BOUND_LIMIT, DEFINITION_LIMIT, MULTISET_LIMIT, NODE_LIMIT, PART_LIMIT,
+    PROCEDURE_LIMIT, STATEMENT_LIMIT,
+};
 use luo_num::{marked_add, marked_mul};
 use luo_syntax::{Source, TypeDef};
-
-const DEFINITIONS: u128 = 64;
-
-const NODES: u128 = 128;
-
-const PARTS: usize = 64;
-
-const BOUNDS: u128 = 100;
-
-const MULTISETS: u128 = 32;
-
-const PROCEDURES: usize = 64;
-
-const STATEMENTS: u128 = 1024;
-
-const ANALYSES: usize = 16;
 
 // Counts in a definition, with a copy of the right side for each name.
 fn count_type(def: &TypeDef) -> TypeCounts
@@ -73,29 +61,29 @@ pub(crate) fn passed_limit(source: &Source) -> Option<CountLimit>
     ensures none { IfNone result (IsWithinLimits source.now) }
 {
     let types = source.types.as_slice();
-    if count_names(types) > DEFINITIONS {
+    if count_names(types) > DEFINITION_LIMIT {
         return Some(CountLimit::Definitions);
     }
     let counts = count_types(types);
-    if counts.nodes > NODES {
+    if counts.nodes > NODE_LIMIT {
         return Some(CountLimit::Nodes);
     }
-    if counts.parts > PARTS {
+    if counts.parts > PART_LIMIT {
         return Some(CountLimit::Parts);
     }
-    if counts.bound > BOUNDS {
+    if counts.bound > BOUND_LIMIT {
         return Some(CountLimit::Bounds);
     }
-    if counts.multisets > MULTISETS {
+    if counts.multisets > MULTISET_LIMIT {
         return Some(CountLimit::Multisets);
     }
-    if source.procs.len() > PROCEDURES {
+    if source.procs.len() > PROCEDURE_LIMIT {
         return Some(CountLimit::Procedures);
     }
-    if count_procs(source.procs.as_slice()) > STATEMENTS {
+    if count_procs(source.procs.as_slice()) > STATEMENT_LIMIT {
         return Some(CountLimit::Statements);
     }
-    if source.analyses.len() > ANALYSES {
+    if source.analyses.len() > ANALYSIS_LIMIT {
         return Some(CountLimit::Analyses);
     }
     None

@@ -1,5 +1,6 @@
 // Where names lead from definition to definition.
 ghost use Rattle.std.specs.Prelude.{◌≡◌, ◌+◌, ◌<◌, ◌≤◌, length, sum_by, suc};
+ghost use Rattle.luo_num.specs.declared.limits.TheConstants.{NODE_LIMIT};
 ghost use Rattle.luo_types.specs.Counted.{own_nodes};
 ghost use Rattle.luo_types.specs.Definitions.{definition_meant, named_by, next, first_node, node_of};
 
@@ -40,7 +41,7 @@ pub(crate) fn next(names: &Names, defs: &[Entry], i: usize) -> Option<usize>
 
 // The number of nodes of definitions.
 fn total_nodes(defs: &[Entry]) -> usize
-    requires { sum_by (λ d. own_nodes d.right) defs.now ≤ 128 }
+    requires { sum_by (λ d. own_nodes d.right) defs.now ≤ NODE_LIMIT }
     ensures { result ≡ sum_by (λ d. own_nodes d.right) defs.now }
 {
     let mut total = 0;
@@ -52,7 +53,7 @@ fn total_nodes(defs: &[Entry]) -> usize
 
 // The first node of a definition.
 fn first_node(defs: &[Entry], i: usize) -> usize
-    requires { sum_by (λ d. own_nodes d.right) defs.now ≤ 128 }
+    requires { sum_by (λ d. own_nodes d.right) defs.now ≤ NODE_LIMIT }
     ensures { result ≡ first_node defs.now i }
 {
     total_nodes(&defs[..i.min(defs.len())])
@@ -60,7 +61,7 @@ fn first_node(defs: &[Entry], i: usize) -> usize
 
 /// The node of a definition, and 0 where names lead round and round.
 pub(crate) fn node_of(names: &Names, defs: &[Entry], i: usize) -> usize
-    requires { sum_by (λ d. own_nodes d.right) defs.now ≤ 128 }
+    requires { sum_by (λ d. own_nodes d.right) defs.now ≤ NODE_LIMIT }
     ensures { result ≡ node_of names.now defs.now i }
 {
     let mut at = i;

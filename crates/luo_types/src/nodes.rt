@@ -1,5 +1,6 @@
 // The nodes of definitions.
 ghost use Rattle.std.specs.Prelude.{◌≡◌, ◌+◌, ◌≤◌, [], ◌∷◌, ◌++◌, sum_by, flat_map, OnOk};
+ghost use Rattle.luo_num.specs.declared.limits.TheConstants.{BOUND_LIMIT, NODE_LIMIT};
 ghost use Rattle.luo_model.specs.declared.program.Shape.TheVariants as shape;
 ghost use Rattle.luo_types.specs.Counted.{own_nodes, greatest_of, greatest_bound, greatest_by};
 ghost use Rattle.luo_types.specs.TypeBreaches.{low_of, high_of, expr_breaches};
@@ -15,7 +16,7 @@ use luo_syntax::{Bound, TypeExpr};
 
 // The least number of components under a bound.
 fn low_of(kind: Kind, bound: Option<Bound>) -> u32
-    requires { greatest_of bound ≤ 100 }
+    requires { greatest_of bound ≤ BOUND_LIMIT }
     ensures { result ≡ low_of kind bound }
 {
     match bound {
@@ -26,7 +27,7 @@ fn low_of(kind: Kind, bound: Option<Bound>) -> u32
 
 // The greatest number of components under a bound, where there is one.
 fn high_of(bound: Option<Bound>) -> Option<u32>
-    requires { greatest_of bound ≤ 100 }
+    requires { greatest_of bound ≤ BOUND_LIMIT }
     ensures { result ≡ high_of bound }
 {
     match high_in(bound?.range) {
@@ -44,10 +45,10 @@ pub(crate) fn put(
     at: Spot,
     nodes: &mut Items<Node>,
 ) -> Result<(), NoMemory>
-    requires room { at.node + own_nodes expr.now ≤ 128 }
+    requires room { at.node + own_nodes expr.now ≤ NODE_LIMIT }
     requires inside { at.place ≤ at.node }
     requires clean { expr_breaches scheme.now.universe scheme.now.names expr.now ≡ [] }
-    requires small { greatest_bound expr.now ≤ 100 }
+    requires small { greatest_bound expr.now ≤ BOUND_LIMIT }
     ensures { OnOk result (nodes.new ≡ nodes.old ++ nodes_at scheme.now.names scheme.now.defs.items owner at expr.now) }
 {
     match expr {
@@ -78,10 +79,10 @@ fn put_union(
     at: Spot,
     nodes: &mut Items<Node>,
 ) -> Result<(), NoMemory>
-    requires room { at.node + 1 + sum_by own_nodes parts.now ≤ 128 }
+    requires room { at.node + 1 + sum_by own_nodes parts.now ≤ NODE_LIMIT }
     requires inside { at.place ≤ at.node }
     requires clean { flat_map (expr_breaches scheme.now.universe scheme.now.names) parts.now ≡ [] }
-    requires small { greatest_by greatest_bound parts.now ≤ 100 }
+    requires small { greatest_by greatest_bound parts.now ≤ BOUND_LIMIT }
     ensures { OnOk result (nodes.new ≡ nodes.old ++ record { shape = shape.Union (parts_of scheme.now.names scheme.now.defs.items (behind at 1) parts.now); owner = owner; place = at.place } ∷ nodes_of scheme.now.names scheme.now.defs.items owner (behind at 1) parts.now) }
 {
     let inner = at.behind(1);
@@ -105,10 +106,10 @@ fn put_product(
     at: Spot,
     nodes: &mut Items<Node>,
 ) -> Result<(), NoMemory>
-    requires room { at.node + 1 + sum_by own_nodes parts.now ≤ 128 }
+    requires room { at.node + 1 + sum_by own_nodes parts.now ≤ NODE_LIMIT }
     requires inside { at.place ≤ at.node }
     requires clean { flat_map (expr_breaches scheme.now.universe scheme.now.names) parts.now ≡ [] }
-    requires small { greatest_by greatest_bound parts.now ≤ 100 }
+    requires small { greatest_by greatest_bound parts.now ≤ BOUND_LIMIT }
     ensures { OnOk result (nodes.new ≡ nodes.old ++ record { shape = shape.Product (parts_of scheme.now.names scheme.now.defs.items (behind at 1) parts.now); owner = owner; place = at.place } ∷ nodes_of scheme.now.names scheme.now.defs.items owner (behind at 1) parts.now) }
 {
     let inner = at.behind(1);
@@ -134,11 +135,11 @@ fn put_collection(
     at: Spot,
     nodes: &mut Items<Node>,
 ) -> Result<(), NoMemory>
-    requires room { at.node + 1 + own_nodes part.now ≤ 128 }
+    requires room { at.node + 1 + own_nodes part.now ≤ NODE_LIMIT }
     requires inside { at.place ≤ at.node }
     requires clean { expr_breaches scheme.now.universe scheme.now.names part.now ≡ [] }
-    requires small { greatest_bound part.now ≤ 100 }
-    requires bounded { greatest_of bound ≤ 100 }
+    requires small { greatest_bound part.now ≤ BOUND_LIMIT }
+    requires bounded { greatest_of bound ≤ BOUND_LIMIT }
     ensures { OnOk result (nodes.new ≡ nodes.old ++ record { shape = shape.Coll kind (part_at scheme.now.names scheme.now.defs.items (behind at 1) part.now) (low_of kind bound) (high_of bound); owner = owner; place = at.place } ∷ nodes_at scheme.now.names scheme.now.defs.items owner (behind at 1) part.now) }
 {
     let inner = at.behind(1);
@@ -165,10 +166,10 @@ fn put_all(
     at: Spot,
     nodes: &mut Items<Node>,
 ) -> Result<(), NoMemory>
-    requires room { at.node + sum_by own_nodes exprs.now ≤ 128 }
+    requires room { at.node + sum_by own_nodes exprs.now ≤ NODE_LIMIT }
     requires inside { at.place ≤ at.node }
     requires clean { flat_map (expr_breaches scheme.now.universe scheme.now.names) exprs.now ≡ [] }
-    requires small { greatest_by greatest_bound exprs.now ≤ 100 }
+    requires small { greatest_by greatest_bound exprs.now ≤ BOUND_LIMIT }
     ensures { OnOk result (nodes.new ≡ nodes.old ++ nodes_of scheme.now.names scheme.now.defs.items owner at exprs.now) }
 {
     let mut spot = at;

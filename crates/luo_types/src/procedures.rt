@@ -2,6 +2,7 @@
 #![tactic(auto, using(luo_value_types::proofs::StopLemmas::stop_steps))]
 
 ghost use Rattle.std.specs.Prelude.{◌≡◌, [], ◌∷◌, ◌++◌, ◌+◌, ◌*◌, ◌≤◌, Some, map, flat_map, length, sum_by, IfOk, IfErr, OnOk};
+ghost use Rattle.luo_num.specs.declared.limits.TheConstants.{PROCEDURE_LIMIT, STATEMENT_LIMIT};
 ghost use Rattle.luo_model.specs.Scopes.{value_body, value_sites};
 ghost use Rattle.luo_model.specs.View as model;
 ghost use Rattle.luo_value_types.specs.Breaches.{StopsAt};
@@ -171,8 +172,8 @@ pub(crate) fn procedures(
     setting: &Setting,
     procs: &[ProcDef],
 ) -> Result<Items<Proc>, Stop>
-    requires statements { sum_by (λ p. body_statements p.body) procs.now ≤ 1024 }
-    requires few { length procs.now ≤ 64 }
+    requires statements { sum_by (λ p. body_statements p.body) procs.now ≤ STATEMENT_LIMIT }
+    requires few { length procs.now ≤ PROCEDURE_LIMIT }
     requires within { HasMeasuresWithin setting.now }
     requires branches { HasFewBranches setting.now }
     ensures ok { IfOk result (λ made. AreProcsMade setting.now procs.now made) }

@@ -1,5 +1,6 @@
 // The definitions of a source with their nodes, and what names mean.
 ghost use Rattle.std.specs.Prelude.{◌≡◌, ◌+◌, ◌≤◌, length, sum_by, IfOk};
+ghost use Rattle.luo_num.specs.declared.limits.TheConstants.{NODE_LIMIT};
 ghost use Rattle.luo_value_types.specs.Meanings.{meaning};
 ghost use Rattle.luo_types.specs.Counted.{own_nodes};
 ghost use Rattle.luo_types.specs.Definitions.{definition_meant};
@@ -36,7 +37,7 @@ impl Model for Spot {
 impl Spot {
     /// So many nodes behind.
     pub fn behind(self, count: usize) -> Spot
-        requires room { self.node + count ≤ 128 }
+        requires room { self.node + count ≤ NODE_LIMIT }
         requires inside { self.place ≤ self.node }
         ensures { result ≡ behind self count }
     {
@@ -61,7 +62,7 @@ pub(crate) struct Scheme<'s> {
 
 // The node of each definition.
 fn nodes_of(alloc: Global, names: &Names, defs: &[Entry]) -> Result<Vec<usize>, NoMemory>
-    requires { sum_by (λ d. own_nodes d.right) defs.now ≤ 128 }
+    requires { sum_by (λ d. own_nodes d.right) defs.now ≤ NODE_LIMIT }
     ensures { IfOk result (λ nodes. AreNodes names.now defs.now nodes.items) }
 {
     let mut nodes = Vec::new(alloc);
@@ -79,7 +80,7 @@ impl<'s> Scheme<'s> {
         names: Names,
         defs: Vec<Entry<'s>>,
     ) -> Result<Scheme<'s>, NoMemory>
-        requires few { sum_by (λ d. own_nodes d.right) defs.items ≤ 128 }
+        requires few { sum_by (λ d. own_nodes d.right) defs.items ≤ NODE_LIMIT }
         requires below { MeanBelow names (length defs.items) }
         ensures universe { IfOk result (λ s. s.universe ≡ universe) }
         ensures names { IfOk result (λ s. s.names ≡ names) }
@@ -126,7 +127,7 @@ impl<'s> Scheme<'s> {
 
     /// The parts that stand for type expressions, one behind the other.
     pub fn parts(&self, at: Spot, exprs: &[TypeExpr]) -> Result<Items<Part>, NoMemory>
-        requires room { at.node + sum_by own_nodes exprs.now ≤ 128 }
+        requires room { at.node + sum_by own_nodes exprs.now ≤ NODE_LIMIT }
         requires inside { at.place ≤ at.node }
         ensures { IfOk result (λ parts. parts ≡ parts_of self.now.names self.now.defs.items at exprs.now) }
     {

@@ -1,5 +1,6 @@
 // The setting that definitions make.
 ghost use Rattle.std.specs.Prelude.{◌≡◌, ◌≤◌, [], map, flat_map, sum_by, IfOk};
+ghost use Rattle.luo_num.specs.declared.limits.TheConstants.{BOUND_LIMIT, NODE_LIMIT};
 ghost use Rattle.luo_types.specs.Counted.{own_nodes, greatest_bound, greatest_by};
 ghost use Rattle.luo_types.specs.TypeBreaches.{expr_breaches};
 ghost use Rattle.luo_types.specs.Nodes.{defs_from, nodes_from, named_node, signature_of};
@@ -15,7 +16,7 @@ use luo_value_types::{Setting, Signature};
 
 // The definitions in the core form.
 fn core_defs(scheme: &Scheme) -> Result<Items<Def>, NoMemory>
-    requires { sum_by (λ d. own_nodes d.right) scheme.now.defs.items ≤ 128 }
+    requires { sum_by (λ d. own_nodes d.right) scheme.now.defs.items ≤ NODE_LIMIT }
     ensures { IfOk result (λ defs. defs ≡ defs_from scheme.now.names scheme.now.defs.items 0 scheme.now.defs.items) }
 {
     let mut defs = Items::new(scheme.alloc);
@@ -31,9 +32,9 @@ fn core_defs(scheme: &Scheme) -> Result<Items<Def>, NoMemory>
 
 // The nodes in the core form.
 fn core_nodes(scheme: &Scheme) -> Result<Items<Node>, NoMemory>
-    requires few { sum_by (λ d. own_nodes d.right) scheme.now.defs.items ≤ 128 }
+    requires few { sum_by (λ d. own_nodes d.right) scheme.now.defs.items ≤ NODE_LIMIT }
     requires clean { flat_map (λ d. expr_breaches scheme.now.universe scheme.now.names d.right) scheme.now.defs.items ≡ [] }
-    requires small { greatest_by (λ d. greatest_bound d.right) scheme.now.defs.items ≤ 100 }
+    requires small { greatest_by (λ d. greatest_bound d.right) scheme.now.defs.items ≤ BOUND_LIMIT }
     ensures { IfOk result (λ nodes. nodes ≡ nodes_from scheme.now.names scheme.now.defs.items 0 0 scheme.now.defs.items) }
 {
     let mut nodes = Items::new(scheme.alloc);
@@ -87,9 +88,9 @@ fn signatures(scheme: &Scheme, procs: &[ProcDef]) -> Result<Items<Signature>, No
 
 /// The setting of procedures over these definitions.
 pub(crate) fn setting(scheme: Scheme, procs: &[ProcDef]) -> Result<Setting, NoMemory>
-    requires few { sum_by (λ d. own_nodes d.right) scheme.defs.items ≤ 128 }
+    requires few { sum_by (λ d. own_nodes d.right) scheme.defs.items ≤ NODE_LIMIT }
     requires clean { flat_map (λ d. expr_breaches scheme.universe scheme.names d.right) scheme.defs.items ≡ [] }
-    requires small { greatest_by (λ d. greatest_bound d.right) scheme.defs.items ≤ 100 }
+    requires small { greatest_by (λ d. greatest_bound d.right) scheme.defs.items ≤ BOUND_LIMIT }
     ensures universe { IfOk result (λ s. s.universe ≡ scheme.entry.universe) }
     ensures names { IfOk result (λ s. s.names ≡ scheme.entry.names) }
     ensures defs { IfOk result (λ s. s.defs ≡ defs_from scheme.entry.names scheme.entry.defs.items 0 scheme.entry.defs.items) }

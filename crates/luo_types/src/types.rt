@@ -2,6 +2,7 @@
 #![tactic(auto, using(luo_value_types::proofs::StopLemmas::stop_steps))]
 
 ghost use Rattle.std.specs.Prelude.{◌≡◌, ◌≤◌, ◌++◌, [], length, sum_by, IfOk, IfErr, OnOk};
+ghost use Rattle.luo_num.specs.declared.limits.TheConstants.{DEFINITION_LIMIT};
 ghost use Rattle.luo_value_types.specs.Breaches.{StopsAt};
 ghost use Rattle.luo_types.specs.Definitions.{names_of, definitions};
 ghost use Rattle.luo_types.specs.TypeBreaches.{types_breaches, measures_breaches, first_breaches};
@@ -28,7 +29,7 @@ fn check_all(
     measures: &[Measured],
     types: &[TypeDef],
 ) -> Result<(), Stop>
-    requires { sum_by (λ d. length d.names) types.now ≤ 64 }
+    requires { sum_by (λ d. length d.names) types.now ≤ DEFINITION_LIMIT }
     ensures definitions { OnOk result (types_breaches universe names.now defs.now 0 types.now ≡ []) }
     ensures measures { OnOk result (measures_breaches names.now 0 measures.now ≡ []) }
     ensures stops { IfErr result (λ s. StopsAt (types_breaches universe names.now defs.now 0 types.now ++ measures_breaches names.now 0 measures.now) s) }

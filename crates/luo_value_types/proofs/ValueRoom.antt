@@ -1,8 +1,9 @@
 -- What the core form of a value takes is bounded by its statements.
 use Rattle.std.proofs.Common.{◌≡◌, ℕ, ◌*◌, ◌≤◌, List, [], ◌∷◌, Option, Some, None, refl, arith}
+use Rattle.luo_num.specs.declared.limits.TheConstants.{NUMBER_LIMIT}
 use Rattle.luo_syntax.specs.declared.names.Name.{Name}
 use Rattle.luo_syntax.specs.declared.values.SourceValue.{SourceValue, Given, Made, Atom, Tuple', Branch', Case', Row_of-SourceValue, end_of-SourceValue, more_of-SourceValue, Row_of-SourceValueArm, end_of-SourceValueArm, more_of-SourceValueArm}
-use Rattle.luo_model.specs.Scopes.{Stand, greatest_charge, value_own, values_own, value_sites, values_sites, value_arms_sites}
+use Rattle.luo_model.specs.Scopes.{Stand, value_own, values_own, value_sites, values_sites, value_arms_sites}
 use Rattle.luo_value_types.specs.declared.names.Meaning.{Meaning}
 use Rattle.luo_value_types.specs.declared.names.Meaning.TheVariants.{Definition, Measure, Procedure}
 use Rattle.luo_value_types.specs.declared.setting.Setting.{Setting}
@@ -38,18 +39,18 @@ mutual
   arms_within s [] expected (more_of-SourceValueArm pattern body rest) = omega arith
   arms_within s (stand ∷ stands) expected (more_of-SourceValueArm pattern body rest) = omega (arith, sites_within s (bound s stand pattern) expected body, arms_within s stands expected rest)
 
-value_within : (s : Setting) (text : List ℕ) → HasMeasuresWithin s → (meant : Option Meaning) → meanings.meaning s.names text ≡ meant → meanings.value_of meant ≤ greatest_charge
+value_within : (s : Setting) (text : List ℕ) → HasMeasuresWithin s → (meant : Option Meaning) → meanings.meaning s.names text ≡ meant → meanings.value_of meant ≤ NUMBER_LIMIT
 value_within s text within None e = omega arith
 value_within s text within (Some (Definition i)) e = omega arith
 value_within s text within (Some (Measure number value)) e = within text number value e
 value_within s text within (Some (Procedure f)) e = omega arith
 
-pub charge_within : (s : Setting) (charge : Option Name) → HasMeasuresWithin s → charge_of s charge ≤ greatest_charge
+pub charge_within : (s : Setting) (charge : Option Name) → HasMeasuresWithin s → charge_of s charge ≤ NUMBER_LIMIT
 charge_within s None within = omega arith
 charge_within s (Some measure) within = value_within s measure.text within (meant s measure) refl
 
 mutual
-  pub own_within : (s : Setting) (scope : List Variable) (expected : Option ℕ) (v : SourceValue) → HasMeasuresWithin s → value_own (value_core s scope expected v) ≤ value_statements v * greatest_charge
+  pub own_within : (s : Setting) (scope : List Variable) (expected : Option ℕ) (v : SourceValue) → HasMeasuresWithin s → value_own (value_core s scope expected v) ≤ value_statements v * NUMBER_LIMIT
   own_within s scope expected (Given name) within = omega arith
   own_within s scope expected (Made callee arg) within = omega arith
   own_within s scope expected (Atom charge at) within = omega (arith, charge_within s charge within)
@@ -57,11 +58,11 @@ mutual
   own_within s scope expected (Branch' number at size inner) within = boxed_own_within s scope (inner_node s expected number) inner within
   own_within s scope expected (Case' var size arms) within = omega arith
 
-  values_own_within : (s : Setting) (scope : List Variable) (nodes : List ℕ) {n : _} (row : Row_of-SourceValue n) → HasMeasuresWithin s → values_own (values_core s scope nodes row) ≤ values_statements row * greatest_charge
+  values_own_within : (s : Setting) (scope : List Variable) (nodes : List ℕ) {n : _} (row : Row_of-SourceValue n) → HasMeasuresWithin s → values_own (values_core s scope nodes row) ≤ values_statements row * NUMBER_LIMIT
   values_own_within s scope nodes end_of-SourceValue within = omega arith
   values_own_within s scope [] (more_of-SourceValue v rest) within = omega (arith, own_within s scope None v within, values_own_within s scope [] rest within)
   values_own_within s scope (node ∷ nodes) (more_of-SourceValue v rest) within = omega (arith, own_within s scope (Some node) v within, values_own_within s scope nodes rest within)
 
-  boxed_own_within : (s : Setting) (scope : List Variable) (expected : Option ℕ) {n : _} (row : Row_of-SourceValue n) → HasMeasuresWithin s → value_own (boxed_value_core s scope expected row) ≤ boxed_value_statements row * greatest_charge
+  boxed_own_within : (s : Setting) (scope : List Variable) (expected : Option ℕ) {n : _} (row : Row_of-SourceValue n) → HasMeasuresWithin s → value_own (boxed_value_core s scope expected row) ≤ boxed_value_statements row * NUMBER_LIMIT
   boxed_own_within s scope expected end_of-SourceValue within = omega arith
   boxed_own_within s scope expected (more_of-SourceValue v rest) within = own_within s scope expected v within

@@ -1,7 +1,8 @@
 // The typing and the core form of values.
 ghost use Rattle.std.specs.Prelude.{◌≡◌, ◌≤◌, ◌+◌, ◌*◌, ℕ, List, [], ◌∷◌, Some, map, length, IfOk, IfErr};
+ghost use Rattle.luo_num.specs.declared.limits.TheConstants.{NUMBER_LIMIT, STATEMENT_LIMIT};
 ghost use Rattle.luo_syntax.specs.declared.values.SourceValue as source;
-ghost use Rattle.luo_model.specs.Scopes.{greatest_charge, stands};
+ghost use Rattle.luo_model.specs.Scopes.{stands};
 ghost use Rattle.luo_value_types.specs.Breaches.{StopsAt};
 ghost use Rattle.luo_value_types.specs.declared.setting.Variable.{Variable};
 ghost use Rattle.luo_value_types.specs.Settings.{shape_at};
@@ -133,7 +134,7 @@ fn atom(
     body: &mut Body,
 ) -> Result<Value, Stop>
     requires measures { HasMeasuresWithin setting.now }
-    requires room { body.old.own + greatest_charge ≤ 1024 * greatest_charge }
+    requires room { body.old.own + NUMBER_LIMIT ≤ STATEMENT_LIMIT * NUMBER_LIMIT }
     ensures ok { IfOk result (λ v. (scope : List Variable) (next : ℕ) → IsMade (value_breaches setting.now scope (Some expected) (source.Atom charge.now at)) (value_core setting.now scope (Some expected) (source.Atom charge.now at)) v body.old body.new next next) }
     ensures stops { IfErr result (λ s. (scope : List Variable) → StopsAt (value_breaches setting.now scope (Some expected) (source.Atom charge.now at)) s) }
 {

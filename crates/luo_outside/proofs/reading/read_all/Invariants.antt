@@ -1,7 +1,7 @@
 use Rattle.std.proofs.Common.{◌≡◌, ℕ, List, ◌≤◌, ◌-◌, vec_len}
 use Rattle.std.specs.Io.KnownBytes.{Consumes}
 use Rattle.luo_outside.specs.Causes.{NoneFell}
-use Rattle.luo_outside.specs.declared.reading.TheConstants.{TEXT_LIMIT}
+use Rattle.luo_num.specs.declared.limits.TheConstants.{TEXT_LIMIT}
 use Rattle.luo_outside.proofs.reading.read_all.Given as goal
 
 abbrev pub invariant-loop-count : goal.invariant-loop-count

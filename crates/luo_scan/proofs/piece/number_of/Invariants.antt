@@ -1,6 +1,6 @@
 use Rattle.std.proofs.Common.{◌≡◌, ◌+◌, min, take}
 use Rattle.luo_scan.specs.Spellings.{value_after}
-use Rattle.luo_scan.specs.declared.piece.TheConstants.{NUMBER_LIMIT}
+use Rattle.luo_num.specs.declared.limits.TheConstants.{NUMBER_LIMIT}
 use Rattle.luo_scan.proofs.piece.number_of.Given as goal
 
 abbrev pub invariant-loop-digit : goal.invariant-loop-digit

@@ -1,4 +1,5 @@
 use Rattle.std.proofs.Common.{◌≤◌, sym, ◌∙◌, ap, subst, length, sum_by, flat_map}
+use Rattle.luo_num.specs.declared.limits.TheConstants.{PROCEDURE_LIMIT, STATEMENT_LIMIT}
 use Rattle.luo_value_types.specs.Breaches.{StopsAt}
 use Rattle.luo_value_types.specs.Meanings.{procedure_use}
 use Rattle.luo_value_types.specs.Settings.{meant}
@@ -17,8 +18,8 @@ procedures-requires c =
     let limits = within_limits source c.requires.within in
     let same = sym c.in_ok-setting.ensures.setting in
     record {
-      statements = subst (λ ps. sum_by (λ p. body_statements p.body) ps ≤ 1024) (sym c.as_slice.ensures) limits.statements;
-      few = subst (λ ps. length ps ≤ 64) (sym c.as_slice.ensures) limits.procedures;
+      statements = subst (λ ps. sum_by (λ p. body_statements p.body) ps ≤ STATEMENT_LIMIT) (sym c.as_slice.ensures) limits.statements;
+      few = subst (λ ps. length ps ≤ PROCEDURE_LIMIT) (sym c.as_slice.ensures) limits.procedures;
       within = subst HasMeasuresWithin same (measures-within source c.requires.source);
       branches = subst HasFewBranches same (branches-few source c.requires.source c.requires.within c.in_ok-setting.ensures.ok);
     }

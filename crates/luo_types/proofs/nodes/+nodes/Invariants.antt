@@ -1,4 +1,5 @@
 use Rattle.std.proofs.Common.{◌≡◌, ◌+◌, ◌*◌, ◌≤◌, [], ◌++◌, drop, sum_by, flat_map}
+use Rattle.luo_num.specs.declared.limits.TheConstants.{BOUND_LIMIT, NODE_LIMIT}
 use Rattle.luo_types.specs.Counted.{own_nodes, greatest_bound, greatest_by}
 use Rattle.luo_types.specs.TypeBreaches.{expr_breaches}
 use Rattle.luo_types.specs.NodeLists.{nodes_of}
@@ -6,10 +7,10 @@ use Rattle.luo_types.proofs.nodes.+nodes.Given as goal
 
 abbrev pub invariant-put_all-loop-expr : goal.invariant-put_all-loop-expr
 invariant-put_all-loop-expr l =
-    (l.spot.node + sum_by own_nodes (drop l.expr-index l.exprs) ≤ 128)
+    (l.spot.node + sum_by own_nodes (drop l.expr-index l.exprs) ≤ NODE_LIMIT)
     × (l.spot.place ≤ l.spot.node)
     × (flat_map (expr_breaches l.scheme.universe l.scheme.names) (drop l.expr-index l.exprs) ≡ [])
-    × (greatest_by greatest_bound (drop l.expr-index l.exprs) ≤ 100)
+    × (greatest_by greatest_bound (drop l.expr-index l.exprs) ≤ BOUND_LIMIT)
     × (l.nodes ++ nodes_of l.scheme.names l.scheme.defs.items l.owner l.spot (drop l.expr-index l.exprs) ≡ l.fn.nodes ++ nodes_of l.scheme.names l.scheme.defs.items l.owner l.fn.at l.exprs)
 
 abbrev pub decreases-put : goal.decreases-put

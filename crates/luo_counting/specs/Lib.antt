@@ -1,0 +1,9 @@
+pub mod Sharing
+pub mod Items
+pub mod Numbers
+pub mod Weights
+pub mod WeightNumbers
+pub mod Fours
+pub mod Counted
+pub mod Laws
+pub mod Facts

@@ -1,0 +1,6 @@
+use Rattle.std.proofs.Common.{ℕ, ◌<◌}
+use Rattle.luo_founded.specs.inner.Marks.{Marked}
+use Rattle.luo_founded.proofs.checking.first_unmarked.Given as goal
+
+abbrev pub invariant-loop-x : goal.invariant-loop-x
+invariant-loop-x l = (k : ℕ) → k < l.x → Marked l.table k

@@ -1,0 +1,118 @@
+-- There is an outcome: it can't be that no answer holds.
+use Rattle.std.proofs.Common.{◌≡◌, ℕ, ◌<◌, ◌≤◌, List, [], ◌∷◌, refl, sym, subst, ◌∙◌, arith, inl, inr, ⊎_elim, Option, None, Some}
+use Rattle.std.specs.Prelude.{◌⊎◌}
+use Rattle.luo_model.specs.Program.{Program}
+use Rattle.luo_model.specs.Invariant.{IsProgram}
+use Rattle.luo_scan.specs.declared.token.Token.{Token}
+use Rattle.luo_scan.specs.Tokens.{Tokens, LexicalFault, FirstFault}
+use Rattle.luo_scan.proofs.Decide.{tokens_or}
+use Rattle.luo_syntax.specs.declared.source.Source.{Source}
+use Rattle.luo_syntax.proofs.SourceOrError.{source_or_error}
+use Rattle.luo_value_types.specs.declared.rule.Breach.{Breach}
+use Rattle.luo_types.specs.declared.error.CountLimit.{CountLimit}
+use Rattle.luo_types.specs.Checks.{IsSource}
+use Rattle.luo_types.specs.Counted.{limits_passed}
+use Rattle.luo_types.specs.Whole.{IsCore, breaches, core, walk_count}
+use Rattle.luo_types.proofs.CoreIsProgram.{core_is_program}
+use Rattle.luo_top.specs.Answer.{Answer, Output, Untold}
+use Rattle.luo_top.specs.Outcome.{Outcome, steps_of}
+use Rattle.luo_top.specs.Refusals.{LimitRefusal}
+use Rattle.luo_top.specs.Step.{Step, HasNone, ◌or_makes◌, ◌and_then◌, ends}
+use Rattle.luo_top.specs.Steps.{tokens_of, source_of, core_of, CoreRefusal, file_source, file_program}
+use Rattle.luo_top.specs.Told.{Told, ReadingRefusal, reading}
+use Rattle.luo_top.specs.Words.{Command, Analyse, Format, command_of, WordsRefusal, asked_by}
+use Rattle.luo_top.proofs.plain_lemmas.FillPlain.{plain_fillable}
+use Rattle.luo_top.proofs.plain_lemmas.ReportComes.{report_comes}
+
+-- where nothing refuses, something is handed on
+abbrev GoesOn : {X : Type 0} → Step X → Type 0
+GoesOn {X} step = HasNone step.refuses → ((x : X) → step.hands x → ⊥) → ⊥
+
+or_makes-goes_on : {X : Type 0} (refuses : Answer → Type 0) (made : X → Type 0) → (HasNone refuses → ((x : X) → made x → ⊥) → ⊥) → GoesOn (refuses or_makes made)
+or_makes-goes_on refuses made m none nothing = m none (λ x h. nothing x (none, h))
+
+and_then-goes_on : {X Y : Type 0} (first : Step X) (second : X → Step Y) → GoesOn first → ((x : X) → first.hands x → GoesOn (second x)) → GoesOn (first and_then second)
+unfolding ◌and_then◌
+and_then-goes_on first second f s none nothing = f (λ a r. none a (inl r)) (λ x h. s x h (λ a r. none a (inr (x, h, r))) (λ y k. nothing y (x, h, k)))
+
+ends-comes : (step : Step (List ℕ)) → GoesOn step → HasNone (ends step) → ⊥
+ends-comes step g none = g (λ a r. none a (inl r)) (λ bytes h. none (Output bytes) (inr (bytes, h, refl)))
+
+reading-goes_on : (most : ℕ) (bytes file : List ℕ) (told : Told) → GoesOn (reading most bytes file told)
+reading-goes_on most bytes file told = or_makes-goes_on _ _ (by (told file))
+  where
+    by : (o : Option (List ℕ)) → HasNone (ReadingRefusal most bytes o) → ((text : List ℕ) → o ≡ Some text → ⊥) → ⊥
+    by None none nothing = none Untold refl
+    by (Some text) none nothing = nothing text refl
+
+tokens-goes_on : (text : List ℕ) → GoesOn (tokens_of text)
+tokens-goes_on text = or_makes-goes_on _ _ (λ none nothing. by (tokens_or text) none nothing)
+  where
+    by : ((ts : List Token) × Tokens text ts) ⊎ ((fault : LexicalFault) × (place : ℕ) × FirstFault text fault place) → HasNone (tokens_of text).refuses → ((ts : List Token) → Tokens text ts → ⊥) → ⊥
+    by (inl (ts, t)) none nothing = nothing ts t
+    by (inr (fault, place, f)) none nothing = none _ (fault, place, f, refl)
+
+source-goes_on : (text : List ℕ) (ts : List Token) → Tokens text ts → GoesOn (source_of text ts)
+source-goes_on text ts t = or_makes-goes_on _ _ (λ none nothing. source_or_error text ts t (λ (s, d, _). nothing s d) (λ (e, other, x). none _ (e, other, x, refl)))
+
+core-goes_on : (text : List ℕ) (ts : List Token) (s : Source) → GoesOn (core_of text ts s)
+core-goes_on text ts s = or_makes-goes_on _ _ (λ none nothing. by (limits_passed s) (breaches s) refl refl none nothing)
+  where
+    head : {A : Type 0} (x : A) (xs : List A) → [] ≡ x ∷ xs → ⊥
+    head x xs e = cc
+
+    no_limit : limits_passed s ≡ [] → (a : Answer) → LimitRefusal s a → ⊥
+    no_limit e a (which, p, q) = head which p.0 (sym e ∙ p.1)
+
+    by : (ws : List CountLimit) (bs : List Breach) → limits_passed s ≡ ws → breaches s ≡ bs → HasNone (CoreRefusal text ts s) → ((p : Program) → IsCore s p → ⊥) → ⊥
+    by (w ∷ ws) bs e f none nothing = none _ (inl (w, (ws, e), refl))
+    by [] (b ∷ bs) e f none nothing = none _ (inr (no_limit e, inl (b, (bs, f), refl)))
+    by [] [] e f none nothing = nothing (core s) (f, refl)
+
+source_file-goes_on : (file : List ℕ) (told : Told) → GoesOn (file_source file told)
+source_file-goes_on file told = and_then-goes_on _ _ (reading-goes_on _ _ file told) (λ text _. and_then-goes_on _ _ (tokens-goes_on text) (λ ts t. source-goes_on text ts t.1))
+
+program-goes_on : (file : List ℕ) (told : Told) → GoesOn (file_program file told)
+program-goes_on file told =
+    and_then-goes_on _ _ (reading-goes_on _ _ file told) (λ text _. and_then-goes_on _ _ (tokens-goes_on text) (λ ts t. and_then-goes_on _ _ (source-goes_on text ts t.1) (λ s _. core-goes_on text ts s)))
+
+-- the program of a file has what holds of every program
+program_is : (file : List ℕ) (told : Told) (p : Program) → (file_program file told).hands p → IsProgram p
+unfolding ◌and_then◌
+program_is file told p (text, h, (ts, t, (s, d, (none, c)))) =
+    let source : IsSource s = record { text = text; tokens = ts; scanned = t.1; derived = d.1 } in
+    subst IsProgram (sym c.1) (core_is_program s source (within (limits_passed s) refl) c.0 (walks (walk_count (core s)) refl))
+  where
+    within : (ws : List CountLimit) → limits_passed s ≡ ws → limits_passed s ≡ []
+    within [] e = e
+    within (w ∷ ws) e = absurd (none _ (inl (w, (ws, e), refl)))
+
+    head : {A : Type 0} (x : A) (xs : List A) → [] ≡ x ∷ xs → ⊥
+    head x xs e = cc
+
+    walks : (n : ℕ) → walk_count (core s) ≡ n → walk_count (core s) ≤ 32
+    walks n e = ⊎_elim (λ (a : walk_count (core s) ≤ 32). a)
+        (λ (a : 32 < walk_count (core s)). absurd (none _ (inr ((λ other (which, p, q). head which p.0 (sym (within (limits_passed s) refl) ∙ p.1)), inr ((λ other (b, p, q). head b p.0 (sym c.0 ∙ p.1)), ((c.0, a), refl)))))) (cases (walk_count (core s)) 32)
+      where
+        cases : (m n : ℕ) → (m ≤ n) ⊎ (n < m)
+        cases m n = grind arith
+
+steps-go_on : (c : Command) (told : Told) → GoesOn (steps_of c told)
+steps-go_on (Analyse file n) told = and_then-goes_on _ _ (program-goes_on file told) (λ p h.
+    let is = program_is file told p h in
+    and_then-goes_on _ _ (or_makes-goes_on _ _ (λ none nothing. nothing tt tt)) (λ _ k. and_then-goes_on _ _ (or_makes-goes_on _ _ (λ none nothing. nothing n refl)) (λ m l.
+    and_then-goes_on _ _ (or_makes-goes_on _ _ (λ none nothing. nothing tt tt)) (λ _ _. or_makes-goes_on _ _ (λ none nothing.
+    k.0 _ ((λ plain. let r = report_comes p (plain_fillable p is plain) m in nothing r.0 r.1), refl))))))
+steps-go_on (Format file) told = and_then-goes_on _ _ (source_file-goes_on file told) (λ s _. or_makes-goes_on _ _ (λ none nothing. nothing _ refl))
+
+asked-goes_on : (words : List (List ℕ)) → GoesOn (asked_by words)
+asked-goes_on words = or_makes-goes_on _ _ (by (command_of words))
+  where
+    by : (o : Option Command) → HasNone (WordsRefusal o) → ((c : Command) → o ≡ Some c → ⊥) → ⊥
+    by None none nothing = none _ refl
+    by (Some c) none nothing = nothing c refl
+
+-- it can't be that there is no outcome
+pub outcome_comes : (told : Told) (words : List (List ℕ)) → HasNone (Outcome told words) → ⊥
+unfolding Outcome
+outcome_comes told words = ends-comes _ (and_then-goes_on _ _ (asked-goes_on words) (λ c _. steps-go_on c told))

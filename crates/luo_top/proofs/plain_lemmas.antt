@@ -1,0 +1,11 @@
+pub mod CoreSites
+pub mod FillPlain
+pub mod MarkedColumns
+pub mod NodeColumns
+pub mod NodeCounts
+pub mod PastNumbers
+pub mod PlainParts
+pub mod ReportComes
+pub mod RowTables
+pub mod SiteTotals
+pub mod TreeCounts

@@ -1,0 +1,49 @@
+-- What holds of every outcome.
+use Rattle.std.specs.Prelude.{◌≡◌, ◌↔◌, ℕ, List, [], ◌∷◌, codes, None, Some}
+use Rattle.std.specs.List.{AllByRecursion}
+use Rattle.luo_finite.specs.Listing.{In}
+use Rattle.luo_finite.specs.Steps.{IsSingle}
+use Rattle.luo_scan.specs.Bytes.{IsDigit}
+use Rattle.luo_scan.specs.Spellings.{value_after}
+use Rattle.luo_top.specs.Answer.{Untold}
+use Rattle.luo_top.specs.Outcome.{Outcome}
+use Rattle.luo_top.specs.Step.{HasNone}
+use Rattle.luo_top.specs.Told.{Told}
+use Rattle.luo_top.specs.Words.{Command, Analyse, Format, command_of, files_of, number_of}
+
+-- at most one answer is the outcome
+abbrev pub OutcomeIsOne : Type 0
+OutcomeIsOne = (told : Told) (words : List (List ℕ)) → IsSingle (Outcome told words)
+
+-- it can't be that none is
+abbrev pub OutcomeComes : Type 0
+OutcomeComes = (told : Told) (words : List (List ℕ)) → HasNone (Outcome told words) → ⊥
+
+-- each file of the words is told
+abbrev pub FilesAreTold : Told → List (List ℕ) → Type 0
+FilesAreTold told words =
+    (command : Command) → command_of words ≡ Some command
+    → (file : List ℕ) → In file (files_of command) → told file ≡ None → ⊥
+
+-- where each file of the words is told, so is the outcome
+abbrev pub OutcomeIsTold : Type 0
+OutcomeIsTold = (told : Told) (words : List (List ℕ)) → FilesAreTold told words → Outcome told words Untold → ⊥
+
+-- `0`, or a digit from 1 to 9 followed by digits, and the number that they give
+abbrev pub IsNumberWord : List ℕ → ℕ → Type 0
+IsNumberWord [] n = ⊥
+IsNumberWord (d ∷ ds) n = AllByRecursion IsDigit (d ∷ ds) × (d ≡ 48 → ds ≡ []) × (n ≡ value_after 0 (d ∷ ds))
+
+-- these and no others are the number words
+abbrev pub NumbersAreSpelled : Type 0
+NumbersAreSpelled = (word : List ℕ) (n : ℕ) → (number_of word ≡ Some n) ↔ IsNumberWord word n
+
+-- the words of `analyse FILE N`, and no others, ask for it
+abbrev pub AnalyseIsSpelled : Type 0
+AnalyseIsSpelled =
+    (words : List (List ℕ)) (file : List ℕ) (n : ℕ)
+    → (command_of words ≡ Some (Analyse file n)) ↔ ((word : List ℕ) × (words ≡ codes "analyse" ∷ file ∷ word ∷ []) × IsNumberWord word n)
+
+-- the words of `format FILE`, and no others, ask for it
+abbrev pub FormatIsSpelled : Type 0
+FormatIsSpelled = (words : List (List ℕ)) (file : List ℕ) → (command_of words ≡ Some (Format file)) ↔ (words ≡ codes "format" ∷ file ∷ [])

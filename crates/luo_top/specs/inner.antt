@@ -1,0 +1,3 @@
+pub mod Passes
+pub mod Requests
+pub mod plain

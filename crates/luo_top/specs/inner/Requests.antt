@@ -1,0 +1,50 @@
+-- What the words are read as, and the answer to them.
+use Rattle.std.specs.Prelude.{◌≡◌, ◌⊎◌, ℕ, min, List, Option, None, Some, Result, Ok, Err}
+use Rattle.luo_top.specs.declared.refusal.Refusal.{Refusal}
+use Rattle.luo_top.specs.declared.refusal.Refusal.TheVariants.{Usage, Refused, Limit, Overflow, ReadFault, NoMemory}
+use Rattle.luo_top.specs.declared.words.TheConstants.{NUMBER_CAP}
+use Rattle.luo_top.specs.declared.words.Request.{Request}
+use Rattle.luo_top.specs.declared.words.Request.TheVariants.{Analyse, Format}
+use Rattle.luo_top.specs.declared.status.Status.TheVariants as way
+use Rattle.luo_top.specs.Answer as answer
+use Rattle.luo_top.specs.Outcome.{steps_of}
+use Rattle.luo_top.specs.Step.{HasNone}
+use Rattle.luo_top.specs.Words as words'
+use Rattle.luo_top.specs.Words.{number_of, command_of, files_of, HasNoForm, LimitOfWords}
+use Rattle.luo_top.specs.inner.Passes.{PassesOver, Seen, itself, bytes_of}
+
+-- the number of a word up to the cap, where it has one
+abbrev pub IsNumber : List ℕ → Option ℕ → Type 0
+IsNumber word None = number_of word ≡ None
+IsNumber word (Some v) = (n : ℕ) × (number_of word ≡ Some n) × (v ≡ min n NUMBER_CAP)
+
+-- the request is that of the command, with its number up to the cap
+abbrev pub IsRequest : words'.Command → Request → Type 0
+IsRequest command (Analyse file last) = (n : ℕ) × (command ≡ words'.Analyse file.now n) × (last ≡ min n NUMBER_CAP)
+IsRequest command (Format file) = command ≡ words'.Format file.now
+
+-- there is no command and no request, or the request is that of the command
+abbrev pub IsRequestOf : Option words'.Command → Option Request → Type 0
+IsRequestOf None None = Unit {0}
+IsRequestOf (Some command) (Some request) = IsRequest command request
+IsRequestOf command request = ⊥
+
+-- the words alone are refused so
+abbrev pub RefusedByWords : List (List ℕ) → Refusal → Type 0
+RefusedByWords words Usage = HasNoForm words
+RefusedByWords words (Refused l) = ⊥
+RefusedByWords words (Limit l) = (c : words'.Command) × (command_of words ≡ Some c) × LimitOfWords c (answer.Refusal way.Limit (bytes_of l))
+RefusedByWords words (Overflow l) = ⊥
+RefusedByWords words ReadFault = ⊥
+RefusedByWords words NoMemory = ⊥
+
+-- the command that the words ask for, or their refusal
+abbrev pub Asks : List (List ℕ) → Result Request Refusal → Type 0
+Asks words (Ok request) = (c : words'.Command) × (command_of words ≡ Some c) × HasNone (LimitOfWords c) × IsRequest c request
+Asks words (Err e) = RefusedByWords words e
+
+-- the answer to the words: their refusal, or that of the steps of their command
+abbrev pub IsAnswer : List (List ℕ) → Seen → Result (List ℕ) Refusal → Type 0
+IsAnswer words s result =
+    ((e : Refusal) × (result ≡ Err e) × RefusedByWords words e)
+    ⊎ ((c : words'.Command) × (command_of words ≡ Some c) × HasNone (LimitOfWords c) × PassesOver itself (files_of c) (steps_of c) s result)

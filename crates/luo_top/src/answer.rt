@@ -1,0 +1,22 @@
+// The answer to the words.
+ghost use Rattle.luo_top.specs.inner.Passes.{seen};
+ghost use Rattle.luo_top.specs.inner.Requests.{IsAnswer};
+ghost use Rattle.luo_top.specs.Words.{texts};
+
+use crate::commands;
+use crate::refusal::Refusal;
+use crate::words::{Request, asked};
+use luo_num::Text;
+use luo_outside::Files;
+use std::alloc::Global;
+
+/// The output that the words ask for, or why there is none.
+pub fn answer<F: Files>(alloc: Global, words: &[String], files: &mut F) -> Result<Text, Refusal>
+    ensures { IsAnswer (texts words.now) (seen F.named F.faults files.old files.new) result }
+{
+    let request = asked(words)?;
+    match request {
+        Request::Analyse { file, last } => commands::analyse_file(alloc, files, file, last),
+        Request::Format { file } => commands::format_file(alloc, files, file),
+    }
+}

@@ -1,0 +1,25 @@
+// Laws of the outcome.
+ghost use Rattle.luo_top.specs.Laws.{OutcomeIsOne, OutcomeComes, OutcomeIsTold, NumbersAreSpelled, AnalyseIsSpelled, FormatIsSpelled};
+
+/// Over what a source tells, and for all words, at most one answer is the outcome.
+pub fn outcome_is_one()
+    ensures { OutcomeIsOne }
+{}
+
+/// It can't be that no answer is the outcome.
+pub fn outcome_comes()
+    ensures { OutcomeComes }
+{}
+
+/// Where each file of the words is told, so is the outcome.
+pub fn outcome_is_told()
+    ensures { OutcomeIsTold }
+{}
+
+/// Each command is asked for by the words of its form, and by no others. A number word is `0`, or a digit from 1 to 9
+/// followed by digits.
+pub fn commands_are_spelled()
+    ensures analyse { AnalyseIsSpelled }
+    ensures format { FormatIsSpelled }
+    ensures numbers { NumbersAreSpelled }
+{}

@@ -1,0 +1,213 @@
+// The limits that the top call keeps, the lines of refusals, and the refusals of a text.
+ghost use Rattle.std.specs.Prelude.{◌≡◌, ◌++◌, flat_map, IfOk, OnOk};
+ghost use Rattle.luo_scan.specs.Faults.{IsFault};
+ghost use Rattle.luo_scan.specs.Lexemes.{lexemes};
+ghost use Rattle.luo_syntax.specs.Viable.{Explains};
+ghost use Rattle.luo_syntax.specs.declared.source.Source.{Source};
+ghost use Rattle.luo_types.specs.Checks.{IsUnchecked};
+ghost use Rattle.luo_top.specs.Refusals.{line, at_byte, at_token, byte_of_token, limit_line, rule_text, spaced, rule_line, LexicalRefusal, SyntaxRefusal};
+ghost use Rattle.luo_top.specs.Steps.{CoreRefusal};
+ghost use Rattle.luo_top.specs.inner.Passes.{RefusedBy};
+
+use crate::refusal::{Line, Refusal};
+use itoa::Buffer;
+use luo_num::{Items, NoMemory, Text};
+use luo_scan::{ScanError, Token};
+use luo_syntax::SyntaxError;
+use luo_types::{CheckError, CountLimit, Rule};
+use std::alloc::Global;
+
+/// The greatest size that a command takes.
+pub const SIZE_LIMIT: u64 = 160;
+
+pub const USAGE_LINE: &[u8] = b"usage\n";
+
+pub const BYTES_LINE: &[u8] = b"limit: bytes 65536\n";
+
+pub const SIZE_LINE: &[u8] = b"limit: size 160\n";
+
+/// The line of a program, or of a number, that isn't taken yet.
+pub const UNTAKEN_LINE: &[u8] = b"refused: F0\n";
+
+const NUMBER_HEAD: &[u8] = b"limit: number 100000000000000000000000000000000000";
+
+// `HEAD at byte BYTE`, as a line.
+fn line_at(alloc: Global, head: &[u8], byte: usize) -> Result<Vec<u8>, NoMemory>
+    ensures { IfOk result (λ text. text.items ≡ line (head.now ++ at_byte byte)) }
+{
+    let mut buffer = Buffer::new();
+    let mut text = Vec::from_slice(alloc, head)?;
+    text.extend_from_slice(b" at byte ")?;
+    text.extend_from_slice(buffer.format(byte).as_bytes())?;
+    text.push(b'\n')?;
+    Ok(text)
+}
+
+// `HEAD at token TOKEN, byte BYTE`, as a line.
+fn line_at_token(alloc: Global, head: &[u8], token: usize, byte: usize) -> Result<Vec<u8>, NoMemory>
+    ensures { IfOk result (λ text. text.items ≡ line (head.now ++ at_token token byte)) }
+{
+    let mut buffer = Buffer::new();
+    let mut text = Vec::from_slice(alloc, head)?;
+    text.extend_from_slice(b" at token ")?;
+    text.extend_from_slice(buffer.format(token).as_bytes())?;
+    text.extend_from_slice(b", byte ")?;
+    text.extend_from_slice(buffer.format(byte).as_bytes())?;
+    text.push(b'\n')?;
+    Ok(text)
+}
+
+/// The refusal of a lexical fault.
+pub fn fault_refusal(alloc: Global, text: &[u8], error: ScanError) -> Refusal
+    requires { IsFault text.now error }
+    ensures { RefusedBy (LexicalRefusal text.now) result }
+{
+    match error {
+        ScanError::BadByte { at } => match line_at(alloc, b"refused: G1", at) {
+            Ok(text) => Refusal::Refused(Line::Made(text)),
+            Err(_) => Refusal::NoMemory,
+        },
+        ScanError::NameLimit { at } => match line_at(alloc, b"limit: name 32", at) {
+            Ok(text) => Refusal::Limit(Line::Made(text)),
+            Err(_) => Refusal::NoMemory,
+        },
+        ScanError::NumberLimit { at } => match line_at(alloc, NUMBER_HEAD, at) {
+            Ok(text) => Refusal::Limit(Line::Made(text)),
+            Err(_) => Refusal::NoMemory,
+        },
+        ScanError::NoMemory => Refusal::NoMemory,
+    }
+}
+
+// The first byte of a token, or the length of the text where there is no such token.
+#[tactic(auto, using(crate::proofs::TokenBytes::byte_there, crate::proofs::TokenBytes::byte_past))]
+fn byte_of(text: &[u8], tokens: &[Token], token: usize) -> usize
+    ensures { result ≡ byte_of_token text.now tokens.now token }
+{
+    if token < tokens.len() {
+        tokens[token].start
+    } else {
+        text.len()
+    }
+}
+
+/// The refusal of tokens that are no program, or that open too much.
+pub fn syntax_refusal(alloc: Global, text: &[u8], tokens: &[Token], error: SyntaxError) -> Refusal
+    requires { Explains (lexemes text.now tokens.now) error }
+    ensures { RefusedBy (SyntaxRefusal text.now tokens.now) result }
+{
+    match error {
+        SyntaxError::Grammar { token } => {
+            match line_at_token(alloc, b"refused: G2", token, byte_of(text, tokens, token)) {
+                Ok(text) => Refusal::Refused(Line::Made(text)),
+                Err(_) => Refusal::NoMemory,
+            }
+        }
+        SyntaxError::Depth { token } => {
+            match line_at_token(
+                alloc,
+                b"limit: depth 32",
+                token,
+                byte_of(text, tokens, token),
+            ) {
+                Ok(text) => Refusal::Limit(Line::Made(text)),
+                Err(_) => Refusal::NoMemory,
+            }
+        }
+        SyntaxError::NoMemory => Refusal::NoMemory,
+    }
+}
+
+// The line of a limit.
+fn limit_bytes(which: CountLimit) -> &'static [u8]
+    ensures { result.now ≡ limit_line which }
+{
+    match which {
+        CountLimit::Definitions => b"limit: definitions 64\n",
+        CountLimit::Nodes => b"limit: nodes 128\n",
+        CountLimit::Parts => b"limit: parts 64\n",
+        CountLimit::Bounds => b"limit: bounds 100\n",
+        CountLimit::Multisets => b"limit: multisets 32\n",
+        CountLimit::Procedures => b"limit: procedures 64\n",
+        CountLimit::Statements => b"limit: statements 1024\n",
+        CountLimit::Analyses => b"limit: analyses 16\n",
+        CountLimit::Walks => b"limit: walks 32\n",
+    }
+}
+
+// The name of a rule.
+fn rule_bytes(rule: Rule) -> &'static [u8]
+    ensures { result.now ≡ rule_text rule }
+{
+    match rule {
+        Rule::Y1 => b"Y1",
+        Rule::Y2 => b"Y2",
+        Rule::Y3 => b"Y3",
+        Rule::Y4 => b"Y4",
+        Rule::Y5 => b"Y5",
+        Rule::Y6 => b"Y6",
+        Rule::Y7 => b"Y7",
+        Rule::Y8 => b"Y8",
+        Rule::Y9 => b"Y9",
+        Rule::Y10 => b"Y10",
+        Rule::Y11 => b"Y11",
+        Rule::Y12 => b"Y12",
+        Rule::Y13 => b"Y13",
+        Rule::Y14 => b"Y14",
+        Rule::Y15 => b"Y15",
+    }
+}
+
+// Puts each name behind the text, with a space before it.
+fn put_names(text: &mut Vec<u8>, names: &[Text]) -> Result<(), NoMemory>
+    ensures { OnOk result (text.new.items ≡ text.old.items ++ flat_map spaced names.now) }
+{
+    for name in names {
+        text.push(b' ')?;
+        text.extend_from_slice(name.as_slice())?;
+    }
+    Ok(())
+}
+
+// The line of a breach.
+fn rule_refusal_line(
+    alloc: Global,
+    rule: Rule,
+    byte: usize,
+    names: &[Text],
+) -> Result<Vec<u8>, NoMemory>
+    ensures { IfOk result (λ text. text.items ≡ rule_line rule byte names.now) }
+{
+    let mut buffer = Buffer::new();
+    let mut text = Vec::from_slice(alloc, b"refused: ")?;
+    text.extend_from_slice(rule_bytes(rule))?;
+    text.extend_from_slice(b" at byte ")?;
+    text.extend_from_slice(buffer.format(byte).as_bytes())?;
+    text.push(b':')?;
+    put_names(&mut text, names)?;
+    text.push(b'\n')?;
+    Ok(text)
+}
+
+/// The refusal of a source that is no program.
+pub fn check_refusal(
+    alloc: Global,
+    text: &Text,
+    tokens: &Items<Token>,
+    error: CheckError,
+) -> Refusal
+    ensures { (source : Source) → IsUnchecked source error
+        → RefusedBy (CoreRefusal text.now tokens.now source) result }
+{
+    match error {
+        CheckError::Limit { which } => Refusal::Limit(Line::Fixed(limit_bytes(which))),
+        CheckError::Rule { rule, token, names } => {
+            let byte = byte_of(text.as_slice(), tokens.as_slice(), token);
+            match rule_refusal_line(alloc, rule, byte, names.as_slice()) {
+                Ok(text) => Refusal::Refused(Line::Made(text)),
+                Err(_) => Refusal::NoMemory,
+            }
+        }
+        CheckError::NoMemory => Refusal::NoMemory,
+    }
+}

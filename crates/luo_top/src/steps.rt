@@ -1,0 +1,9 @@
+// The steps that commands share. Each answers the next thing, or a refusal.
+mod program;
+mod size;
+mod source;
+mod text;
+
+pub use program::file_program;
+pub use size::sized;
+pub use source::file_source;

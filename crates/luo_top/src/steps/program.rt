@@ -1,0 +1,47 @@
+// From a source to its program.
+ghost use Rattle.std.specs.Prelude.{[], ◌∷◌};
+ghost use Rattle.luo_model.specs.View.{plain_of};
+ghost use Rattle.luo_scan.specs.Tokens.{Tokens};
+ghost use Rattle.luo_syntax.specs.Grammar.{Derives};
+ghost use Rattle.luo_top.specs.Steps as steps;
+ghost use Rattle.luo_top.specs.inner.Passes.{Passes, PassesOver, seen};
+
+use crate::lines::check_refusal;
+use crate::refusal::Refusal;
+use crate::steps::source::{source_of, tokens_of};
+use crate::steps::text::text_of;
+use luo_model::Program;
+use luo_num::{Items, Text};
+use luo_outside::Files;
+use luo_scan::Token;
+use luo_syntax::Source;
+use luo_types::check;
+use std::alloc::Global;
+
+/// The program of a source.
+pub fn core_of(
+    alloc: Global,
+    text: &Text,
+    tokens: &Items<Token>,
+    source: &Source,
+) -> Result<Program, Refusal>
+    requires scanned { Tokens text.now tokens.now }
+    requires derived { Derives text.now tokens.now source.now }
+    ensures { Passes plain_of (steps.core_of text.now tokens.now source.now) result }
+{
+    match check(alloc, source) {
+        Ok(program) => Ok(program),
+        Err(error) => Err(check_refusal(alloc, text, tokens, error)),
+    }
+}
+
+/// The program of a file.
+pub fn file_program<F: Files>(alloc: Global, files: &mut F, file: &str) -> Result<Program, Refusal>
+    ensures { PassesOver plain_of (file.now ∷ []) (steps.file_program file.now)
+        (seen F.named F.faults files.old files.new) result }
+{
+    let text = text_of(alloc, files, file)?;
+    let tokens = tokens_of(alloc, &text)?;
+    let source = source_of(alloc, &text, &tokens)?;
+    core_of(alloc, &text, &tokens, &source)
+}

@@ -1,0 +1,20 @@
+// The size that a command asks for.
+ghost use Rattle.std.specs.Prelude.{◌≡◌, ◌≤◌, ℕ, min, IfOk};
+ghost use Rattle.luo_top.specs.declared.lines.TheConstants.{SIZE_LIMIT};
+ghost use Rattle.luo_top.specs.declared.words.TheConstants.{NUMBER_CAP};
+ghost use Rattle.luo_top.specs.Steps as steps;
+ghost use Rattle.luo_top.specs.inner.Passes.{Passes, itself};
+
+use crate::lines::{SIZE_LIMIT, SIZE_LINE};
+use crate::refusal::{Line, Refusal};
+
+/// A size within its limit, from a number that is told up to `NUMBER_CAP`.
+pub fn sized(last: u64) -> Result<u32, Refusal>
+    ensures passes { (n : ℕ) → last ≡ min n NUMBER_CAP → Passes itself (steps.sized n) result }
+    ensures size { IfOk result (λ m. m ≤ SIZE_LIMIT) }
+{
+    if last > SIZE_LIMIT {
+        return Err(Refusal::Limit(Line::Fixed(SIZE_LINE)));
+    }
+    Ok(last as u32)
+}

@@ -1,0 +1,11 @@
+//! Unlabelled sequences, multisets and powersets counted size by size, and charges summed over them, in numbers alone.
+#![tactic(auto)]
+
+mod line;
+mod line_walk;
+mod numbers;
+mod steps;
+
+pub use line::Line;
+pub use line_walk::LineWalk;
+
