@@ -1,5 +1,5 @@
 -- The breaches that a check goes through, and what is broken.
-use Rattle.std.proofs.Common.{◌≡◌, ◌⊎◌, ◌<◌, ◌≤◌, List, [], ◌∷◌, ◌++◌, inl, inr, ⊎_elim, refl, sym, subst, arith}
+use Rattle.std.proofs.Common.{◌⊎◌, List, [], ◌∷◌, inl, inr, ⊎_elim, refl, sym, subst, arith}
 use Rattle.luo_finite.specs.Listing.{In}
 use Rattle.luo_finite.proofs.Membership.{In-append_left, In-append_right, In-append_cases}
 use Rattle.luo_source.specs.declared.source.Source.{Source}
@@ -7,10 +7,8 @@ use Rattle.luo_rules.specs.declared.rule.Breach.{Breach}
 use Rattle.luo_rules.specs.Breaches.{◌or_if_none◌}
 use Rattle.luo_rules.specs.Definitions.{definitions}
 use Rattle.luo_rules.specs.Nodes.{setting_of}
-use Rattle.luo_rules.specs.Whole.{breaches}
-use Rattle.luo_rules.specs.Checks.{IsSource, BreaksFirst}
 use Rattle.luo_rules.specs.Asked.{Asked, first_asked, later_asked}
-use Rattle.luo_rules.specs.Broken.{Breaks, IsBroken}
+use Rattle.luo_rules.specs.Broken.{Breaks}
 use Rattle.luo_rules.specs.BrokenLaws.{ListedIsBroken, BrokenIsListed, FirstBreachIsFirstBroken}
 use Rattle.luo_rules.proofs.AskedBreaches.{own, all, first_of, later_of, first_all, later_all}
 use Rattle.luo_rules.proofs.BrokenLemmas.{In_flat, flat_In, own_breaks, breaks_own}
@@ -48,8 +46,8 @@ broken_is_listed source b is h =
     ⊎_elim
     (λ i. inl (in_first (first_of source) (later_of source) b (subst (In b) (sym (first_all source)) (listed source (first_asked source) h.0 b i h.2))))
     (λ i.
-        let there : In b (later_of source) = subst (In b) (sym (later_all source)) (listed source (later_asked source) h.0 b i h.2) in
-        ⊎_elim (λ j. inl j) (λ r. inr (r.0, in_first (first_of source) (later_of source) r.0 r.1, first_in_order source is r.0 b r.1 there)) (in_second (first_of source) (later_of source) b there))
+    let there : In b (later_of source) = subst (In b) (sym (later_all source)) (listed source (later_asked source) h.0 b i h.2) in
+    ⊎_elim (λ j. inl j) (λ r. inr (r.0, in_first (first_of source) (later_of source) r.0 r.1, first_in_order source is r.0 b r.1 there)) (in_second (first_of source) (later_of source) b there))
     (In-append_cases h.0 (first_asked source) (later_asked source) h.1)
 
 pub first_breach_is_first_broken : FirstBreachIsFirstBroken

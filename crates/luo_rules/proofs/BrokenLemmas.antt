@@ -1,5 +1,5 @@
 -- What breaks a rule is what is listed of it, thing by thing.
-use Rattle.std.proofs.Common.{◌≡◌, ◌≤◌, ◌<◌, ◌⊎◌, ℕ, suc, List, [], ◌∷◌, ◌++◌, length, inl, inr, ⊎_elim, Option, Some, None, Bool, true, false, not, nat_eq, nat_le, refl, sym, ap, ◌∙◌, subst, arith}
+use Rattle.std.proofs.Common.{◌≡◌, ◌<◌, ℕ, List, [], ◌∷◌, length, inl, inr, ⊎_elim, Option, Some, None, Bool, true, false, not, nat_eq, nat_le, refl, sym, ap, ◌∙◌, subst, arith}
 use Rattle.std.specs.Prelude.{if◌then◌else◌, decimal, flat_map}
 use Rattle.std.proofs.lemmas.Bool.{eq-eqb, le-leb, leb-false, leb-true, eqb-true}
 use Rattle.luo_finite.specs.Listing.{In}
@@ -22,20 +22,20 @@ use Rattle.luo_rules.specs.declared.rule.Rule.TheVariants.{Y1, Y2, Y3, Y4, Y5, Y
 use Rattle.luo_rules.specs.declared.rule.Breach.{Breach}
 use Rattle.luo_rules.specs.declared.setting.Setting.{Setting}
 use Rattle.luo_rules.specs.declared.setting.Variable.{Variable}
-use Rattle.luo_rules.specs.Breaches.{broken, broken_at}
+use Rattle.luo_rules.specs.Breaches.{broken}
 use Rattle.luo_rules.specs.Meanings.{type_use, procedure_use}
 use Rattle.luo_rules.specs.Settings.{meant, signature_meant, shape_at, found, variable_use, argument_breaches, case_stands}
 use Rattle.luo_rules.specs.Patterns.{fits, first_token, is_among, misfit, pattern_type_use, case_breaches}
 use Rattle.luo_rules.specs.ValueBreaches.{misplaced, may_stand, given_breaches, differs}
 use Rattle.luo_rules.specs.ValueBreaches as value
 use Rattle.luo_rules.specs.Definitions.{Definition}
-use Rattle.luo_rules.specs.TypeBreaches.{is_meaning, kind_word, kind_breaches, low_in, high_in, is_at_most, is_low, bound_breaches, first_circle, circle_breach}
+use Rattle.luo_rules.specs.TypeBreaches.{is_meaning, kind_word, kind_breaches, low_in, high_in, is_at_most, is_low, first_circle, circle_breach}
 use Rattle.luo_rules.specs.StatementBreaches.{walk_into, walk_breaches}
 use Rattle.luo_rules.specs.Whole.{result_breaches}
 use Rattle.luo_rules.specs.Asked.{Sort, a_type, a_measure, a_procedure, Asked, defines, uses, collects, bounds, weighs, renames, results, reads, hands, cases, walks, gives, matches, repeats, makes, builds}
 use Rattle.luo_rules.specs.Broken.{at_name, at_token, is_sort, IsType, IsProcedure, IsTyped, Breaks, defined_again, bound_again, undefined, other_sort, circle, other_universe, unlabelled_cycle, no_number, low_bound, heavy, other_argument, other_arms, no_collection, unbound, labelled_result, other_variable, no_result, other_result, other_construct}
 use Rattle.luo_rules.specs.Broken as break
-use Rattle.luo_rules.proofs.AskedBreaches.{silent, use_of, if_bound, own, all}
+use Rattle.luo_rules.proofs.AskedBreaches.{silent, use_of, if_bound, own}
 
 -- an element of a list of lists is of one of them, and back
 pub In_flat : {A B : Type 0} (f : A → List B) (xs : List A) (b : B) → In b (flat_map f xs) → (x : A) × In x xs × In b (f x)

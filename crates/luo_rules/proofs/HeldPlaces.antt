@@ -1,5 +1,5 @@
 -- Each part by itself of a node stands at one place of it, in the core form of a source without breach.
-use Rattle.std.proofs.Common.{◌≡◌, ℕ, zero, suc, List, [], ◌∷◌, ◌++◌, Option, Some, slice_get, inl, inr, refl, sym, ap, ◌∙◌, subst, arith}
+use Rattle.std.proofs.Common.{◌≡◌, ℕ, zero, suc, List, [], ◌∷◌, Option, Some, slice_get, inl, inr, refl, sym, ap, ◌∙◌, subst, arith}
 use Rattle.luo_model.specs.declared.program.Universe.{Universe}
 use Rattle.luo_model.specs.declared.program.Part.{Part}
 use Rattle.luo_model.specs.declared.program.Node.{Node}
@@ -8,7 +8,7 @@ use Rattle.luo_source.specs.declared.types.TypeExpr.{TypeExpr, Named, Epsilon, A
 use Rattle.luo_rules.specs.declared.names.Meaning.{Meaning}
 use Rattle.luo_rules.specs.Counted.{own_nodes}
 use Rattle.luo_rules.specs.Definitions.{Definition, first_node}
-use Rattle.luo_rules.specs.TypeBreaches.{expr_breaches, exprs_breaches, kind_breaches, bound_breaches}
+use Rattle.luo_rules.specs.TypeBreaches.{expr_breaches, exprs_breaches}
 use Rattle.luo_rules.specs.Nodes.{Spot, behind, part_at, parts_at, nodes_at, start, nodes_from}
 use Rattle.luo_rules.proofs.Lists.{some_same, none_some, In_get, nil_left, nil_right}
 use Rattle.luo_rules.proofs.DefinitionFacts.{SoundAll, right_sort}

@@ -1,9 +1,9 @@
 -- Which rule is broken where, and with which names: a sentence for each rule.
-use Rattle.std.specs.Prelude.{◌≡◌, ◌<◌, ℕ, List, [], ◌∷◌, length, Some, None, Bool, true, false, IsTrue, IsFalse, decimal, IfSome}
+use Rattle.std.specs.Prelude.{◌≡◌, ◌<◌, ℕ, List, [], ◌∷◌, length, Some, None, Bool, true, false, IsTrue, IsFalse, decimal}
 use Rattle.luo_finite.specs.Listing.{In}
 use Rattle.luo_model.specs.declared.program.Universe.TheVariants.{Unlabelled, Labelled}
 use Rattle.luo_model.specs.declared.program.Kind.{Kind}
-use Rattle.luo_model.specs.declared.program.Kind.TheVariants.{Sequence, Set, Cycle, Multiset, Powerset}
+use Rattle.luo_model.specs.declared.program.Kind.TheVariants.{Cycle}
 use Rattle.luo_model.specs.declared.program.Shape.{Shape}
 use Rattle.luo_model.specs.Scopes.{Stand, IsCollection}
 use Rattle.luo_model.specs.Invariant.{IsKind, IsLow, greatest_weight}

@@ -18,6 +18,10 @@ pub mod Asked
 pub mod Broken
 pub mod BrokenLaws
 pub mod Laws
+pub mod Sources
 pub mod Examples
 pub mod Facts
+pub mod BrokenSources
+pub mod FactsBroken
+pub mod FactsCores
 pub mod inner

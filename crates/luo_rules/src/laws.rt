@@ -2,6 +2,8 @@
 #![tactic(auto)]
 
 ghost use Rattle.luo_rules.specs.Facts.{CirclesAreTold, SecondDefinitionsAreTold, UnboundVariablesAreTold, CopiesHaveTheirOwnNodes, CallsStandBeforeTheWhole};
+ghost use Rattle.luo_rules.specs.FactsBroken.{DefinitionsAreTold, StatementsAreTold, ResultsAreTold};
+ghost use Rattle.luo_rules.specs.FactsCores.{CoresAreThePrograms};
 ghost use Rattle.luo_rules.specs.BrokenLaws.{ListedIsBroken, BrokenIsListed, FirstBreachIsFirstBroken};
 ghost use Rattle.luo_rules.specs.Laws.{HasOneCore, HasCore, CoresArePrograms, HasOneError, ProgramsHaveNoError, BreachesAreSingle, BreachesRise, FirstBreachIsLeast};
 
@@ -83,4 +85,24 @@ pub fn copies_have_their_own_nodes()
 /// Charges are summed, a call has the site before its procedure's whole, and a value gives the body of its procedure.
 pub fn calls_stand_before_the_whole()
     ensures { CallsStandBeforeTheWhole }
+{}
+
+/// The texts of well-known programs have the core forms over which facts are known, and so do bounds, blocks and values.
+pub fn cores_are_the_programs()
+    ensures { CoresAreThePrograms }
+{}
+
+/// What definitions, measures and uses of names break is told at its token, with its names.
+pub fn definitions_are_told()
+    ensures { DefinitionsAreTold }
+{}
+
+/// What statements break is told at its token, with its names.
+pub fn statements_are_told()
+    ensures { StatementsAreTold }
+{}
+
+/// What procedures with a result break is told at its token, with its names.
+pub fn results_are_told()
+    ensures { ResultsAreTold }
 {}
