@@ -21,3 +21,4 @@ pub mod OneAnswer
 pub mod PeelingLemmas
 pub mod Tabled
 pub mod FactLemmas
+pub mod SomeAnswer

@@ -1,6 +1,8 @@
 -- What holds of every well-founded program, and of what breaks its rules.
 use Rattle.std.specs.Prelude.{◌≡◌, ℕ, ◌<◌, List, Some, length, slice_get}
 use Rattle.luo_finite.specs.Listing.{Lists}
+use Rattle.luo_founded.specs.declared.checking.NotFounded.{NotFounded}
+use Rattle.luo_founded.specs.Found.{Breaks}
 use Rattle.luo_model.specs.Tree.{Tree}
 use Rattle.luo_model.specs.Program.{Program, Procedure, site_node}
 use Rattle.luo_model.specs.Member.{Member}
@@ -48,3 +50,12 @@ NoneOfUninhabited = (p : Program) (x : ℕ) (s : Tree) → BreaksW1 p x → Memb
 -- nothing is a charge of a procedure on a circle of calls
 abbrev pub CirclesChargeNothing : Type 0
 CirclesChargeNothing = (p : Program) (f : ℕ) → OnCircle (OwnCall p) f → (s : Tree) (q : ℕ) → Charges p f s q → ⊥
+
+-- a rule is the first that is broken with one node or chain at most, and none is in a founded program
+abbrev pub FirstBreachIsOne : Type 0
+FirstBreachIsOne =
+    ((p : Program) (d e : NotFounded) → Breaks p d → Breaks p e → d ≡ e) × ((p : Program) (e : NotFounded) → IsFounded p → Breaks p e → ⊥)
+
+-- it can't be that a program isn't founded and no rule is the first that is broken
+abbrev pub FirstBreachComes : Type 0
+FirstBreachComes = (p : Program) → ((e : NotFounded) → Breaks p e → ⊥) → (IsFounded p → ⊥) → ⊥

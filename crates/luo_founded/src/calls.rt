@@ -24,7 +24,8 @@ fn called(alloc: Global, items: &[Item]) -> Result<Items<usize>, NoMemory>
 
 /// The calls of each procedure on its own parameter.
 pub(crate) fn own_calls(alloc: Global, program: &Program) -> Result<Items<Items<usize>>, NoMemory>
-    ensures { IfOk result (λ edges. IsGraph (OwnCall (plain_of program.now)) (length program.now.procs) edges) }
+    ensures { IfOk result (λ edges. IsGraph (OwnCall (plain_of program.now))
+        (length program.now.procs) edges) }
 {
     let mut edges = Items::new(alloc);
     for procedure in program.procs.as_slice() {

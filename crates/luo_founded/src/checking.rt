@@ -45,7 +45,8 @@ impl From<NoMemory> for NotFounded {
 
 // The least number below `many` that isn't marked.
 fn first_unmarked(table: &[bool]) -> Option<usize>
-    ensures { MatchOption result ((x : ℕ) → x < length table.now → Marked table.now x) (IsLeast (λ x. (x < length table.now) × (Marked table.now x → ⊥))) }
+    ensures { MatchOption result ((x : ℕ) → x < length table.now → Marked table.now x)
+        (IsLeast (λ x. (x < length table.now) × (Marked table.now x → ⊥))) }
 {
     for x in 0..table.len() {
         if !is_marked(table, x) {
@@ -67,7 +68,8 @@ fn has_empty_component(shape: &Shape, zero: &[bool]) -> bool
 
 // The first collection whose component is marked.
 fn first_empty(nodes: &[Node], zero: &[bool]) -> Option<usize>
-    ensures { MatchOption result ((x : ℕ) → ComponentAt nodes.now zero.now x → ⊥) (IsLeast (ComponentAt nodes.now zero.now)) }
+    ensures { MatchOption result ((x : ℕ) → ComponentAt nodes.now zero.now x → ⊥)
+        (IsLeast (ComponentAt nodes.now zero.now)) }
 {
     for (x, node) in nodes.iter().enumerate() {
         if has_empty_component(&node.shape, zero) {
@@ -79,7 +81,8 @@ fn first_empty(nodes: &[Node], zero: &[bool]) -> Option<usize>
 
 // The ranks of a program in which no rule is broken, or the first rule that is.
 fn checked<'a>(alloc: Global, program: &'a Program) -> Result<Ranks<'a>, NotFounded>
-    ensures ranks { MatchResult result (λ ranks. ranks ≡ program.now) (Refuses (plain_of program.now)) }
+    ensures ranks { MatchResult result (λ ranks. ranks ≡ program.now)
+        (Refuses (plain_of program.now)) }
     ensures founded { IfOk result (λ _. IsFounded (plain_of program.now)) }
 {
     let inhabited = made(alloc, program, false)?;
@@ -110,13 +113,15 @@ fn checked<'a>(alloc: Global, program: &'a Program) -> Result<Ranks<'a>, NotFoun
     })
 }
 
-/// The ranks of a program in which no rule of well-foundedness is broken. Exactly where one is, the answer is the first
-/// of the four rules that is broken, with the least node or the circle that it names; or memory was refused.
+/// The ranks of a program in which no rule of well-foundedness is broken. Exactly where one is, the
+/// answer is the first of the four rules that is broken, with the least node or the circle that it
+/// names; or memory was refused.
 pub fn found<'a>(alloc: Global, program: &'a Program) -> Result<Ranks<'a>, NotFounded>
     ensures ok { IfOk result (λ ranks. (ranks ≡ program.now) × IsFounded (plain_of program.now)) }
     ensures err { IfErr result (Refuses (plain_of program.now)) }
     ensures always { IsFounded (plain_of program.now) → IfErr result WantsMemory }
-    ensures first { (e : NotFounded) → Breaks (plain_of program.now) e → MatchResult result (λ _. ⊥) (Answers e) }
+    ensures first { (e : NotFounded) → Breaks (plain_of program.now) e → MatchResult result
+        (λ _. ⊥) (Answers e) }
 {
     checked(alloc, program)
 }

@@ -38,7 +38,8 @@ fn is_among(targets: &[usize], y: usize) -> bool
 
 // The least of these targets that is marked.
 fn least_marked(targets: &[usize], table: &[bool]) -> Option<usize>
-    ensures { MatchOption result ((y : ℕ) → In y targets.now → Marked table.now y → ⊥) (IsLeastMarked targets.now table.now) }
+    ensures { MatchOption result ((y : ℕ) → In y targets.now → Marked table.now y → ⊥)
+        (IsLeastMarked targets.now table.now) }
 {
     for y in 0..table.len() {
         if is_marked(table, y) && is_among(targets, y) {
@@ -66,7 +67,8 @@ fn next_layer(
     edges: &[Items<usize>],
     layer: &[bool],
 ) -> Result<Items<bool>, NoMemory>
-    ensures { IfOk result (λ table. (x : ℕ) → Marked table x ↔ ((y : ℕ) × Edge edges.now x y × Marked layer.now y)) }
+    ensures { IfOk result (λ table. (x : ℕ) → Marked table x ↔
+        ((y : ℕ) × Edge edges.now x y × Marked layer.now y)) }
 {
     let mut table = Items::new(alloc);
     for targets in edges {
@@ -77,7 +79,8 @@ fn next_layer(
 
 // The least number that is marked and to which an edge leads from this one.
 fn next_step(edges: &[Items<usize>], at: usize, table: &[bool]) -> Option<usize>
-    ensures { MatchOption result ((y : ℕ) → Edge edges.now at y → Marked table.now y → ⊥) (IsLeastStep edges.now table.now at) }
+    ensures { MatchOption result ((y : ℕ) → Edge edges.now at y → Marked table.now y → ⊥)
+        (IsLeastStep edges.now table.now at) }
 {
     let targets = edges.get(at)?;
     least_marked(targets.as_slice(), table)
@@ -119,7 +122,8 @@ fn circle_at(
     home: usize,
 ) -> Result<Option<Items<usize>>, NoMemory>
     requires there { home < length edges.now }
-    ensures { IfOk result (λ found. MatchOption found (OnCircle (Edge edges.now) home → ⊥) (IsShortCircle (Edge edges.now) home)) }
+    ensures { IfOk result (λ found. MatchOption found (OnCircle (Edge edges.now) home → ⊥)
+        (IsShortCircle (Edge edges.now) home)) }
 {
     let mut layers = Items::new(alloc);
     layers.push(first_layer(alloc, edges.len(), home)?)?;
@@ -145,7 +149,8 @@ fn circle_past(
 ) -> Result<Option<Items<usize>>, NoMemory>
     requires gone { IsPeeled edges.now gone.now }
     requires there { home < length edges.now }
-    ensures { IfOk result (λ found. MatchOption found (OnCircle (Edge edges.now) home → ⊥) (IsShortCircle (Edge edges.now) home)) }
+    ensures { IfOk result (λ found. MatchOption found (OnCircle (Edge edges.now) home → ⊥)
+        (IsShortCircle (Edge edges.now) home)) }
 {
     if is_marked(gone, home) {
         return Ok(None);
@@ -153,12 +158,14 @@ fn circle_past(
     circle_at(alloc, edges, home)
 }
 
-/// The circle of the least number that lies on one: a shortest one through it, and the first among these.
+/// The circle of the least number that lies on one: a shortest one through it, and the first among
+/// these.
 pub(crate) fn least_circle(
     alloc: Global,
     edges: &[Items<usize>],
 ) -> Result<Option<Items<usize>>, NoMemory>
-    ensures { IfOk result (λ found. MatchOption found ((x : ℕ) → OnCircle (Edge edges.now) x → ⊥) (λ chain. (x : ℕ) × IsNamedCircle (Edge edges.now) x chain)) }
+    ensures { IfOk result (λ found. MatchOption found ((x : ℕ) → OnCircle (Edge edges.now) x → ⊥)
+        (λ chain. (x : ℕ) × IsNamedCircle (Edge edges.now) x chain)) }
 {
     let gone = peeled(alloc, edges)?;
     for home in 0..edges.len() {

@@ -73,7 +73,8 @@ fn size_by(shape: &Shape, table: &[u32]) -> u32
     }
 }
 
-// The one of these with the lesser size: what was found so far, and a node with a size that is less than its old one.
+// The one of these with the lesser size: what was found so far, and a node with a size that is less
+// than its old one.
 fn lesser(next: Option<(usize, u32)>, node: usize, size: u32, old: u32) -> Option<(usize, u32)>
     ensures { IsLesser next (node, size) old result }
 {
@@ -86,8 +87,8 @@ fn lesser(next: Option<(usize, u32)>, node: usize, size: u32, old: u32) -> Optio
     }
 }
 
-// Of the nodes that are made of less than the table has, one that is made of least. So the numbers that are set never
-// fall, and each is set once, as in Knuth's form of Dijkstra's algorithm (1977).
+// Of the nodes that are made of less than the table has, one that is made of least. So the numbers
+// that are set never fall, and each is set once, as in Knuth's form of Dijkstra's algorithm (1977).
 fn next_less(nodes: &[Node], table: &[u32]) -> Option<(usize, u32)>
     requires { IsCapped table.now }
     ensures { MatchOption result (NoneLess nodes.now table.now) (IsLess nodes.now table.now) }

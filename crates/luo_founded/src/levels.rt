@@ -50,7 +50,8 @@ pub(crate) fn body_level(body: &Body, wholes: &[u32]) -> u32
 // One round more.
 fn next_wholes(alloc: Global, procs: &[Proc], wholes: &[u32]) -> Result<Items<u32>, NoMemory>
     requires { AreUpTo 1000000 wholes.now }
-    ensures { IfOk result (λ more. more ≡ map (λ (P : Proc). body_level wholes.now (body_of P.body)) procs.now) }
+    ensures { IfOk result (λ more. more ≡ map
+        (λ (P : Proc). body_level wholes.now (body_of P.body)) procs.now) }
 {
     let mut more = Items::new(alloc);
     for procedure in procs {

@@ -40,7 +40,9 @@ fn most(targets: &[usize], ranks: &[u32]) -> u32
 // One round more.
 fn longer(alloc: Global, edges: &[Items<usize>], ranks: &[u32]) -> Result<Items<u32>, NoMemory>
     requires small { AreUpTo 1000000 ranks.now }
-    ensures { IfOk result (λ more. (length more ≡ length edges.now) × ((x r : ℕ) (targets : List ℕ) → slice_get edges.now x ≡ Some targets → slice_get more x ≡ Some r → IsMost targets ranks.now r)) }
+    ensures { IfOk result (λ more. (length more ≡ length edges.now) ×
+        ((x r : ℕ) (targets : List ℕ) → slice_get edges.now x ≡ Some targets
+        → slice_get more x ≡ Some r → IsMost targets ranks.now r)) }
 {
     let mut more = Items::new(alloc);
     for targets in edges {

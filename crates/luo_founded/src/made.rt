@@ -59,7 +59,8 @@ fn is_made(shape: &Shape, table: &[bool], empty: bool) -> bool
 // The first node that isn't marked, and that the marked ones make.
 fn next_made(nodes: &[Node], table: &[bool], empty: bool) -> Option<usize>
     requires { length table.now ≡ length nodes.now }
-    ensures { MatchOption result (IsClosed (Starts empty) nodes.now table.now) (IsNext (Starts empty) nodes.now table.now) }
+    ensures { MatchOption result (IsClosed (Starts empty) nodes.now table.now)
+        (IsNext (Starts empty) nodes.now table.now) }
 {
     for (x, node) in nodes.iter().enumerate() {
         if !is_marked(table, x) && is_made(&node.shape, table, empty) {
@@ -69,9 +70,11 @@ fn next_made(nodes: &[Node], table: &[bool], empty: bool) -> Option<usize>
     None
 }
 
-/// The nodes that the rules make: those that are inhabited, or with `empty` those with a structure of size 0.
+/// The nodes that the rules make: those that are inhabited, or with `empty` those with a structure
+/// of size 0.
 pub(crate) fn made(alloc: Global, program: &Program, empty: bool) -> Result<Items<bool>, NoMemory>
-    ensures { IfOk result (λ table. Marks (Built (Starts empty) (plain_of program.now)) (length program.now.nodes) table) }
+    ensures { IfOk result (λ table. Marks (Built (Starts empty) (plain_of program.now))
+        (length program.now.nodes) table) }
 {
     let nodes = program.nodes.as_slice();
     let mut table = Items::new(alloc);

@@ -1,5 +1,5 @@
-// Numbers that lie on no circle of a graph, peeled off from the ends: those without targets, then those whose targets
-// are all gone.
+// Numbers that lie on no circle of a graph, peeled off from the ends: those without targets, then
+// those whose targets are all gone.
 ghost use Rattle.std.specs.Prelude.{◌≡◌, ◌↔◌, ℕ, IsTrue, IfOk, IfSome, length};
 ghost use Rattle.luo_finite.specs.Listing.{In};
 ghost use Rattle.luo_founded.specs.inner.Marks.{Marked};

@@ -7,7 +7,8 @@ use luo_model::Program;
 use luo_num::Items;
 use std::marker::Model;
 
-/// Ranks, levels and least sizes of a program in which no rule of well-foundedness is broken. Contracts see the program.
+/// Ranks, levels and least sizes of a program in which no rule of well-foundedness is broken.
+/// Contracts see the program.
 #[derive(Drop)]
 pub struct Ranks<'a> {
     pub(crate) program: &'a Program,
@@ -33,8 +34,8 @@ impl<'a> Model for Ranks<'a> {
 }
 
 impl<'a> Ranks<'a> {
-    /// The rank of a node: the number of same-size steps of the longest chain of them from it. A structure of a node
-    /// is made of structures of its own size only at nodes of less rank.
+    /// The rank of a node: the number of same-size steps of the longest chain of them from it. A
+    /// structure of a node is made of structures of its own size only at nodes of less rank.
     pub fn node_rank(&self, node: usize) -> u32
         requires there { node < length self.now.nodes }
         ensures { IsRank (plain_of self.now) node result }
@@ -42,8 +43,9 @@ impl<'a> Ranks<'a> {
         self.node_ranks.as_slice()[node]
     }
 
-    /// The level of a site: 0 for a case or a walk, 1 more than that of the called procedure's whole for a call, and
-    /// for a whole or a walk's body 1 more than the greatest level of its items, or 0 without items.
+    /// The level of a site: 0 for a case or a walk, 1 more than that of the called procedure's
+    /// whole for a call, and for a whole or a walk's body 1 more than the greatest level of its
+    /// items, or 0 without items.
     pub fn site_level(&self, site: usize) -> u32
         requires there { site < length self.now.sites }
         ensures { IsLevel (plain_of self.now) site result }

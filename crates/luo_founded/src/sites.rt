@@ -16,7 +16,8 @@ use std::alloc::{AllocError, Global};
 #[cycle(levels)]
 fn push_arms(arms: &[Arm], wholes: &[u32], levels: &mut Items<u32>) -> Result<(), AllocError>
     requires { AreUpTo 1000000 wholes.now }
-    ensures { OnOk result (levels.new ≡ levels.old ++ levels_of wholes.now (works_of_arms (arm_list arms.now))) }
+    ensures { OnOk result (levels.new ≡ levels.old ++ levels_of wholes.now
+        (works_of_arms (arm_list arms.now))) }
 {
     for arm in arms {
         push_items(arm.body.items.as_slice(), wholes, levels)?;
@@ -28,7 +29,8 @@ fn push_arms(arms: &[Arm], wholes: &[u32], levels: &mut Items<u32>) -> Result<()
 #[cycle(levels)]
 fn push_body(body: &Body, wholes: &[u32], levels: &mut Items<u32>) -> Result<(), AllocError>
     requires { AreUpTo 1000000 wholes.now }
-    ensures { OnOk result (levels.new ≡ levels.old ++ levels_of_body wholes.now (body_of body.now)) }
+    ensures { OnOk result (levels.new ≡ levels.old ++ levels_of_body wholes.now
+        (body_of body.now)) }
 {
     push_items(body.items.as_slice(), wholes, levels)?;
     levels.push(body_level(body, wholes))?;
@@ -39,7 +41,8 @@ fn push_body(body: &Body, wholes: &[u32], levels: &mut Items<u32>) -> Result<(),
 #[cycle(levels)]
 fn push_item(item: &Item, wholes: &[u32], levels: &mut Items<u32>) -> Result<(), AllocError>
     requires { AreUpTo 1000000 wholes.now }
-    ensures { OnOk result (levels.new ≡ levels.old ++ levels_of wholes.now (works_of_item (item_of item.now))) }
+    ensures { OnOk result (levels.new ≡ levels.old ++ levels_of wholes.now
+        (works_of_item (item_of item.now))) }
 {
     match item {
         Item::Call { callee, .. } => {
@@ -63,7 +66,8 @@ fn push_item(item: &Item, wholes: &[u32], levels: &mut Items<u32>) -> Result<(),
 #[cycle(levels)]
 fn push_items(items: &[Item], wholes: &[u32], levels: &mut Items<u32>) -> Result<(), AllocError>
     requires { AreUpTo 1000000 wholes.now }
-    ensures { OnOk result (levels.new ≡ levels.old ++ levels_of wholes.now (works_of_items (item_list items.now))) }
+    ensures { OnOk result (levels.new ≡ levels.old ++ levels_of wholes.now
+        (works_of_items (item_list items.now))) }
 {
     for item in items {
         push_item(item, wholes, levels)?;
@@ -78,7 +82,8 @@ pub(crate) fn site_levels(
     wholes: &[u32],
 ) -> Result<Items<u32>, NoMemory>
     requires { AreUpTo 1000000 wholes.now }
-    ensures { IfOk result (λ levels. levels ≡ levels_of wholes.now (works_of (plain_of program.now))) }
+    ensures { IfOk result (λ levels. levels ≡ levels_of wholes.now
+        (works_of (plain_of program.now))) }
 {
     let mut levels = Items::new(alloc);
     let procs = program.procs.as_slice();

@@ -15,7 +15,9 @@ use std::alloc::Global;
 
 // Whether each part but the one at this place is marked.
 fn others_marked(parts: &[Part], table: &[bool], at: usize) -> bool
-    ensures { IsTrue result ↔ ((k : ℕ) (other : Part) → slice_get parts.now k ≡ Some other → (k ≡ at → ⊥) → Marked table.now other.node) }
+    ensures { IsTrue result ↔
+        ((k : ℕ) (other : Part) → slice_get parts.now k ≡ Some other → (k ≡ at → ⊥)
+        → Marked table.now other.node) }
 {
     for (k, part) in parts.iter().enumerate() {
         if k != at && !is_marked(table, part.node) {
@@ -27,7 +29,8 @@ fn others_marked(parts: &[Part], table: &[bool], at: usize) -> bool
 
 // The nodes of these parts.
 fn branches(alloc: Global, parts: &[Part]) -> Result<Items<usize>, NoMemory>
-    ensures { IfOk result (λ nodes. (y : ℕ) → In y nodes ↔ ((part : Part) × In part parts.now × (part.node ≡ y))) }
+    ensures { IfOk result (λ nodes. (y : ℕ) → In y nodes ↔
+        ((part : Part) × In part parts.now × (part.node ≡ y))) }
 {
     let mut nodes = Items::new(alloc);
     for part in parts {
@@ -38,7 +41,10 @@ fn branches(alloc: Global, parts: &[Part]) -> Result<Items<usize>, NoMemory>
 
 // The nodes of those parts for which each other one is marked.
 fn lone_parts(alloc: Global, parts: &[Part], table: &[bool]) -> Result<Items<usize>, NoMemory>
-    ensures { IfOk result (λ nodes. (y : ℕ) → In y nodes ↔ ((i : ℕ) × (part : Part) × (slice_get parts.now i ≡ Some part) × (part.node ≡ y) × ((k : ℕ) (other : Part) → slice_get parts.now k ≡ Some other → (k ≡ i → ⊥) → Marked table.now other.node))) }
+    ensures { IfOk result (λ nodes. (y : ℕ) → In y nodes ↔
+        ((i : ℕ) × (part : Part) × (slice_get parts.now i ≡ Some part) × (part.node ≡ y) ×
+        ((k : ℕ) (other : Part) → slice_get parts.now k ≡ Some other → (k ≡ i → ⊥)
+        → Marked table.now other.node))) }
 {
     let mut nodes = Items::new(alloc);
     for (i, part) in parts.iter().enumerate() {
@@ -60,9 +66,11 @@ fn allows_one(low: u32, high: Option<u32>) -> bool
         }
 }
 
-// The parts whose size a structure of this construct may have, where the marked nodes have structures of size 0.
+// The parts whose size a structure of this construct may have, where the marked nodes have
+// structures of size 0.
 fn targets(alloc: Global, shape: &Shape, zero: &[bool]) -> Result<Items<usize>, NoMemory>
-    ensures { IfOk result (λ nodes. (y : ℕ) → In y nodes ↔ KeepsSize (Marked zero.now) shape.now y) }
+    ensures { IfOk result (λ nodes. (y : ℕ) → In y nodes ↔ KeepsSize
+        (Marked zero.now) shape.now y) }
 {
     match shape {
         Shape::Atom { .. } => Ok(Items::new(alloc)),
@@ -90,7 +98,8 @@ pub(crate) fn steps(
     zero: &[bool],
 ) -> Result<Items<Items<usize>>, NoMemory>
     requires zero { Marks (HasZero (plain_of program.now)) (length program.now.nodes) zero.now }
-    ensures { IfOk result (λ edges. IsGraph (SameSize (plain_of program.now)) (length program.now.nodes) edges) }
+    ensures { IfOk result (λ edges. IsGraph (SameSize (plain_of program.now))
+        (length program.now.nodes) edges) }
 {
     let mut edges = Items::new(alloc);
     for node in program.nodes.as_slice() {
