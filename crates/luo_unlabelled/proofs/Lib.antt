@@ -5,3 +5,5 @@ pub mod CallLemmas
 pub mod PlaneLemmas
 pub mod ChoiceLemmas
 pub mod PartNumbers
+pub mod PartCalls
+pub mod PartTotals

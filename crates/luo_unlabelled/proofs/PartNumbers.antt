@@ -39,7 +39,7 @@ plane_totals-same kind a b c d (suc e) k n h g =
     ∙ ap (λ x. chosen_totals kind (c (suc e)) (d (suc e)) j * x + chosen kind (c (suc e)) j * back (j * suc e) (plane_totals kind a b e (k - j)) n) (back_same (j * suc e) (plane kind a e (k - j)) (plane kind c e (k - j)) n (λ x i q. plane-same kind a c e (k - j) x (λ m b. h m (omega (arith, b)))))
     ∙ ap (λ x. chosen_totals kind (c (suc e)) (d (suc e)) j * back (j * suc e) (plane kind c e (k - j)) n + chosen kind (c (suc e)) j * x) (back_same (j * suc e) (plane_totals kind a b e (k - j)) (plane_totals kind c d e (k - j)) n (λ x i q. plane_totals-same kind a b c d e (k - j) x (λ m b. h m (omega (arith, b))) (λ m b. g m (omega (arith, b))))))
 
-le_or : (m n : ℕ) → (m ≤ n) ⊎ (n < m)
+pub le_or : (m n : ℕ) → (m ≤ n) ⊎ (n < m)
 le_or m n = grind arith
 
 times_capped : (x y c r : ℕ) → x ≡ capped c → y ≡ capped r → capped (x * y) ≡ capped (c * r)
@@ -80,7 +80,7 @@ repeats-none : (a : ℕ) → repeats a 0 ≡ 1
 repeats-none zero = refl
 repeats-none (suc a) = refl
 
-chosen-none : (kind : Kind) (a : ℕ) → chosen kind a 0 ≡ 1
+pub chosen-none : (kind : Kind) (a : ℕ) → chosen kind a 0 ≡ 1
 chosen-none Powerset a = refl
 chosen-none Sequence a = repeats-none a
 chosen-none Set a = repeats-none a
@@ -107,7 +107,7 @@ plane_kept kind a d k n h =
 pub plane-idle : (kind : Kind) (a : ℕ → ℕ) (d k n : ℕ) → a (suc d) ≡ 0 → plane kind a (suc d) k n ≡ plane kind a d k n
 plane-idle kind a d k n e = plane_kept kind a d k n (λ j. ap (λ x. chosen kind x (suc j) * back (suc j * suc d) (plane kind a d (k - suc j)) n) e ∙ ap (λ x. x * back (suc j * suc d) (plane kind a d (k - suc j)) n) (chosen-of_none kind j) ∙ zero-mul (back (suc j * suc d) (plane kind a d (k - suc j)) n))
 
-plane-beyond : (kind : Kind) (a : ℕ → ℕ) (d k n : ℕ) → n < suc d → plane kind a (suc d) k n ≡ plane kind a d k n
+pub plane-beyond : (kind : Kind) (a : ℕ → ℕ) (d k n : ℕ) → n < suc d → plane kind a (suc d) k n ≡ plane kind a d k n
 plane-beyond kind a d k n h = plane_kept kind a d k n (λ j. ap (λ x. chosen kind (a (suc d)) (suc j) * x) (back-no (suc j * suc d) (plane kind a d (k - suc j)) n (omega (arith, h, times_suc j (suc d)))) ∙ mul-zero (chosen kind (a (suc d)) (suc j)))
 
 cut_yes : (d : ℕ) (a : ℕ → ℕ) (i : ℕ) → i ≤ d → up_to d a i ≡ a i
@@ -163,26 +163,30 @@ of_kind Sequence a low high n h = absurd h
 of_kind Set a low high n h = absurd h
 of_kind Cycle a low high n h = absurd h
 
-terms_are : (low n : ℕ) (high : Option ℕ) → terms low high n ≡ last_of high n + 1 - low
+pub terms_are : (low n : ℕ) (high : Option ℕ) → terms low high n ≡ last_of high n + 1 - low
 terms_are low n (Some h) = omega arith
 terms_are low n None = omega arith
 
 -- the collections of exactly k components
 pub count_ahead : (kind : Kind) (a : ℕ → ℕ) (d k n : ℕ) → IsOfParts kind → coll_count Unlabelled kind (up_to d a) k (Some k) n ≡ plane kind a d k n
 count_ahead kind a d k n p = of_kind kind (up_to d a) k (Some k) n p ∙ ⊎_elim
-    (λ l. ap (sum_below (λ i. plane kind (up_to d a) n (k + i) n)) (let q : terms k (Some k) n ≡ 1 = omega (arith, l) in q) ∙ (let e : plane kind (up_to d a) n (k + 0) n + 0 ≡ plane kind (up_to d a) n k n = omega arith in e) ∙ plane_up_to kind a d k n)
+    (λ l. ap (sum_below (λ i. plane kind (up_to d a) n (k + i) n)) (let q : terms k (Some k) n ≡ 1 = omega (arith, l) in q) ∙ (let e : plane kind (up_to d a) n (k + 0) n + 0 ≡ plane kind (up_to d a) n (k + 0) n = omega arith in e) ∙ ap (λ x. plane kind (up_to d a) n x n) (let q : k + 0 ≡ k = omega arith in q) ∙ plane_up_to kind a d k n)
     (λ l. ap (sum_below (λ i. plane kind (up_to d a) n (k + i) n)) (let q : terms k (Some k) n ≡ 0 = omega (arith, l) in q) ∙ sym (plane-past kind a d k n l))
     (le_or k n)
 
-alone_is : (h k : ℕ) → h * is_one k ≡ alone h k
-alone_is h zero = mul-zero h
-alone_is h (suc zero) = omega arith
-alone_is h (suc (suc k)) = mul-zero h
+alone_no : (h k : ℕ) → (k ≡ 1 → ⊥) → alone h k ≡ 0
+alone_no h k o = grind (arith, nat_tests)
 
-alone_none : (k : ℕ) → alone 0 k ≡ 0
-alone_none zero = refl
-alone_none (suc zero) = refl
-alone_none (suc (suc k)) = refl
+alone_yes : (h : ℕ) → alone h 1 ≡ h
+alone_yes h = grind (arith, nat_tests)
+
+pub alone_is : (h k : ℕ) → h * is_one k ≡ alone h k
+alone_is h zero = mul-zero h ∙ sym (alone_no h 0 (λ e. omega (arith, e)))
+alone_is h (suc zero) = (let q : h * 1 ≡ h = omega arith in q) ∙ sym (alone_yes h)
+alone_is h (suc (suc k)) = mul-zero h ∙ sym (alone_no h (suc (suc k)) (λ e. omega (arith, e)))
+
+pub alone_none : (k : ℕ) → alone 0 k ≡ 0
+alone_none k = grind (arith, nat_tests)
 
 -- of a size n: the plane of the smaller sizes, and one component of this size
 pub top : (kind : Kind) (a : ℕ → ℕ) (n k : ℕ) → a 0 ≡ 0 → plane kind a n k n ≡ plane kind a (n - 1) k n + alone (a n) k
@@ -194,3 +198,8 @@ pub number_by_planes : (kind : Kind) (a f : ℕ → ℕ) (low : ℕ) (high : Opt
 number_by_planes kind a f low high n p h =
     alike (λ i. f (low + i)) (λ i. plane kind a n (low + i) n) (last_of high n + 1 - low) (λ i l. h (low + i) (omega (arith, l)))
     ∙ ap (λ t. capped (sum_below (λ i. plane kind a n (low + i) n) t)) (sym (terms_are low n high)) ∙ ap capped (sym (of_kind kind a low high n p))
+
+pub none_within : (kind : Kind) (a : ℕ → ℕ) (low : ℕ) (high : Option ℕ) (n : ℕ) → IsOfParts kind → last_of high n < low → 0 ≡ capped (coll_count Unlabelled kind a low high n)
+none_within kind a low high n p l =
+    (let q : 0 ≡ capped 0 = omega arith in q)
+    ∙ ap (λ t. capped (sum_below (λ i. plane kind a n (low + i) n) t)) (let q : 0 ≡ terms low high n = omega (arith, terms_are low n high, l) in q) ∙ ap capped (sym (of_kind kind a low high n p))

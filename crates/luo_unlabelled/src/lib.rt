@@ -7,10 +7,12 @@ mod line;
 mod line_walk;
 mod numbers;
 mod parts;
+mod parts_walk;
 mod plane;
 mod steps;
 
 pub use line::Line;
 pub use line_walk::LineWalk;
 pub use parts::Parts;
+pub use parts_walk::PartsWalk;
 

@@ -9,8 +9,8 @@ ghost use Rattle.luo_unlabelled.specs.inner.Planes.{AreWays, HoldsPlane, last_of
 
 use crate::choices::write_ways;
 use crate::frame::Frame;
-use crate::numbers::{keep, within};
-use crate::plane::{count_within, put};
+use crate::numbers::{keep, within, zeros};
+use crate::plane::{cell, count_within, empty_plane, put};
 use luo_model::Kind;
 use luo_num::{MAX, NoMemory, Over};
 use std::alloc::Global;
@@ -64,10 +64,9 @@ impl Parts {
             high,
             n_max,
         };
-        let comp = vec![in alloc; 0; frame.wide()]?;
-        let ways = vec![in alloc; 0; frame.wide()]?;
-        let mut cells = vec![in alloc; 0; frame.deep() * frame.wide()]?;
-        cells[0] = 1;
+        let comp = zeros(alloc, frame.wide())?;
+        let ways = zeros(alloc, frame.wide())?;
+        let cells = empty_plane(alloc, frame.wide(), frame.deep())?;
         Ok(Parts {
             frame,
             calls: 0,
@@ -117,7 +116,7 @@ impl Parts {
         ensures answer { let number = ahead_of self.now k m in SomeIff result (number ≤ MAX) number }
         ensures counted { IsAheadCounted self.now k m }
     {
-        let number = self.cells[k as usize * self.frame.wide() + m as usize];
+        let number = cell(&self.cells, self.frame.wide(), k as usize, m as usize);
         if number <= MAX { Some(number) } else { None }
     }
 }

@@ -1,12 +1,33 @@
 // Planes: cell m of row k is for the collections of k components, of size m. Their components have sizes up to a greatest one, and a
 // next size is put in by one step over the plane, in place: from the most components down, since a cell goes on from cells of
 // fewer components.
-ghost use Rattle.std.specs.Prelude.{◌≡◌, ◌+◌, ◌*◌, ◌-◌, ◌/◌, ◌<◌, ◌≤◌, ℕ, length, slice_index};
+ghost use Rattle.std.specs.Prelude.{◌≡◌, ◌+◌, ◌*◌, ◌-◌, ◌/◌, ◌<◌, ◌≤◌, ℕ, length, set, replicate, slice_index, IfOk};
 ghost use Rattle.luo_num.specs.Mark.{capped};
 ghost use Rattle.luo_unlabelled.specs.inner.Planes.{with_size, count_put, total_put, IsPut, IsRowPut, alone, top_count, top_total, sum_from};
 
-use luo_num::marked_add;
-use luo_num::marked_mul;
+use crate::numbers::zeros;
+use luo_num::{NoMemory, marked_add, marked_mul};
+use std::alloc::Global;
+
+// Cell m of row k.
+pub fn cell(cells: &[u128], wide: usize, k: usize, m: usize) -> u128
+    requires { k * wide + m < length cells.now }
+    ensures { result ≡ slice_index cells.now (k * wide + m) }
+{
+    cells[k * wide + m]
+}
+
+// The plane of no sizes: the empty collection alone.
+pub fn empty_plane(alloc: Global, wide: usize, deep: usize) -> Result<Vec<u128>, NoMemory>
+    requires some { 1 ≤ deep * wide }
+    requires sizes { wide ≤ 161 }
+    requires rows { deep ≤ 161 }
+    ensures { IfOk result (λ cells. cells.items ≡ set (replicate (deep * wide) 0) 0 1) }
+{
+    let mut cells = zeros(alloc, deep * wide)?;
+    cells[0] = 1;
+    Ok(cells)
+}
 
 // The most components of size d among k of size m together.
 fn most_copies(d: usize, k: usize, m: usize) -> usize

@@ -73,3 +73,24 @@ pub record IsParts (kind : Kind) (low : ℕ) (high : Option ℕ) (n_max calls : 
   pub none_empty : slice_index comp 0 ≡ 0
   pub known : 3 ≤ calls → AreWays kind (slice_index comp (calls - 2)) (calls - 2) (n_max + 1) ways
   pub holds : HoldsPlane (last_of high n_max + 1) (n_max + 1) (plane kind (slice_index comp) (calls - 3)) cells
+
+-- the charges within the bounds over collections of size n, of components below it, and over one component of size n
+abbrev pub sum_within : ℕ → Option ℕ → Kind → (ℕ → ℕ) → (ℕ → ℕ) → ℕ → ℕ → ℕ
+sum_within low high kind a b here n = sum_from low (last_of high n + 1) (λ k. plane_totals kind a b (n - 1) k n + alone here k)
+
+-- the same sum, of cells
+abbrev pub sum_in_cells : ℕ → Option ℕ → List ℕ → ℕ → ℕ → ℕ → ℕ
+sum_in_cells low high cells wide n here = sum_from low (last_of high n + 1) (top_total cells wide n here)
+
+-- after so many calls the plane of charges has the sizes up to that before the last
+pub record IsPartsWalk (kind : Kind) (low : ℕ) (high : Option ℕ) (n_max calls : ℕ) (comp body charges cells : List ℕ) : Type 0 where
+  pub parts : IsOfParts kind
+  pub bounds : AreBounds low high n_max
+  pub reached : calls ≤ n_max + 1
+  pub sizes : length comp ≡ n_max + 1
+  pub sums : length body ≡ n_max + 1
+  pub charges_long : length charges ≡ n_max + 1
+  pub rows : length cells ≡ (last_of high n_max + 1) * (n_max + 1)
+  pub none_empty : slice_index comp 0 ≡ 0
+  pub none_charged : slice_index body 0 ≡ 0
+  pub holds : HoldsPlane (last_of high n_max + 1) (n_max + 1) (plane_totals kind (slice_index comp) (slice_index body) (calls - 2)) cells
