@@ -7,3 +7,4 @@ pub mod ChoiceLemmas
 pub mod PartNumbers
 pub mod PartCalls
 pub mod PartTotals
+pub mod WalkCalls

@@ -78,6 +78,7 @@ pub record GoesWith (t : Calls) (w : Walk) (comp body : List ℕ) (here : ℕ) :
   pub going : t.over ≡ false
   pub counted : length t.given ≡ suc (length body)
   pub given : comp ≡ take (length body) t.given
+  pub small : (m : ℕ) → slice_index comp m ≤ MAX
   pub agree : (m : ℕ) → suc m < length comp → slice_index comp m ≡ slice_index w.comp m
   pub next : GoesOn w.calls body here
   pub idle : (m : ℕ) → slice_index t.given m ≡ 0 → numbers body here m ≡ 0
