@@ -113,7 +113,7 @@ pub steps_alike : (low low' : ℕ) (high high' : Option ℕ) (n n' : ℕ) → lo
 steps_alike low low' high high' n n' e f g = ap (λ x. steps_of x high n) e ∙ ap (λ x. steps_of low' x n) f ∙ ap (λ x. steps_of low' high' x) g
 
 -- what a line was given are the first of the numbers that it has
-given_at : (calls n x : ℕ) (kept given : List ℕ) → take calls kept ≡ given → length given ≡ suc n → x < suc n → slice_index kept x ≡ slice_index given x
+pub given_at : (calls n x : ℕ) (kept given : List ℕ) → take calls kept ≡ given → length given ≡ suc n → x < suc n → slice_index kept x ≡ slice_index given x
 given_at calls n x kept given e l h = sym (get_or-take calls kept x 0 (omega (arith, h, l, sym (ap length e) ∙ length-take calls kept))) ∙ ap (λ g. slice_index g x) e
 
 pub starts : (n : ℕ) (kept given comp : List ℕ) (calls : ℕ) → slice_index kept 0 ≡ 0 → take calls kept ≡ given → length given ≡ suc n → comp ≡ take n given → slice_index comp 0 ≡ 0

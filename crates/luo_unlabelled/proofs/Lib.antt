@@ -2,3 +2,9 @@ pub mod RowLemmas
 pub mod StepLemmas
 pub mod CellLemmas
 pub mod CallLemmas
+pub mod PlaneLemmas
+pub mod ChoiceLemmas
+pub mod PartNumbers
+pub mod PartCalls
+pub mod PartTotals
+pub mod WalkCalls

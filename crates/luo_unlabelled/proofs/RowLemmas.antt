@@ -43,7 +43,7 @@ below_or : (m n : ℕ) → m < suc n → (m < n) ⊎ (m ≡ n)
 below_or m n h = grind arith
 
 -- terms past the last one that counts
-sum_below-tail : (f : ℕ → ℕ) (m n : ℕ) → m ≤ n → ((k : ℕ) → m ≤ k → k < n → f k ≡ 0) → sum_below f m ≡ sum_below f n
+pub sum_below-tail : (f : ℕ → ℕ) (m n : ℕ) → m ≤ n → ((k : ℕ) → m ≤ k → k < n → f k ≡ 0) → sum_below f m ≡ sum_below f n
 sum_below-tail f m zero h z = ap (sum_below f) (let q : m ≡ 0 = omega arith in q)
 sum_below-tail f m (suc n) h z = ⊎_elim
     (λ l.

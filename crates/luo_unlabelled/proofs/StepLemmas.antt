@@ -77,7 +77,7 @@ step_total-none s a b n z y u =
     ap (λ lo. coll_total Unlabelled Sequence a b lo (most_at s.bounded 0) n) (let q : 0 - s.free ≡ 0 = omega arith in q) ∙ ap (λ o. coll_total Unlabelled Sequence a b 0 (most_at o 0) n) u ∙ total-none a b n z y
 
 -- marks go through sums of products
-alike : (f g : ℕ → ℕ) (n : ℕ) → ((k : ℕ) → k < n → capped (f k) ≡ capped (g k)) → capped (sum_below f n) ≡ capped (sum_below g n)
+pub alike : (f g : ℕ → ℕ) (n : ℕ) → ((k : ℕ) → k < n → capped (f k) ≡ capped (g k)) → capped (sum_below f n) ≡ capped (sum_below g n)
 alike f g zero h = refl
 alike f g (suc n) h =
     let e : capped (sum_below f n) ≡ capped (sum_below g n) = alike f g n (λ k l. h k (omega arith)) in

@@ -1,12 +1,13 @@
 -- What contracts see in tables of collections and of charges over them, and what their calls are given.
-use Rattle.std.specs.Prelude.{◌≡◌, ℕ, zero, suc, ◌≤◌, ◌<◌, Bool, false, List, [], ◌∷◌, ◌++◌, length, slice_index, take, Option, Some, None}
+use Rattle.std.specs.Prelude.{◌≡◌, ℕ, zero, suc, ◌-◌, ◌≤◌, ◌<◌, Bool, false, List, [], ◌∷◌, ◌++◌, length, slice_index, take, Option, Some, None, nat_le, if◌then◌else◌}
 use Rattle.luo_num.specs.declared.TheConstants.{MAX}
 use Rattle.luo_finite.specs.Range.{sum_below}
 use Rattle.luo_model.specs.declared.program.Universe.TheVariants.{Unlabelled}
 use Rattle.luo_model.specs.declared.program.Kind.{Kind}
+use Rattle.luo_model.specs.declared.program.Kind.TheVariants.{Multiset, Powerset}
 use Rattle.luo_model.specs.Member.{IsWithin}
 use Rattle.luo_model.specs.Numbered.{IsCollectionCount, IsCollectionTotal}
-use Rattle.luo_counting.specs.Numbers.{coll_count, coll_total}
+use Rattle.luo_counting.specs.Numbers.{coll_count, coll_total, plane}
 
 -- what a table was made for, and what its calls were given: a number for each size, that of components, or of charges over them. The last one
 -- is 0 where one component is not within the bounds. `over`: the last call answered Over
@@ -77,6 +78,7 @@ pub record GoesWith (t : Calls) (w : Walk) (comp body : List ℕ) (here : ℕ) :
   pub going : t.over ≡ false
   pub counted : length t.given ≡ suc (length body)
   pub given : comp ≡ take (length body) t.given
+  pub small : (m : ℕ) → slice_index comp m ≤ MAX
   pub agree : (m : ℕ) → suc m < length comp → slice_index comp m ≡ slice_index w.comp m
   pub next : GoesOn w.calls body here
   pub idle : (m : ℕ) → slice_index t.given m ≡ 0 → numbers body here m ≡ 0
@@ -89,3 +91,21 @@ total_of t body here = coll_total Unlabelled t.kind (slice_index t.given) (numbe
 abbrev pub IsTotalled : Calls → List ℕ → ℕ → Type 0
 IsTotalled t body here = (q : ℕ → ℕ → ℕ) → ((m : ℕ) → sum_below (q m) (slice_index t.given m) ≡ numbers body here m)
     → IsCollectionTotal Unlabelled t.kind t.low t.high (slice_index t.given) q (length body) (total_of t body here)
+
+-- the kinds of unlabelled collections whose components stand in order
+abbrev pub IsOfParts : Kind → Type 0
+IsOfParts Multiset = Unit {0}
+IsOfParts Powerset = Unit {0}
+IsOfParts _ = ⊥
+
+-- of the numbers a, those of sizes up to d
+abbrev pub up_to : ℕ → (ℕ → ℕ) → ℕ → ℕ
+up_to d a n = if nat_le n d then a n else 0
+
+-- the collections of k components, of size m, with components smaller by two at least than the last call's size
+abbrev pub ahead_of : Calls → ℕ → ℕ → ℕ
+ahead_of t k m = plane t.kind (slice_index t.given) (length t.given - 3) k m
+
+-- so many numbered collections there are over the numbers of these sizes
+abbrev pub IsAheadCounted : Calls → ℕ → ℕ → Type 0
+IsAheadCounted t k m = IsCollectionCount Unlabelled t.kind k (Some k) (up_to (length t.given - 3) (slice_index t.given)) m (ahead_of t k m)

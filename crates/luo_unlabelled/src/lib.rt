@@ -1,11 +1,18 @@
 //! Unlabelled sequences, multisets and powersets counted size by size, and charges summed over them, in numbers alone.
 #![tactic(auto)]
 
+mod choices;
+mod frame;
 mod line;
 mod line_walk;
 mod numbers;
+mod parts;
+mod parts_walk;
+mod plane;
 mod steps;
 
 pub use line::Line;
 pub use line_walk::LineWalk;
+pub use parts::Parts;
+pub use parts_walk::PartsWalk;
 

@@ -1,10 +1,18 @@
 // The numbers that the calls are given, and their answers.
-ghost use Rattle.std.specs.Prelude.{◌≡◌, ◌+◌, ◌*◌, ◌-◌, ◌<◌, ◌≤◌, ◌∷◌, ◌++◌, [], ℕ, suc, length, slice_index, take, OkIff};
+ghost use Rattle.std.specs.Prelude.{◌≡◌, ◌+◌, ◌*◌, ◌-◌, ◌<◌, ◌≤◌, ◌∷◌, ◌++◌, [], ℕ, suc, length, slice_index, take, replicate, IfOk, OkIff};
 ghost use Rattle.luo_num.specs.Mark.{capped};
 ghost use Rattle.luo_num.specs.declared.TheConstants.{MAX};
 ghost use Rattle.luo_unlabelled.specs.inner.Steps.{convolved};
 
-use luo_num::{MAX, Over, marked_add, marked_mul};
+use luo_num::{MAX, NoMemory, Over, marked_add, marked_mul};
+use std::alloc::Global;
+
+// So many cells, with 0 in each.
+pub fn zeros(alloc: Global, n: usize) -> Result<Vec<u128>, NoMemory>
+    ensures { IfOk result (λ cells. cells.items ≡ replicate n 0) }
+{
+    Ok(vec![in alloc; 0; n]?)
+}
 
 // Keeps the numbers that a call is given. Those of the calls before are kept already, but for the last, which may have been
 // outside the bounds.
