@@ -36,8 +36,14 @@ impl Model for Chain {
 
     ghost Value = { Calls };
 
-    ghost view = { λ c. record { kind = c.kind; low = c.low; high = c.high; n_max = c.n_max;
-        given = take c.calls c.comp.items; over = c.over } };
+    ghost view = { λ c. record {
+      kind = c.kind;
+      low = c.low;
+      high = c.high;
+      n_max = c.n_max;
+      given = take c.calls c.comp.items;
+      over = c.over;
+    } };
 
     ghost invariant = { λ c.
         IsChain c.kind c.low c.high c.n_max c.calls c.comp.items c.cells.items };
@@ -50,7 +56,13 @@ impl Chain {
     /// # Errors
     ///
     /// `NoMemory` where memory is refused.
-    pub fn new(alloc: Global, kind: Kind, low: u32, high: Option<u32>, n_max: u32) -> Result<Chain, NoMemory>
+    pub fn new(
+        alloc: Global,
+        kind: Kind,
+        low: u32,
+        high: Option<u32>,
+        n_max: u32,
+    ) -> Result<Chain, NoMemory>
         requires { AreBounds kind low high n_max }
         ensures { IfOk result (λ chain. chain ≡ start_of kind low high n_max) }
     {
@@ -88,7 +100,14 @@ impl Chain {
     {
         let steps = Steps::new(self.low, self.high, self.n_max);
         keep(self.comp.as_mut_slice(), comp, here);
-        let number = next_count(steps, pascal, self.kind, self.comp.as_slice(), self.cells.as_mut_slice(), comp.len());
+        let number = next_count(
+            steps,
+            pascal,
+            self.kind,
+            self.comp.as_slice(),
+            self.cells.as_mut_slice(),
+            comp.len(),
+        );
         let answer = within(number);
         self.calls += 1;
         self.over = answer.is_err();

@@ -11,7 +11,14 @@ use luo_binom::Pascal;
 use luo_model::Kind;
 
 // Writes the numbers of size m at the steps below the last. The kind is one that stands behind a first component.
-fn settle_counts(steps: Steps, pascal: &Pascal, kind: Kind, comp: &[u128], cells: &mut [u128], m: usize)
+fn settle_counts(
+    steps: Steps,
+    pascal: &Pascal,
+    kind: Kind,
+    comp: &[u128],
+    cells: &mut [u128],
+    m: usize,
+)
     requires plan { IsPlan steps kind }
     requires rest { rest_of kind ≡ kind }
     requires size { m < steps.wide }
@@ -60,7 +67,14 @@ fn settle_totals(
 }
 
 // Takes in the size below n: its numbers depend on the number of components of that size, which is told with size n.
-fn take_in_counts(steps: Steps, pascal: &Pascal, kind: Kind, comp: &[u128], cells: &mut [u128], n: usize)
+fn take_in_counts(
+    steps: Steps,
+    pascal: &Pascal,
+    kind: Kind,
+    comp: &[u128],
+    cells: &mut [u128],
+    n: usize,
+)
     requires plan { IsPlan steps kind }
     requires rest { rest_of kind ≡ kind }
     requires size { n < steps.wide }
@@ -120,7 +134,14 @@ fn keep_answer(steps: Steps, cells: &mut [u128], n: usize, number: u128)
 }
 
 /// The number of collections of size n, marked; the rows are brought up to that size.
-pub fn next_count(steps: Steps, pascal: &Pascal, kind: Kind, comp: &[u128], cells: &mut [u128], n: usize) -> u128
+pub fn next_count(
+    steps: Steps,
+    pascal: &Pascal,
+    kind: Kind,
+    comp: &[u128],
+    cells: &mut [u128],
+    n: usize,
+) -> u128
     requires plan { IsPlan steps kind }
     requires size { n < steps.wide }
     requires reached { n ≤ pascal.now }
@@ -169,7 +190,9 @@ pub fn next_total(
         totals.new }
 {
     take_in_totals(steps, pascal, rest_of(kind), comp, body, counts, totals, n);
-    let number = total_entry(steps, pascal, kind, comp, body, counts, totals, steps.last, n);
+    let number = total_entry(
+        steps, pascal, kind, comp, body, counts, totals, steps.last, n,
+    );
     keep_answer(steps, totals, n, number);
     number
 }

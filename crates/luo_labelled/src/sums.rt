@@ -34,14 +34,21 @@ fn ways(pascal: &Pascal, kind: Kind, n: usize, j: usize) -> u128
 }
 
 // The sum over the sizes j of a first component: the ways to choose its labels, times number j, times the cell of what is left.
-fn joined(pascal: &Pascal, kind: Kind, numbers: &[u128], cells: &[u128], row: usize, n: usize) -> u128
+fn joined(
+    pascal: &Pascal,
+    kind: Kind,
+    numbers: &[u128],
+    cells: &[u128],
+    row: usize,
+    n: usize,
+) -> u128
     requires small { n ≤ 160 }
     requires reached { n ≤ pascal.now }
     requires numbers { n < length numbers.now }
     requires row { row + n ≤ length cells.now }
     ensures { result
         ≡ capped (joined (is_led kind) (slice_index numbers.now)
-            (λ m. slice_index cells.now (row + m)) n) }
+        (λ m. slice_index cells.now (row + m)) n) }
 {
     let mut sum = 0;
     for j in 0..n {

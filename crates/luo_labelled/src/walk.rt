@@ -39,9 +39,17 @@ impl Model for ChainWalk {
 
     ghost Value = { WalkCalls };
 
-    ghost view = { λ w. record { counts = take w.calls w.comp.items; sums = record {
-        kind = w.kind; low = w.low; high = w.high; n_max = w.n_max;
-        given = take w.calls w.body.items; over = w.over } } };
+    ghost view = { λ w. record {
+      counts = take w.calls w.comp.items;
+      sums = record {
+        kind = w.kind;
+        low = w.low;
+        high = w.high;
+        n_max = w.n_max;
+        given = take w.calls w.body.items;
+        over = w.over;
+      };
+    } };
 
     ghost invariant = { λ w.
         IsWalk w.kind w.low w.high w.n_max w.calls w.comp.items w.body.items w.cells.items };
@@ -54,8 +62,11 @@ impl ChainWalk {
     ///
     /// `NoMemory` where memory is refused.
     pub fn new(alloc: Global, chain: &Chain) -> Result<ChainWalk, NoMemory>
-        ensures { IfOk result (λ walk. walk ≡ record { counts = []; sums =
-            start_of chain.now.kind chain.now.low chain.now.high chain.now.n_max }) }
+        ensures { IfOk result (λ walk. walk ≡ record {
+          counts = [];
+          sums =
+              start_of chain.now.kind chain.now.low chain.now.high chain.now.n_max;
+        }) }
     {
         let steps = Steps::new(chain.low, chain.high, chain.n_max);
         let comp = vec![in alloc; 0; steps.wide]?;
@@ -97,8 +108,8 @@ impl ChainWalk {
         ensures totalled { (q : ℕ → ℕ → ℕ)
             → ((m : ℕ) → sum_below (q m) (slice_index chain.now.given m) ≡ numbers body.now here m)
             → IsCollectionTotal Labelled chain.now.kind chain.now.low chain.now.high
-                (slice_index chain.now.given) q (length body.now)
-                (total_of chain.now body.now here) }
+            (slice_index chain.now.given) q (length body.now)
+            (total_of chain.now body.now here) }
         ensures counts { self.new.counts
             ≡ comp.now ++ slice_index chain.now.given (length comp.now) ∷ [] }
         ensures kept { self.new.sums

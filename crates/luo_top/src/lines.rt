@@ -100,12 +100,7 @@ pub fn syntax_refusal(alloc: Global, text: &[u8], tokens: &[Token], error: Synta
             }
         }
         SyntaxError::Depth { token } => {
-            match line_at_token(
-                alloc,
-                DEPTH_LIMIT_HEAD,
-                token,
-                byte_of(text, tokens, token),
-            ) {
+            match line_at_token(alloc, DEPTH_LIMIT_HEAD, token, byte_of(text, tokens, token)) {
                 Ok(text) => Refusal::Limit(Line::Made(text)),
                 Err(_) => Refusal::NoMemory,
             }

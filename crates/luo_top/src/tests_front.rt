@@ -13,10 +13,19 @@ fn errors_show_their_names(rt: HostRuntime) -> Result<(), Fail> {
         (ReadError::TooLong.to_string(alloc)?, "TooLong"),
         (ReadError::NoMemory.to_string(alloc)?, "NoMemory"),
         (ScanError::BadByte { at: 1 }.to_string(alloc)?, "BadByte"),
-        (ScanError::NameLimit { at: 1 }.to_string(alloc)?, "NameLimit"),
-        (ScanError::NumberLimit { at: 1 }.to_string(alloc)?, "NumberLimit"),
+        (
+            ScanError::NameLimit { at: 1 }.to_string(alloc)?,
+            "NameLimit",
+        ),
+        (
+            ScanError::NumberLimit { at: 1 }.to_string(alloc)?,
+            "NumberLimit",
+        ),
         (ScanError::NoMemory.to_string(alloc)?, "NoMemory"),
-        (SyntaxError::Grammar { token: 1 }.to_string(alloc)?, "Grammar"),
+        (
+            SyntaxError::Grammar { token: 1 }.to_string(alloc)?,
+            "Grammar",
+        ),
         (SyntaxError::Depth { token: 1 }.to_string(alloc)?, "Depth"),
         (SyntaxError::NoMemory.to_string(alloc)?, "NoMemory"),
     ];

@@ -35,8 +35,9 @@ impl Model for LineWalk {
     ghost Value = { Walk };
 
     ghost view = { λ w. record {
-        calls = record { kind = Sequence; low = w.low; high = w.high; n_max = w.n_max; given = take w.calls w.body.items; over = w.over };
-        comp = take (w.calls - 1) w.comp.items } };
+      calls = record { kind = Sequence; low = w.low; high = w.high; n_max = w.n_max; given = take w.calls w.body.items; over = w.over };
+      comp = take (w.calls - 1) w.comp.items;
+    } };
 
     ghost invariant = { λ w. IsLineWalk w.low w.high w.n_max w.calls w.comp.items w.body.items w.cells.items };
 }
@@ -85,8 +86,9 @@ impl LineWalk {
             OkIff result (total ≤ MAX) total }
         ensures totalled { IsTotalled line.now body.now here }
         ensures kept { self.new ≡ record {
-            calls = record self.old.calls { given = body.now ++ here ∷ []; over = is_err result };
-            comp = comp.now } }
+          calls = record self.old.calls { given = body.now ++ here ∷ []; over = is_err result };
+          comp = comp.now;
+        } }
     {
         let steps = Steps::new(self.low, self.high, self.n_max);
         let total = next_total(

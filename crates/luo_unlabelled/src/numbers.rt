@@ -36,10 +36,7 @@ pub fn convolved(numbers: &[u128], cells: &[u128], row: usize, n: usize) -> u128
 {
     let mut sum = 0;
     for j in 0..n {
-        sum = marked_add(
-            sum,
-            marked_mul(numbers[j + 1], cells[row + (n - (j + 1))]),
-        );
+        sum = marked_add(sum, marked_mul(numbers[j + 1], cells[row + (n - (j + 1))]));
     }
     sum
 }

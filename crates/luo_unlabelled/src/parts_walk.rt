@@ -36,8 +36,9 @@ impl Model for PartsWalk {
     ghost Value = { Walk };
 
     ghost view = { λ w. record {
-        calls = record { kind = w.frame.kind; low = w.frame.low; high = w.frame.high; n_max = w.frame.n_max; given = take w.calls w.body.items; over = w.over };
-        comp = take (w.calls - 1) w.comp.items } };
+      calls = record { kind = w.frame.kind; low = w.frame.low; high = w.frame.high; n_max = w.frame.n_max; given = take w.calls w.body.items; over = w.over };
+      comp = take (w.calls - 1) w.comp.items;
+    } };
 
     ghost invariant = { λ w. IsPartsWalk w.frame.kind w.frame.low w.frame.high w.frame.n_max w.calls w.comp.items w.body.items w.charges.items w.cells.items };
 }
@@ -86,8 +87,9 @@ impl PartsWalk {
             OkIff result (total ≤ MAX) total }
         ensures totalled { IsTotalled parts.now body.now here }
         ensures kept { self.new ≡ record {
-            calls = record self.old.calls { given = body.now ++ here ∷ []; over = is_err result };
-            comp = comp.now } }
+          calls = record self.old.calls { given = body.now ++ here ∷ []; over = is_err result };
+          comp = comp.now;
+        } }
     {
         let total = next_total(
             self.frame,
@@ -182,7 +184,15 @@ fn advance(
 {
     if n > 1 {
         write_charges(frame.kind, charges, comp[n - 1], body[n - 1], n - 1);
-        put_total(cells, counts, ways, charges, frame.wide(), frame.deep(), n - 1);
+        put_total(
+            cells,
+            counts,
+            ways,
+            charges,
+            frame.wide(),
+            frame.deep(),
+            n - 1,
+        );
     }
 }
 

@@ -50,7 +50,10 @@ fn copies(ways: &[u128], cells: &[u128], wide: usize, d: usize, k: usize, m: usi
     let most = most_copies(d, k, m);
     let mut sum = 0;
     for j in 0..most + 1 {
-        sum = marked_add(sum, marked_mul(ways[j], cells[(k - j) * wide + (m - j * d)]));
+        sum = marked_add(
+            sum,
+            marked_mul(ways[j], cells[(k - j) * wide + (m - j * d)]),
+        );
     }
     sum
 }
@@ -134,14 +137,7 @@ fn alone(here: u128, k: usize) -> u128
 }
 
 // The collections of k components, of size n, marked: the plane has the sizes below n - 1, and the ways are those of size n - 1.
-fn top_count(
-    cells: &[u128],
-    ways: &[u128],
-    wide: usize,
-    n: usize,
-    here: u128,
-    k: usize,
-) -> u128
+fn top_count(cells: &[u128], ways: &[u128], wide: usize, n: usize, here: u128, k: usize) -> u128
     requires ways { k < length ways.now }
     requires size { n < wide }
     requires cells { (k + 1) * wide ≤ length cells.now }

@@ -117,7 +117,10 @@ pub fn total_entry(
         0
     } else {
         let row = steps.source(i);
-        marked_add(convolved(body, counts, row, n), convolved(comp, cells, row, n))
+        marked_add(
+            convolved(body, counts, row, n),
+            convolved(comp, cells, row, n),
+        )
     }
 }
 

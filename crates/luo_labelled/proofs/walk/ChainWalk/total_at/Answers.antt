@@ -224,5 +224,5 @@ returns-clause-totalled c =
       holds = w.holds;
     } in
     subst (λ (t : Calls). (q : ℕ → ℕ → ℕ) → ((m : ℕ) → sum_below (q m) (slice_index t.given m) ≡ numbers c.args.body.now c.args.here m)
-        → IsCollectionTotal Labelled t.kind t.low t.high (slice_index t.given) q (length c.args.body.now) (total_of t c.args.body.now c.args.here)) c.chain.view_is
+    → IsCollectionTotal Labelled t.kind t.low t.high (slice_index t.given) q (length c.args.body.now) (total_of t c.args.body.now c.args.here)) c.chain.view_is
     (totalled i.kind i.low i.high i.n_max c.new-steps.result i.comp.items i.cells.items o.comp.items o.body.items o.cells.items c.args.comp.now c.args.body.now c.as_slice.result.now c.as_slice-2.result.now i.calls o.calls c.given_at-last.result c.args.here s)
