@@ -21,11 +21,13 @@ use Rattle.luo_rules.specs.Whole.{IsCore, breaches}
 use Rattle.luo_top.specs.declared.status.Status.TheVariants.{Refused, Limit}
 use Rattle.luo_top.specs.Answer.{Refusal}
 use Rattle.luo_top.specs.Commands.Analyse.{plain, reported}
+use Rattle.luo_founded.proofs.OneAnswer.{first_once}
+use Rattle.luo_top.specs.FoundedRefusals.{founded_line, FoundedRefusal}
 use Rattle.luo_top.specs.Outcome.{Outcome, steps_of}
 use Rattle.luo_top.specs.Plain.{IsPlain}
 use Rattle.luo_top.specs.Refusals.{LexicalRefusal, SyntaxRefusal, LimitRefusal, RuleRefusal, WalksRefusal, refusal_of_fault, refusal_of_error, byte_of_token, limit_line, rule_line}
 use Rattle.luo_top.specs.Report.{IsReport}
-use Rattle.luo_top.specs.Steps.{tokens_of, source_of, core_of, file_source, file_program, sized}
+use Rattle.luo_top.specs.Steps.{tokens_of, source_of, core_of, file_source, file_program, founded, sized}
 use Rattle.luo_top.specs.Step.{◌and_then◌}
 use Rattle.luo_top.specs.Told.{Told, ReadingRefusal, reading}
 use Rattle.luo_top.specs.Words.{Command, Analyse, Format, command_of, WordsRefusal, asked_by}
@@ -152,6 +154,12 @@ program_core file told p (text, h, (ts, t, (s, d, (none, c)))) = (s, c)
 plain-sole : (p : Program) → IsSole (plain p)
 plain-sole p = or_makes-sole _ _ (refused-single _ _ _) (λ none x y _ _. refl)
 
+founded-single : (p : Program) → IsSingle (FoundedRefusal p)
+founded-single p a b (d, h, e) (c, k, g) = e ∙ ap (λ x. Refusal Refused (founded_line p x)) (first_once p d c h k) ∙ sym g
+
+founded-sole : (p : Program) → IsSole (founded p)
+founded-sole p = or_makes-sole _ _ (founded-single p) (λ none x y _ _. refl)
+
 sized-sole : (n : ℕ) → IsSole (sized n)
 sized-sole n = or_makes-sole _ _ (refused-single _ _ _) (λ none x y e d. e ∙ sym d)
 
@@ -161,8 +169,8 @@ reported-sole p n r = and_then-sole _ _ (or_makes-sole _ _ (refused-single _ _ _
 steps-sole : (c : Command) (told : Told) → IsSole (steps_of c told)
 steps-sole (Analyse file n) told = and_then-sole _ _ (program-sole file told) (λ p h.
     let core = program_core file told p h in
-    and_then-sole _ _ (plain-sole p) (λ _ k. and_then-sole _ _ (sized-sole n) (λ m _.
-    reported-sole p m (reports-single core.0 p m core.1 (λ other. k.0 _ (other, refl))))))
+    and_then-sole _ _ (founded-sole p) (λ _ _. and_then-sole _ _ (plain-sole p) (λ _ k. and_then-sole _ _ (sized-sole n) (λ m _.
+    reported-sole p m (reports-single core.0 p m core.1 (λ other. k.0 _ (other, refl)))))))
 steps-sole (Format file) told = and_then-sole _ _ (source_file-sole file told) (λ s _. makes-sole _ (λ x y p q. p ∙ sym q))
 
 pub words-single : (o : Option Command) → IsSingle (WordsRefusal o)

@@ -14,11 +14,12 @@ use Rattle.luo_rules.specs.Checks.{IsSource}
 use Rattle.luo_rules.specs.Counted.{limits_passed}
 use Rattle.luo_rules.specs.Whole.{IsCore, breaches, core, walk_count}
 use Rattle.luo_rules.proofs.CoreIsProgram.{core_is_program}
+use Rattle.luo_founded.proofs.SomeAnswer.{founded_or_first}
 use Rattle.luo_top.specs.Answer.{Answer, Output, Untold}
 use Rattle.luo_top.specs.Outcome.{Outcome, steps_of}
 use Rattle.luo_top.specs.Refusals.{LimitRefusal}
 use Rattle.luo_top.specs.Step.{Step, HasNone, ◌or_makes◌, ◌and_then◌, ends}
-use Rattle.luo_top.specs.Steps.{tokens_of, source_of, core_of, CoreRefusal, file_source, file_program}
+use Rattle.luo_top.specs.Steps.{tokens_of, source_of, core_of, CoreRefusal, file_source, file_program, founded}
 use Rattle.luo_top.specs.Told.{Told, ReadingRefusal, reading}
 use Rattle.luo_top.specs.Words.{Command, Analyse, Format, command_of, WordsRefusal, asked_by}
 use Rattle.luo_top.proofs.plain_lemmas.FillPlain.{plain_fillable}
@@ -97,12 +98,16 @@ program_is file told p (text, h, (ts, t, (s, d, (none, c)))) =
         cases : (m n : ℕ) → (m ≤ n) ⊎ (n < m)
         cases m n = grind arith
 
+founded-goes_on : (p : Program) → GoesOn (founded p)
+founded-goes_on p = or_makes-goes_on _ _ (λ none nothing. founded_or_first p (λ e b. none _ (e, b, refl)) (λ f. nothing tt f))
+
 steps-go_on : (c : Command) (told : Told) → GoesOn (steps_of c told)
 steps-go_on (Analyse file n) told = and_then-goes_on _ _ (program-goes_on file told) (λ p h.
     let is = program_is file told p h in
-    and_then-goes_on _ _ (or_makes-goes_on _ _ (λ none nothing. nothing tt tt)) (λ _ k. and_then-goes_on _ _ (or_makes-goes_on _ _ (λ none nothing. nothing n refl)) (λ m l.
+    and_then-goes_on _ _ (founded-goes_on p) (λ _ _. and_then-goes_on _ _ (or_makes-goes_on _ _ (λ none nothing. nothing tt tt)) (λ _ k.
+    and_then-goes_on _ _ (or_makes-goes_on _ _ (λ none nothing. nothing n refl)) (λ m l.
     and_then-goes_on _ _ (or_makes-goes_on _ _ (λ none nothing. nothing tt tt)) (λ _ _. or_makes-goes_on _ _ (λ none nothing.
-    k.0 _ ((λ plain. let r = report_comes p (plain_fillable p is plain) m in nothing r.0 r.1), refl))))))
+    k.0 _ ((λ plain. let r = report_comes p (plain_fillable p is plain) m in nothing r.0 r.1), refl)))))))
 steps-go_on (Format file) told = and_then-goes_on _ _ (source_file-goes_on file told) (λ s _. or_makes-goes_on _ _ (λ none nothing. nothing _ refl))
 
 asked-goes_on : (words : List (List ℕ)) → GoesOn (asked_by words)

@@ -1,8 +1,10 @@
 pub mod Answer
 pub mod Commands
 pub mod Exit
+pub mod FoundedRefusals
 pub mod Headline
 pub mod Laws
+pub mod Names
 pub mod Outcome
 pub mod Plain
 pub mod Refusals

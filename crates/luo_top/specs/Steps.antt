@@ -1,16 +1,17 @@
 -- The steps that commands share: from a file to its source and its program, and a size.
-use Rattle.std.specs.Prelude.{◌≡◌, ◌<◌, ℕ, List}
+use Rattle.std.specs.Prelude.{◌≡◌, ◌<◌, ⊤, ℕ, List}
 use Rattle.luo_finite.specs.Steps.{◌or_else◌}
 use Rattle.luo_model.specs.Program.{Program}
-use Rattle.luo_num.specs.declared.limits.TheConstants.{TEXT_LIMIT}
+use Rattle.luo_model.specs.Founded.{IsFounded}
+use Rattle.luo_num.specs.declared.limits.TheConstants.{TEXT_LIMIT, SIZE_LIMIT}
 use Rattle.luo_scan.specs.declared.token.Token.{Token}
 use Rattle.luo_scan.specs.Tokens.{Tokens}
 use Rattle.luo_source.specs.declared.source.Source.{Source}
 use Rattle.luo_source.specs.Grammar.{Derives}
 use Rattle.luo_rules.specs.Whole.{IsCore}
-use Rattle.luo_num.specs.declared.limits.TheConstants.{SIZE_LIMIT}
 use Rattle.luo_top.specs.declared.status.Status.TheVariants.{Limit}
 use Rattle.luo_top.specs.Answer.{Answer}
+use Rattle.luo_top.specs.FoundedRefusals.{FoundedRefusal}
 use Rattle.luo_top.specs.Refusals.{bytes_line, size_line, LexicalRefusal, SyntaxRefusal, LimitRefusal, RuleRefusal, WalksRefusal}
 use Rattle.luo_top.specs.Step.{Step, ◌or_makes◌, ◌and_then◌, RefusedWhere}
 use Rattle.luo_top.specs.Told.{Told, reading}
@@ -43,6 +44,10 @@ file_source file told = text_of file told and_then λ text. tokens_of text and_t
 abbrev pub file_program : List ℕ → Told → Step Program
 file_program file told =
     text_of file told and_then λ text. tokens_of text and_then λ tokens. source_of text tokens and_then core_of text tokens
+
+-- the first rule of well-foundedness that is broken, and else the program is founded
+abbrev pub founded : Program → Step ⊤
+founded p = FoundedRefusal p or_makes λ _. IsFounded p
 
 -- a size past the limit is refused
 abbrev pub sized : ℕ → Step ℕ

@@ -1,9 +1,11 @@
 // The steps that commands share. Each answers the next thing, or a refusal.
+mod founding;
 mod program;
 mod size;
 mod source;
 mod text;
 
+pub use founding::founded;
 pub use program::file_program;
 pub use size::sized;
 pub use source::file_source;

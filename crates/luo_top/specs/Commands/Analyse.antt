@@ -6,7 +6,7 @@ use Rattle.luo_top.specs.Plain.{IsPlain}
 use Rattle.luo_top.specs.Refusals.{untaken_line}
 use Rattle.luo_top.specs.Report.{IsPast, IsReport}
 use Rattle.luo_top.specs.Step.{Step, ◌and_then◌, refused_where, makes}
-use Rattle.luo_top.specs.Steps.{file_program, sized}
+use Rattle.luo_top.specs.Steps.{file_program, founded, sized}
 use Rattle.luo_top.specs.Told.{Told}
 
 -- a program that isn't plain is refused
@@ -19,4 +19,5 @@ reported p n = refused_where (IsPast p n) Refused untaken_line and_then λ _. ma
 
 -- the report of the program for the sizes up to n
 abbrev pub analyse : List ℕ → ℕ → Told → Step (List ℕ)
-analyse file n told = file_program file told and_then λ p. plain p and_then λ _. sized n and_then reported p
+analyse file n told =
+    file_program file told and_then λ p. founded p and_then λ _. plain p and_then λ _. sized n and_then reported p

@@ -1,5 +1,5 @@
 -- What the calls of the steps answer.
-use Rattle.std.specs.Prelude.{◌≡◌, ◌⊎◌, ℕ, List, codes, Option, Result, Ok, Err}
+use Rattle.std.specs.Prelude.{◌≡◌, ◌⊎◌, ⊤, ℕ, List, codes, Option, Result, Ok, Err}
 use Rattle.luo_finite.specs.Listing.{In}
 use Rattle.luo_outside.specs.Causes.{Rose, NoneFell}
 use Rattle.luo_top.specs.declared.status.Status.{Status}
@@ -56,6 +56,10 @@ pub record Passes {X Y : Type 0} (view : Y → X) (step : Step X) (result : Resu
 -- a value is what it is seen as
 abbrev pub itself : {X : Type 0} → X → X
 itself x = x
+
+-- nothing of a value is seen
+abbrev pub none : {X : Type 0} → X → ⊤
+none x = tt
 
 -- what a source tells, and how often each file failed, before a call and behind it
 pub record Seen : Type 0 where

@@ -11,7 +11,7 @@ use crate::lines::UNTAKEN_LINE;
 use crate::plain::{is_plain, tables};
 use crate::refusal::{Line, Refusal};
 use crate::report::report;
-use crate::steps::{file_program, sized};
+use crate::steps::{file_program, founded, sized};
 use luo_model::Program;
 use luo_num::{Items, Text};
 use luo_outside::Files;
@@ -52,6 +52,7 @@ pub fn analyse_file<F: Files>(
         (steps.analyse file.now n) (seen F.named F.faults files.old files.new) result }
 {
     let program = file_program(alloc, files, file)?;
+    let _ranks = founded(alloc, &program)?;
     plain(&program)?;
     let size = sized(last)?;
     reported(alloc, &program, size)
