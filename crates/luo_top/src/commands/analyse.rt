@@ -52,7 +52,7 @@ pub fn analyse_file<F: Files>(
         (steps.analyse file.now n) (seen F.named F.faults files.old files.new) result }
 {
     let program = file_program(alloc, files, file)?;
-    let _ranks = founded(alloc, &program)?;
+    founded(alloc, &program)?;
     plain(&program)?;
     let size = sized(last)?;
     reported(alloc, &program, size)

@@ -4,7 +4,7 @@ ghost use Rattle.luo_model.specs.View.{plain_of};
 ghost use Rattle.luo_top.specs.Names.{name_of_definition, node_name, procedure_name};
 ghost use Rattle.luo_founded.specs.declared.checking.NotFounded.TheVariants.{W3, W4};
 ghost use Rattle.luo_top.specs.FoundedRefusals.{first_of, chain_text, founded_line, FoundedRefusal};
-ghost use Rattle.luo_founded.specs.Found.{Refuses};
+ghost use Rattle.luo_founded.specs.Found.{Refuses, WantsMemory};
 ghost use Rattle.luo_top.specs.Steps as steps;
 ghost use Rattle.luo_top.specs.inner.Passes.{RefusedBy, Passes, none};
 
@@ -130,7 +130,9 @@ fn procedures_line(alloc: Global, program: &Program, chain: &[usize]) -> Result<
 
 // The line of a program that is not well-founded.
 fn founded_line(alloc: Global, program: &Program, error: &NotFounded) -> Result<Vec<u8>, NoMemory>
-    ensures { IfOk result (λ text. text.items ≡ founded_line (plain_of program.now) error.now) }
+    ensures line { IfOk result (λ text. text.items ≡ founded_line
+        (plain_of program.now) error.now) }
+    ensures told { IfOk result (λ _. WantsMemory error.now → ⊥) }
 {
     match error {
         NotFounded::W1 { node } => node_line(alloc, program, b"refused: W1 at ", *node),
