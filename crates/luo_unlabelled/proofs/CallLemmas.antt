@@ -157,6 +157,7 @@ counts_kept s below kept none n cells e l z y t = record {
   where
     number : (x : ℕ) → x < n → slice_index below x ≡ slice_index kept x
     number x h = sym (number_kept kept below none x e (omega (arith, l, h)) ∙ number_below below none x (omega (arith, l, h)))
+
     same : (i m : ℕ) → m < n → capped (step_count s (slice_index below) i m) ≡ capped (step_count s (slice_index kept) i m)
     same i m b = ap capped (coll_count-needed Unlabelled Sequence (i - s.free) (most_at s.bounded i) (slice_index below) (slice_index kept) m tt z y (λ x q. number x (omega (arith, q, b))) (λ w. number m b))
 

@@ -149,6 +149,7 @@ plane-past kind a (suc d) k n h = sum_below-zero (λ j. chosen kind (a (suc d)) 
     at_least : (j d : ℕ) → j ≤ j * suc d
     at_least zero d = omega arith
     at_least (suc j) d = omega (arith, times_suc j (suc d), at_least j d)
+
     fewer : (j d k n : ℕ) → n < k → j * suc d ≤ n → n - j * suc d < k - j
     fewer j d k n h i = omega (arith, h, i, at_least j d)
 

@@ -78,13 +78,16 @@ total-top kind a b n k o =
     whole =
         let q : 1 * plane_totals kind a b n k (suc n) ≡ plane_totals kind a b n k (suc n) = omega arith in
         ap (λ x. x * back (0 * suc n) (plane_totals kind a b n (k - 0)) (suc n)) (chosen-none kind (a (suc n))) ∙ ap (λ s. 1 * back s (plane_totals kind a b n (k - 0)) (suc n)) (zero-mul (suc n)) ∙ ap (λ i. 1 * plane_totals kind a b n i (suc n)) (let q : k - 0 ≡ k = omega arith in q) ∙ q
+
     later : (j : ℕ) → chosen kind (a (suc n)) (suc j) * back (suc j * suc n) (plane_totals kind a b n (k - suc j)) (suc n) ≡ 0
     later j = ⊎_elim
         (λ l. ap (λ x. chosen kind (a (suc n)) (suc j) * x) (back_there (suc j * suc n) (plane_totals kind a b n (k - suc j)) (suc n) l ∙ ap (λ i. plane_totals kind a b n (k - suc j) i) (let q : suc n - suc j * suc n ≡ 0 = omega (arith, behind j n) in q) ∙ total-zero kind a b n (k - suc j)) ∙ mul-zero (chosen kind (a (suc n)) (suc j)))
         (λ l. ap (λ x. chosen kind (a (suc n)) (suc j) * x) (back-no (suc j * suc n) (plane_totals kind a b n (k - suc j)) (suc n) l) ∙ mul-zero (chosen kind (a (suc n)) (suc j)))
         (le_or (suc j * suc n) (suc n))
+
     none : (k : ℕ) → chosen_totals kind (a (suc n)) (b (suc n)) 0 * back (0 * suc n) (plane kind a n (k - 0)) (suc n) ≡ 0
     none k = ap (λ x. x * back (0 * suc n) (plane kind a n (k - 0)) (suc n)) (charged-none kind (a (suc n)) (b (suc n))) ∙ zero-mul (back (0 * suc n) (plane kind a n (k - 0)) (suc n))
+
     ones : (k : ℕ) → sum_below (λ j. chosen_totals kind (a (suc n)) (b (suc n)) j * back (j * suc n) (plane kind a n (k - j)) (suc n)) (suc k) ≡ alone (b (suc n)) k
     ones zero = (let q : chosen_totals kind (a (suc n)) (b (suc n)) 0 * back (0 * suc n) (plane kind a n (0 - 0)) (suc n) + 0 ≡ 0 = omega (arith, none 0) in q) ∙ sym (mul-zero (b (suc n))) ∙ alone_is (b (suc n)) 0
     ones (suc k) =

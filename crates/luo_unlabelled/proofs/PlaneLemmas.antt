@@ -53,6 +53,7 @@ with_size-same ways new old wide d k m h b e r =
   where
     times : (j : ℕ) → 1 ≤ j → 1 ≤ d → 1 ≤ j * d
     times j a b = grind arith
+
     each : (j : ℕ) → j < suc k → (x : ℕ) → x ≤ m → j * d + x ≡ m → slice_index new ((k - j) * wide + x) ≡ slice_index old ((k - j) * wide + x)
     each zero l x a q = ap (λ p. slice_index new (p * wide + x)) (let g : k - 0 ≡ k = omega arith in g) ∙ ap (λ p. slice_index new (k * wide + p)) (let g : x ≡ m = omega (arith, q) in g) ∙ e
         ∙ sym (ap (λ p. slice_index old (p * wide + x)) (let g : k - 0 ≡ k = omega arith in g) ∙ ap (λ p. slice_index old (k * wide + p)) (let g : x ≡ m = omega (arith, q) in g))

@@ -194,14 +194,17 @@ row_totals-needed a b c d (suc k) n az bz cz dz h g o =
   where
     zero_times : (x y r t : ℕ) → x ≡ 0 → y ≡ 0 → x * r ≡ y * t
     zero_times x y r t e f = ap (λ m. m * r) e ∙ zero-mul r ∙ sym (ap (λ m. m * t) f ∙ zero-mul t)
+
     times_zero : (x y r t : ℕ) → r ≡ 0 → t ≡ 0 → x * r ≡ y * t
     times_zero x y r t e f = ap (λ m. x * m) e ∙ mul-zero x ∙ sym (ap (λ m. y * m) f ∙ mul-zero y)
+
     first : (k : ℕ) → (suc k ≡ 1 → b n ≡ d n) → (i j : ℕ) → i + j ≡ n → b i * rows Unlabelled a k j ≡ d i * rows Unlabelled c k j
     first k o zero j e = zero_times (b 0) (d 0) (rows Unlabelled a k j) (rows Unlabelled c k j) bz dz
     first zero o (suc i) zero e = ap (λ x. b x * 1) (let q : suc i ≡ n = omega (arith, e) in q) ∙ ap (λ x. x * 1) (o refl) ∙ ap (λ x. d x * 1) (let q : n ≡ suc i = omega (arith, e) in q)
     first (suc k) o (suc i) zero e = times_zero (b (suc i)) (d (suc i)) (rows Unlabelled a (suc k) 0) (rows Unlabelled c (suc k) 0) (rows-past a (suc k) 0 az (omega arith)) (rows-past c (suc k) 0 cz (omega arith))
     first k o (suc i) (suc j) e =
         ap (λ m. m * rows Unlabelled a k (suc j)) (g (suc i) (omega (arith, e))) ∙ ap (λ m. d (suc i) * m) (rows_same a c k (suc j) (λ m l. h m (omega (arith, e, l))))
+
     rest : (i j : ℕ) → i + j ≡ n → a i * row_totals Unlabelled a b k j ≡ c i * row_totals Unlabelled c d k j
     rest zero j e = zero_times (a 0) (c 0) (row_totals Unlabelled a b k j) (row_totals Unlabelled c d k j) az cz
     rest (suc i) zero e = times_zero (a (suc i)) (c (suc i)) (row_totals Unlabelled a b k 0) (row_totals Unlabelled c d k 0) (row_totals-zero a b k az bz) (row_totals-zero c d k cz dz)

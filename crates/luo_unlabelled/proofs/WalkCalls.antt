@@ -49,6 +49,7 @@ walk_total t kind low high comp body here v p ek el eh l ec z y u o idle e =
     first : (i : ℕ) → i ≤ length body - 1 → slice_index comp i ≡ slice_index t.given i
     first zero b = y ∙ sym z
     first (suc i) b = ap (λ (g : List ℕ). slice_index g (suc i)) ec ∙ get_or-take (length body) t.given (suc i) 0 (omega (arith, b))
+
     second : (i : ℕ) → i ≤ length body - 1 → slice_index body i ≡ numbers body here i
     second zero b = u ∙ sym (none_empty body here u o)
     second (suc i) b = sym (number_below body here (suc i) (omega (arith, b)))

@@ -15,4 +15,3 @@ pub use line::Line;
 pub use line_walk::LineWalk;
 pub use parts::Parts;
 pub use parts_walk::PartsWalk;
-

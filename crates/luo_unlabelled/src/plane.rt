@@ -50,7 +50,10 @@ fn copies(ways: &[u128], cells: &[u128], wide: usize, d: usize, k: usize, m: usi
     let most = most_copies(d, k, m);
     let mut sum = 0;
     for j in 0..most + 1 {
-        sum = marked_add(sum, marked_mul(ways[j], cells[(k - j) * wide + (m - j * d)]));
+        sum = marked_add(
+            sum,
+            marked_mul(ways[j], cells[(k - j) * wide + (m - j * d)]),
+        );
     }
     sum
 }
@@ -95,7 +98,8 @@ fn put_total_row(
     requires charges { k < length charges.now }
     requires counts { (k + 1) * wide ≤ length counts.now }
     requires cells { (k + 1) * wide ≤ length cells.old }
-    ensures { IsRowPut (total_put ways.now charges.now counts.now wide d) wide k wide cells.old cells.new }
+    ensures { IsRowPut
+        (total_put ways.now charges.now counts.now wide d) wide k wide cells.old cells.new }
 {
     for m in 0..wide {
         let charged = copies(charges, counts, wide, d, k, m);
@@ -119,7 +123,8 @@ pub fn put_total(
     requires charges { deep ≤ length charges.now }
     requires counts { deep * wide ≤ length counts.now }
     requires cells { deep * wide ≤ length cells.old }
-    ensures { IsPut (total_put ways.now charges.now counts.now wide d) wide 0 deep cells.old cells.new }
+    ensures { IsPut
+        (total_put ways.now charges.now counts.now wide d) wide 0 deep cells.old cells.new }
 {
     for done in 0..deep {
         put_total_row(cells, counts, ways, charges, wide, d, deep - 1 - done);
@@ -134,14 +139,7 @@ fn alone(here: u128, k: usize) -> u128
 }
 
 // The collections of k components, of size n, marked: the plane has the sizes below n - 1, and the ways are those of size n - 1.
-fn top_count(
-    cells: &[u128],
-    ways: &[u128],
-    wide: usize,
-    n: usize,
-    here: u128,
-    k: usize,
-) -> u128
+fn top_count(cells: &[u128], ways: &[u128], wide: usize, n: usize, here: u128, k: usize) -> u128
     requires ways { k < length ways.now }
     requires size { n < wide }
     requires cells { (k + 1) * wide ≤ length cells.now }
