@@ -1,6 +1,5 @@
 -- Choices as binomials.
-use Rattle.std.proofs.Common.{◌≡◌, ℕ, zero, suc, ◌+◌, ◌*◌, ◌-◌, ◌≤◌, ◌<◌, refl, sym, ◌∙◌, ap, arith}
-use Rattle.std.proofs.Math.Nat.{mul-zero}
+use Rattle.std.proofs.Common.{◌≡◌, ℕ, zero, suc, ◌+◌, ◌*◌, ◌-◌, refl, sym, ◌∙◌, ap, arith}
 use Rattle.luo_num.specs.Mark.{capped}
 use Rattle.luo_num.proofs.Capped.{capped-mul}
 use Rattle.luo_finite.specs.Binomial.{choose}

@@ -1,11 +1,10 @@
 -- From one call to the next, over planes.
 use Rattle.std.proofs.Common.{◌≡◌, ℕ, zero, suc, ◌+◌, ◌*◌, ◌-◌, ◌≤◌, ◌<◌, ◌⊎◌, ⊎_elim, List, [], ◌∷◌, ◌++◌, Option, Some, None, length, set, take, replicate, slice_index, nat_lt, if◌then◌else◌, refl, sym, ◌∙◌, ap, subst, arith}
 use Rattle.std.specs.Prelude.{IfSome}
-use Rattle.std.proofs.lemmas.List.{length-replicate, length-set, get_or-take, length-take, get_or-set_same, get_or-set_other, get_or-replicate}
+use Rattle.std.proofs.lemmas.List.{length-replicate, length-set, get_or-take, length-take, get_or-set_same, get_or-set_other}
 use Rattle.std.proofs.lemmas.Bool.Decides.{nat_tests}
 use Rattle.luo_num.specs.Mark.{capped}
 use Rattle.luo_num.specs.declared.TheConstants.{MAX}
-use Rattle.luo_finite.specs.Range.{sum_below, unit}
 use Rattle.luo_model.specs.declared.program.Universe.TheVariants.{Unlabelled}
 use Rattle.luo_model.specs.declared.program.Kind.{Kind}
 use Rattle.luo_model.specs.declared.program.Kind.TheVariants.{Sequence, Set, Cycle, Multiset, Powerset}
@@ -15,7 +14,7 @@ use Rattle.luo_counting.specs.Numbers.{plane, coll_count}
 use Rattle.luo_counting.proofs.Numbered.{coll_count-needed, collections_counted}
 use Rattle.luo_unlabelled.specs.Calls.{Calls, IsOfParts, up_to, numbers, ahead_of, IsAheadCounted}
 use Rattle.luo_unlabelled.specs.inner.Planes.{with_size, count_put, AreWays, HoldsPlane, IsPut, alone, top_count, sum_from, last_of, IsParts}
-use Rattle.luo_unlabelled.proofs.PartNumbers.{plane-same, count_step, count_ahead, top, number_by_planes, none_within}
+use Rattle.luo_unlabelled.proofs.PartNumbers.{plane-same, count_step, count_ahead, top, number_by_planes}
 use Rattle.luo_unlabelled.proofs.CallLemmas.{number_kept, number_below}
 use Rattle.luo_unlabelled.proofs.PlaneLemmas.{place_in}
 

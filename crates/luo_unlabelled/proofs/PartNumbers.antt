@@ -1,22 +1,19 @@
 -- Numbers of multisets and powersets by planes.
-use Rattle.std.proofs.Common.{◌≡◌, ℕ, zero, suc, ◌+◌, ◌*◌, ◌-◌, ◌≤◌, ◌<◌, ◌⊎◌, ⊎_elim, List, Option, Some, None, slice_index, nat_le, refl, sym, ◌∙◌, ap, arith}
+use Rattle.std.proofs.Common.{◌≡◌, ℕ, zero, suc, ◌+◌, ◌*◌, ◌-◌, ◌≤◌, ◌<◌, ◌⊎◌, ⊎_elim, List, Option, Some, None, slice_index, refl, sym, ◌∙◌, ap, arith}
 use Rattle.std.proofs.lemmas.Bool.Decides.{nat_tests}
 use Rattle.std.proofs.Math.Nat.{mul-zero, zero-mul}
 use Rattle.luo_num.specs.Mark.{capped}
 use Rattle.luo_num.proofs.Capped.{capped-mul}
-use Rattle.luo_finite.specs.Range.{sum_below, unit}
-use Rattle.luo_finite.specs.Binomial.{choose}
+use Rattle.luo_finite.specs.Range.{sum_below}
 use Rattle.luo_finite.proofs.Ranges.{sum_below-same, sum_below-add, sum_below-zero, sum_below-shift}
 use Rattle.luo_model.specs.declared.program.Universe.TheVariants.{Unlabelled}
 use Rattle.luo_model.specs.declared.program.Kind.{Kind}
 use Rattle.luo_model.specs.declared.program.Kind.TheVariants.{Sequence, Set, Cycle, Multiset, Powerset}
-use Rattle.luo_counting.specs.Items.{Suits}
-use Rattle.luo_counting.specs.Numbers.{repeats, chosen, subset_totals, chosen_totals, back, plane, plane_totals, coll_count, coll_total, terms}
-use Rattle.luo_counting.proofs.Planes.{back-yes, back-no, times_suc}
+use Rattle.luo_counting.specs.Numbers.{repeats, chosen, chosen_totals, back, plane, plane_totals, coll_count, terms}
+use Rattle.luo_counting.proofs.Planes.{back-no, times_suc}
 use Rattle.luo_counting.proofs.PlaneTops.{plane-top, is_one}
 use Rattle.luo_unlabelled.specs.Calls.{IsOfParts, up_to}
 use Rattle.luo_unlabelled.specs.inner.Planes.{with_size, AreWays, AreCharges, HoldsPlane, alone, sum_from, last_of}
-use Rattle.luo_unlabelled.proofs.RowLemmas.{sum_below-tail}
 use Rattle.luo_unlabelled.proofs.StepLemmas.{alike}
 use Rattle.luo_unlabelled.proofs.PlaneLemmas.{back_there, back_same}
 

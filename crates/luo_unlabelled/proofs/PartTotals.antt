@@ -1,6 +1,5 @@
 -- Charges over multisets and powersets by planes.
-use Rattle.std.proofs.Common.{◌≡◌, ℕ, zero, suc, ◌+◌, ◌*◌, ◌-◌, ◌≤◌, ◌<◌, ◌⊎◌, ⊎_elim, List, ◌++◌, ◌∷◌, [], Option, Some, None, length, take, slice_index, refl, sym, ◌∙◌, ap, subst, arith}
-use Rattle.std.proofs.lemmas.List.{get_or-take}
+use Rattle.std.proofs.Common.{◌≡◌, ℕ, zero, suc, ◌+◌, ◌*◌, ◌-◌, ◌≤◌, ◌<◌, ⊎_elim, List, ◌++◌, ◌∷◌, [], Option, length, take, slice_index, refl, sym, ◌∙◌, ap, subst, arith}
 use Rattle.std.proofs.Math.Nat.{mul-zero, zero-mul}
 use Rattle.luo_num.specs.Mark.{capped}
 use Rattle.luo_finite.specs.Range.{sum_below, unit}
@@ -8,15 +7,14 @@ use Rattle.luo_finite.proofs.Ranges.{sum_below-same, sum_below-add, sum_below-ze
 use Rattle.luo_model.specs.declared.program.Universe.TheVariants.{Unlabelled}
 use Rattle.luo_model.specs.declared.program.Kind.{Kind}
 use Rattle.luo_model.specs.declared.program.Kind.TheVariants.{Sequence, Set, Cycle, Multiset, Powerset}
-use Rattle.luo_counting.specs.Numbers.{repeats, chosen, chosen_totals, back, plane, plane_totals, coll_total, terms}
+use Rattle.luo_counting.specs.Numbers.{chosen, chosen_totals, back, plane, plane_totals, coll_total, terms}
 use Rattle.luo_counting.proofs.Planes.{back-no, times_suc}
-use Rattle.luo_counting.proofs.PlaneTops.{is_one}
-use Rattle.luo_unlabelled.specs.Calls.{Calls, IsOfParts, numbers, total_of}
+use Rattle.luo_unlabelled.specs.Calls.{IsOfParts}
 use Rattle.luo_unlabelled.specs.inner.Planes.{with_size, total_put, AreWays, AreCharges, HoldsPlane, IsPut, alone, sum_from, last_of, sum_within, top_total}
 use Rattle.luo_unlabelled.proofs.StepLemmas.{alike}
 use Rattle.luo_unlabelled.proofs.PlaneLemmas.{back_there}
-use Rattle.luo_unlabelled.proofs.PartNumbers.{le_or, chosen-none, plane-beyond, plane_totals-same, total_step, alone_is, alone_none, terms_are, plane-same}
-use Rattle.luo_unlabelled.proofs.CallLemmas.{number_kept, number_below, number_here, given_at}
+use Rattle.luo_unlabelled.proofs.PartNumbers.{le_or, chosen-none, plane-beyond, plane_totals-same, total_step, alone_is, alone_none, terms_are}
+use Rattle.luo_unlabelled.proofs.CallLemmas.{number_kept, number_below}
 
 -- nothing chosen is charged nothing, and one of all is charged what all are
 charged-none : (kind : Kind) (a t : ℕ) → chosen_totals kind a t 0 ≡ 0

@@ -8,7 +8,7 @@ use Rattle.luo_finite.specs.Range.{sum_below}
 use Rattle.luo_finite.proofs.Ranges.{sum_below-same}
 use Rattle.luo_counting.specs.Numbers.{back}
 use Rattle.luo_counting.proofs.Planes.{back-yes, back-no}
-use Rattle.luo_unlabelled.specs.inner.Planes.{with_size, IsRowPut, IsPut, sum_from, alone}
+use Rattle.luo_unlabelled.specs.inner.Planes.{with_size, IsRowPut, IsPut, sum_from}
 use Rattle.luo_unlabelled.proofs.CellLemmas.{cell_same, cell_other}
 use Rattle.luo_unlabelled.proofs.RowLemmas.{sum_below-tail}
 

@@ -1,5 +1,5 @@
 -- Numbers of rows of components, and of charges over them.
-use Rattle.std.proofs.Common.{◌≡◌, ℕ, zero, suc, ◌+◌, ◌*◌, ◌-◌, ◌≤◌, ◌<◌, ◌⊎◌, ⊎_elim, Bool, true, false, Option, Some, None, min, refl, sym, ◌∙◌, ap, arith}
+use Rattle.std.proofs.Common.{◌≡◌, ℕ, zero, suc, ◌+◌, ◌*◌, ◌-◌, ◌≤◌, ◌<◌, ◌⊎◌, ⊎_elim, Option, Some, None, refl, sym, ◌∙◌, ap, arith}
 use Rattle.std.proofs.Math.Nat.{mul-zero, zero-mul}
 use Rattle.luo_finite.specs.Range.{sum_below, unit}
 use Rattle.luo_finite.proofs.Ranges.{sum_below-same, sum_below-shift, sum_below-zero, sum_below-times, sum_below-swap, sum_below-add}

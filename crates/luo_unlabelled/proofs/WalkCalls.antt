@@ -1,10 +1,9 @@
 -- From one call of a walk to the next, over planes.
-use Rattle.std.proofs.Common.{◌≡◌, ℕ, zero, suc, ◌+◌, ◌*◌, ◌-◌, ◌≤◌, ◌<◌, List, [], ◌∷◌, ◌++◌, Option, length, take, slice_index, refl, sym, ◌∙◌, ap, arith}
+use Rattle.std.proofs.Common.{◌≡◌, ℕ, zero, suc, ◌+◌, ◌*◌, ◌-◌, ◌≤◌, ◌<◌, List, Option, length, take, slice_index, sym, ◌∙◌, ap, arith}
 use Rattle.std.proofs.lemmas.List.{get_or-take, length-take}
 use Rattle.luo_num.specs.Mark.{capped}
-use Rattle.luo_model.specs.declared.program.Universe.TheVariants.{Unlabelled}
 use Rattle.luo_model.specs.declared.program.Kind.{Kind}
-use Rattle.luo_counting.specs.Numbers.{chosen, plane, plane_totals, coll_total}
+use Rattle.luo_counting.specs.Numbers.{chosen, plane, plane_totals}
 use Rattle.luo_unlabelled.specs.Calls.{Calls, IsOfParts, numbers, total_of}
 use Rattle.luo_unlabelled.specs.inner.Planes.{AreWays, HoldsPlane, last_of, sum_within, IsParts, IsPartsWalk}
 use Rattle.luo_unlabelled.proofs.PartNumbers.{plane-same}

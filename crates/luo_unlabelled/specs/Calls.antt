@@ -1,5 +1,5 @@
 -- What contracts see in tables of collections and of charges over them, and what their calls are given.
-use Rattle.std.specs.Prelude.{◌≡◌, ℕ, zero, suc, ◌-◌, ◌≤◌, ◌<◌, Bool, false, List, [], ◌∷◌, ◌++◌, length, slice_index, take, Option, Some, None, nat_le, if◌then◌else◌}
+use Rattle.std.specs.Prelude.{◌≡◌, ℕ, suc, ◌-◌, ◌≤◌, ◌<◌, Bool, false, List, [], ◌∷◌, ◌++◌, length, slice_index, take, Option, Some, None, nat_le, if◌then◌else◌}
 use Rattle.luo_num.specs.declared.TheConstants.{MAX}
 use Rattle.luo_finite.specs.Range.{sum_below}
 use Rattle.luo_model.specs.declared.program.Universe.TheVariants.{Unlabelled}

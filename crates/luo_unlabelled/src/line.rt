@@ -101,11 +101,14 @@ fn next_number(
     requires given { slice_index comp.now 0 ≡ 0 }
     requires here { length comp.now ≡ 0 → here ≡ 0 }
     requires follows { Follows steps kept.old comp.now }
-    requires holds { HoldsTable steps (step_count steps (slice_index kept.old)) (length comp.now) cells.old }
-    ensures number { result ≡ capped (step_count steps (numbers comp.now here) steps.last (length comp.now)) }
+    requires holds { HoldsTable steps (step_count steps (slice_index kept.old))
+        (length comp.now) cells.old }
+    ensures number { result ≡ capped (step_count steps (numbers comp.now here) steps.last
+        (length comp.now)) }
     ensures kept { take (length comp.now + 1) kept.new ≡ comp.now ++ here ∷ [] }
     ensures none_empty { slice_index kept.new 0 ≡ 0 }
-    ensures holds { HoldsTable steps (step_count steps (slice_index kept.new)) (length comp.now + 1) cells.new }
+    ensures holds { HoldsTable steps (step_count steps (slice_index kept.new))
+        (length comp.now + 1) cells.new }
 {
     let n = comp.len();
     keep(kept, comp, here);
@@ -123,7 +126,8 @@ fn settle_before(steps: Steps, cells: &mut [u128], comp: &[u128], n: usize)
     requires none_empty { slice_index comp.now 0 ≡ 0 }
     requires holds { HoldsTable steps (step_count steps (slice_index comp.now)) n cells.old }
     ensures below { HoldsBelow steps (step_count steps (slice_index comp.now)) n cells.new }
-    ensures answers { HoldsRow steps (step_count steps (slice_index comp.now)) steps.last n cells.new }
+    ensures answers { HoldsRow steps (step_count steps
+        (slice_index comp.now)) steps.last n cells.new }
 {
     if n > 0 {
         settle(steps, cells, comp, n - 1);

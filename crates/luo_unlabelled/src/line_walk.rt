@@ -130,16 +130,21 @@ fn next_total(
     requires comp_given { slice_index comp.now 0 ≡ 0 }
     requires body_given { slice_index body.now 0 ≡ 0 }
     requires here { length body.now ≡ 0 → here ≡ 0 }
-    requires agree { (m : ℕ) → suc m < length comp.now → slice_index comp.now m ≡ slice_index kept.old m }
+    requires agree { (m : ℕ) → suc m < length comp.now → slice_index comp.now m
+        ≡ slice_index kept.old m }
     requires follows { Follows steps sums.old body.now }
-    requires counted { HoldsAll steps (step_count steps (slice_index comp.now)) (length body.now) counts.now }
-    requires holds { HoldsTable steps (step_total steps (slice_index kept.old) (slice_index sums.old)) (length body.now) cells.old }
-    ensures total { result ≡ capped (step_total steps (slice_index comp.now) (numbers body.now here) steps.last (length body.now)) }
+    requires counted { HoldsAll steps (step_count steps (slice_index comp.now))
+        (length body.now) counts.now }
+    requires holds { HoldsTable steps (step_total steps (slice_index kept.old)
+        (slice_index sums.old)) (length body.now) cells.old }
+    ensures total { result ≡ capped (step_total steps (slice_index comp.now)
+        (numbers body.now here) steps.last (length body.now)) }
     ensures kept { take (length body.now) kept.new ≡ comp.now }
     ensures sums { take (length body.now + 1) sums.new ≡ body.now ++ here ∷ [] }
     ensures none_empty { slice_index kept.new 0 ≡ 0 }
     ensures none_charged { slice_index sums.new 0 ≡ 0 }
-    ensures holds { HoldsTable steps (step_total steps (slice_index kept.new) (slice_index sums.new)) (length body.now + 1) cells.new }
+    ensures holds { HoldsTable steps (step_total steps (slice_index kept.new)
+        (slice_index sums.new)) (length body.now + 1) cells.new }
 {
     let n = body.len();
     keep(kept, comp, 0);
@@ -167,8 +172,10 @@ fn settle_totals_before(
     requires counts { length counts.now ≡ (steps.last + 1) * steps.wide }
     requires cells { length cells.old ≡ (steps.last + 1) * steps.wide }
     requires counted { HoldsAll steps (step_count steps (slice_index comp.now)) n counts.now }
-    requires holds { HoldsTable steps (step_total steps (slice_index comp.now) (slice_index body.now)) n cells.old }
-    ensures { HoldsAll steps (step_total steps (slice_index comp.now) (slice_index body.now)) n cells.new }
+    requires holds { HoldsTable steps (step_total steps (slice_index comp.now)
+        (slice_index body.now)) n cells.old }
+    ensures { HoldsAll steps (step_total steps (slice_index comp.now)
+        (slice_index body.now)) n cells.new }
 {
     if n > 0 {
         settle_totals(steps, counts, cells, comp, body, n - 1);

@@ -18,7 +18,8 @@ pub fn zeros(alloc: Global, n: usize) -> Result<Vec<u128>, NoMemory>
 // outside the bounds.
 pub fn keep(kept: &mut [u128], numbers: &[u128], here: u128)
     requires room { length numbers.now < length kept.old }
-    requires agree { (m : ℕ) → suc m < length numbers.now → slice_index numbers.now m ≡ slice_index kept.old m }
+    requires agree { (m : ℕ) → suc m < length numbers.now → slice_index numbers.now m
+        ≡ slice_index kept.old m }
     ensures { take (length numbers.now + 1) kept.new ≡ numbers.now ++ here ∷ [] }
 {
     let n = numbers.len();

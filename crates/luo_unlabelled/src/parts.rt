@@ -113,7 +113,8 @@ impl Parts {
         requires size { m ≤ self.now.n_max }
         requires number { k ≤ self.now.n_max }
         requires bounds { IfSome self.now.high (λ high. k ≤ high) }
-        ensures answer { let number = ahead_of self.now k m in SomeIff result (number ≤ MAX) number }
+        ensures answer { let number = ahead_of self.now k m in SomeIff result
+            (number ≤ MAX) number }
         ensures counted { IsAheadCounted self.now k m }
     {
         let number = cell(&self.cells, self.frame.wide(), k as usize, m as usize);
@@ -140,14 +141,20 @@ fn next_number(
     requires given { slice_index comp.now 0 ≡ 0 }
     requires small { (m : ℕ) → slice_index comp.now m ≤ MAX }
     requires here { length comp.now ≡ 0 → here ≡ 0 }
-    requires agree { (m : ℕ) → suc m < length comp.now → slice_index comp.now m ≡ slice_index kept.old m }
-    requires known { 3 ≤ length comp.now → AreWays frame.kind (slice_index kept.old (length comp.now - 2)) (length comp.now - 2) (frame.n_max + 1) ways.old }
-    requires holds { HoldsPlane (last_of frame.high frame.n_max + 1) (frame.n_max + 1) (plane frame.kind (slice_index kept.old) (length comp.now - 3)) cells.old }
-    ensures number { result ≡ capped (coll_count Unlabelled frame.kind (numbers comp.now here) frame.low frame.high (length comp.now)) }
+    requires agree { (m : ℕ) → suc m < length comp.now → slice_index comp.now m
+        ≡ slice_index kept.old m }
+    requires known { 3 ≤ length comp.now → AreWays frame.kind (slice_index kept.old
+        (length comp.now - 2)) (length comp.now - 2) (frame.n_max + 1) ways.old }
+    requires holds { HoldsPlane (last_of frame.high frame.n_max + 1) (frame.n_max + 1)
+        (plane frame.kind (slice_index kept.old) (length comp.now - 3)) cells.old }
+    ensures number { result ≡ capped (coll_count Unlabelled frame.kind
+        (numbers comp.now here) frame.low frame.high (length comp.now)) }
     ensures kept { take (length comp.now + 1) kept.new ≡ comp.now ++ here ∷ [] }
     ensures none_empty { slice_index kept.new 0 ≡ 0 }
-    ensures known { 3 ≤ length comp.now + 1 → AreWays frame.kind (slice_index kept.new (length comp.now + 1 - 2)) (length comp.now + 1 - 2) (frame.n_max + 1) ways.new }
-    ensures holds { HoldsPlane (last_of frame.high frame.n_max + 1) (frame.n_max + 1) (plane frame.kind (slice_index kept.new) (length comp.now + 1 - 3)) cells.new }
+    ensures known { 3 ≤ length comp.now + 1 → AreWays frame.kind (slice_index kept.new
+        (length comp.now + 1 - 2)) (length comp.now + 1 - 2) (frame.n_max + 1) ways.new }
+    ensures holds { HoldsPlane (last_of frame.high frame.n_max + 1) (frame.n_max + 1)
+        (plane frame.kind (slice_index kept.new) (length comp.now + 1 - 3)) cells.new }
 {
     let n = comp.len();
     keep(kept, comp, here);
@@ -163,10 +170,14 @@ fn advance(frame: Frame, cells: &mut [u128], ways: &mut [u128], comp: &[u128], n
     requires long { length ways.old ≡ frame.n_max + 1 }
     requires cells { length cells.old ≡ (last_of frame.high frame.n_max + 1) * (frame.n_max + 1) }
     requires small { 2 ≤ n → slice_index comp.now (n - 1) ≤ MAX }
-    requires known { 3 ≤ n → AreWays frame.kind (slice_index comp.now (n - 2)) (n - 2) (frame.n_max + 1) ways.old }
-    requires holds { HoldsPlane (last_of frame.high frame.n_max + 1) (frame.n_max + 1) (plane frame.kind (slice_index comp.now) (n - 3)) cells.old }
-    ensures known { 2 ≤ n → AreWays frame.kind (slice_index comp.now (n - 1)) (n - 1) (frame.n_max + 1) ways.new }
-    ensures holds { HoldsPlane (last_of frame.high frame.n_max + 1) (frame.n_max + 1) (plane frame.kind (slice_index comp.now) (n - 2)) cells.new }
+    requires known { 3 ≤ n → AreWays frame.kind (slice_index comp.now (n - 2)) (n - 2)
+        (frame.n_max + 1) ways.old }
+    requires holds { HoldsPlane (last_of frame.high frame.n_max + 1) (frame.n_max + 1)
+        (plane frame.kind (slice_index comp.now) (n - 3)) cells.old }
+    ensures known { 2 ≤ n → AreWays frame.kind (slice_index comp.now (n - 1)) (n - 1)
+        (frame.n_max + 1) ways.new }
+    ensures holds { HoldsPlane (last_of frame.high frame.n_max + 1) (frame.n_max + 1)
+        (plane frame.kind (slice_index comp.now) (n - 2)) cells.new }
 {
     if n > 2 {
         put(cells, ways, frame.wide(), frame.deep(), n - 2);
@@ -185,9 +196,12 @@ fn count_of(frame: Frame, cells: &[u128], ways: &[u128], comp: &[u128], n: usize
     requires none_empty { slice_index comp.now 0 ≡ 0 }
     requires long { length ways.now ≡ frame.n_max + 1 }
     requires cells { length cells.now ≡ (last_of frame.high frame.n_max + 1) * (frame.n_max + 1) }
-    requires known { 2 ≤ n → AreWays frame.kind (slice_index comp.now (n - 1)) (n - 1) (frame.n_max + 1) ways.now }
-    requires holds { HoldsPlane (last_of frame.high frame.n_max + 1) (frame.n_max + 1) (plane frame.kind (slice_index comp.now) (n - 2)) cells.now }
-    ensures { result ≡ capped (coll_count Unlabelled frame.kind (slice_index comp.now) frame.low frame.high n) }
+    requires known { 2 ≤ n → AreWays frame.kind (slice_index comp.now (n - 1)) (n - 1)
+        (frame.n_max + 1) ways.now }
+    requires holds { HoldsPlane (last_of frame.high frame.n_max + 1) (frame.n_max + 1)
+        (plane frame.kind (slice_index comp.now) (n - 2)) cells.now }
+    ensures { result ≡ capped (coll_count Unlabelled frame.kind
+        (slice_index comp.now) frame.low frame.high n) }
 {
     let low = frame.low as usize;
     let last = frame.last(n);

@@ -138,17 +138,26 @@ fn next_total(
     requires body_given { slice_index body.now 0 ≡ 0 }
     requires here { length body.now ≡ 0 → here ≡ 0 }
     requires small { (m : ℕ) → slice_index comp.now m ≤ MAX }
-    requires agree { (m : ℕ) → suc m < length comp.now → slice_index comp.now m ≡ slice_index kept.old m }
-    requires sums_agree { (m : ℕ) → suc m < length body.now → slice_index body.now m ≡ slice_index sums.old m }
-    requires known { 2 ≤ length body.now → AreWays frame.kind (slice_index comp.now (length body.now - 1)) (length body.now - 1) (frame.n_max + 1) ways.now }
-    requires counted { HoldsPlane (last_of frame.high frame.n_max + 1) (frame.n_max + 1) (plane frame.kind (slice_index comp.now) (length body.now - 2)) counts.now }
-    requires holds { HoldsPlane (last_of frame.high frame.n_max + 1) (frame.n_max + 1) (plane_totals frame.kind (slice_index kept.old) (slice_index sums.old) (length body.now - 2)) cells.old }
-    ensures total { result ≡ capped (sum_within frame.low frame.high frame.kind (slice_index comp.now) (slice_index body.now) here (length body.now)) }
+    requires agree { (m : ℕ) → suc m < length comp.now → slice_index comp.now m
+        ≡ slice_index kept.old m }
+    requires sums_agree { (m : ℕ) → suc m < length body.now → slice_index body.now m
+        ≡ slice_index sums.old m }
+    requires known { 2 ≤ length body.now → AreWays frame.kind (slice_index comp.now
+        (length body.now - 1)) (length body.now - 1) (frame.n_max + 1) ways.now }
+    requires counted { HoldsPlane (last_of frame.high frame.n_max + 1) (frame.n_max + 1)
+        (plane frame.kind (slice_index comp.now) (length body.now - 2)) counts.now }
+    requires holds { HoldsPlane (last_of frame.high frame.n_max + 1) (frame.n_max + 1)
+        (plane_totals frame.kind (slice_index kept.old) (slice_index sums.old)
+        (length body.now - 2)) cells.old }
+    ensures total { result ≡ capped (sum_within frame.low frame.high frame.kind
+        (slice_index comp.now) (slice_index body.now) here (length body.now)) }
     ensures kept { take (length body.now) kept.new ≡ comp.now }
     ensures sums { take (length body.now + 1) sums.new ≡ body.now ++ here ∷ [] }
     ensures none_empty { slice_index kept.new 0 ≡ 0 }
     ensures none_charged { slice_index sums.new 0 ≡ 0 }
-    ensures holds { HoldsPlane (last_of frame.high frame.n_max + 1) (frame.n_max + 1) (plane_totals frame.kind (slice_index kept.new) (slice_index sums.new) (length body.now + 1 - 2)) cells.new }
+    ensures holds { HoldsPlane (last_of frame.high frame.n_max + 1) (frame.n_max + 1)
+        (plane_totals frame.kind (slice_index kept.new) (slice_index sums.new)
+        (length body.now + 1 - 2)) cells.new }
 {
     let n = body.len();
     keep(kept, comp, 0);
@@ -177,10 +186,14 @@ fn advance(
     requires counts { length counts.now ≡ (last_of frame.high frame.n_max + 1) * (frame.n_max + 1) }
     requires cells { length cells.old ≡ (last_of frame.high frame.n_max + 1) * (frame.n_max + 1) }
     requires small { (m : ℕ) → slice_index comp.now m ≤ MAX }
-    requires known { 2 ≤ n → AreWays frame.kind (slice_index comp.now (n - 1)) (n - 1) (frame.n_max + 1) ways.now }
-    requires counted { HoldsPlane (last_of frame.high frame.n_max + 1) (frame.n_max + 1) (plane frame.kind (slice_index comp.now) (n - 2)) counts.now }
-    requires holds { HoldsPlane (last_of frame.high frame.n_max + 1) (frame.n_max + 1) (plane_totals frame.kind (slice_index comp.now) (slice_index body.now) (n - 2)) cells.old }
-    ensures { HoldsPlane (last_of frame.high frame.n_max + 1) (frame.n_max + 1) (plane_totals frame.kind (slice_index comp.now) (slice_index body.now) (n - 1)) cells.new }
+    requires known { 2 ≤ n → AreWays frame.kind (slice_index comp.now (n - 1)) (n - 1)
+        (frame.n_max + 1) ways.now }
+    requires counted { HoldsPlane (last_of frame.high frame.n_max + 1) (frame.n_max + 1)
+        (plane frame.kind (slice_index comp.now) (n - 2)) counts.now }
+    requires holds { HoldsPlane (last_of frame.high frame.n_max + 1) (frame.n_max + 1)
+        (plane_totals frame.kind (slice_index comp.now) (slice_index body.now) (n - 2)) cells.old }
+    ensures { HoldsPlane (last_of frame.high frame.n_max + 1) (frame.n_max + 1)
+        (plane_totals frame.kind (slice_index comp.now) (slice_index body.now) (n - 1)) cells.new }
 {
     if n > 1 {
         write_charges(frame.kind, charges, comp[n - 1], body[n - 1], n - 1);
@@ -201,7 +214,8 @@ fn sum_of(frame: Frame, cells: &[u128], n: usize, here: u128) -> u128
     requires bounds { AreBounds frame.low frame.high frame.n_max }
     requires size { n ≤ frame.n_max }
     requires cells { length cells.now ≡ (last_of frame.high frame.n_max + 1) * (frame.n_max + 1) }
-    ensures { result ≡ capped (sum_in_cells frame.low frame.high cells.now (frame.n_max + 1) n here) }
+    ensures { result ≡ capped (sum_in_cells frame.low frame.high cells.now
+        (frame.n_max + 1) n here) }
 {
     let low = frame.low as usize;
     let last = frame.last(n);

@@ -98,7 +98,8 @@ fn put_total_row(
     requires charges { k < length charges.now }
     requires counts { (k + 1) * wide ≤ length counts.now }
     requires cells { (k + 1) * wide ≤ length cells.old }
-    ensures { IsRowPut (total_put ways.now charges.now counts.now wide d) wide k wide cells.old cells.new }
+    ensures { IsRowPut
+        (total_put ways.now charges.now counts.now wide d) wide k wide cells.old cells.new }
 {
     for m in 0..wide {
         let charged = copies(charges, counts, wide, d, k, m);
@@ -122,7 +123,8 @@ pub fn put_total(
     requires charges { deep ≤ length charges.now }
     requires counts { deep * wide ≤ length counts.now }
     requires cells { deep * wide ≤ length cells.old }
-    ensures { IsPut (total_put ways.now charges.now counts.now wide d) wide 0 deep cells.old cells.new }
+    ensures { IsPut
+        (total_put ways.now charges.now counts.now wide d) wide 0 deep cells.old cells.new }
 {
     for done in 0..deep {
         put_total_row(cells, counts, ways, charges, wide, d, deep - 1 - done);

@@ -83,7 +83,8 @@ pub fn settle(steps: Steps, cells: &mut [u128], comp: &[u128], m: usize)
     requires comp { length comp.now ≡ steps.wide }
     requires cells { length cells.old ≡ (steps.last + 1) * steps.wide }
     requires rows { HoldsBelow steps (step_count steps (slice_index comp.now)) m cells.old }
-    ensures { Settled steps (step_count steps (slice_index comp.now)) m steps.last cells.old cells.new }
+    ensures { Settled steps (step_count steps
+        (slice_index comp.now)) m steps.last cells.old cells.new }
 {
     for i in 0..steps.last {
         let number = entry(steps, cells, comp, i, m);
@@ -110,7 +111,8 @@ pub fn total_entry(
     requires counts { length counts.now ≡ (steps.last + 1) * steps.wide }
     requires cells { length cells.now ≡ (steps.last + 1) * steps.wide }
     requires counted { HasSource steps (step_count steps (slice_index comp.now)) i n counts.now }
-    requires row { HasSource steps (step_total steps (slice_index comp.now) (slice_index body.now)) i n cells.now }
+    requires row { HasSource steps (step_total steps (slice_index comp.now)
+        (slice_index body.now)) i n cells.now }
     ensures { result ≡ capped (step_total steps (slice_index comp.now) (slice_index body.now) i n) }
 {
     if i == 0 && steps.bounded {
@@ -141,8 +143,10 @@ pub fn settle_totals(
     requires counts { length counts.now ≡ (steps.last + 1) * steps.wide }
     requires cells { length cells.old ≡ (steps.last + 1) * steps.wide }
     requires counted { HoldsBelow steps (step_count steps (slice_index comp.now)) m counts.now }
-    requires rows { HoldsBelow steps (step_total steps (slice_index comp.now) (slice_index body.now)) m cells.old }
-    ensures { Settled steps (step_total steps (slice_index comp.now) (slice_index body.now)) m steps.last cells.old cells.new }
+    requires rows { HoldsBelow steps (step_total steps (slice_index comp.now)
+        (slice_index body.now)) m cells.old }
+    ensures { Settled steps (step_total steps (slice_index comp.now)
+        (slice_index body.now)) m steps.last cells.old cells.new }
 {
     for i in 0..steps.last {
         let total = total_entry(steps, counts, cells, comp, body, i, m);

@@ -2,7 +2,7 @@ use Rattle.std.proofs.Common.{arith, slice_index, length, ap, ◌∙◌}
 use Rattle.luo_num.specs.Mark.{capped}
 use Rattle.luo_unlabelled.specs.inner.Steps.{step_count}
 use Rattle.luo_unlabelled.proofs.CallLemmas.{holds_next, kept_empty, count_given}
-use Rattle.luo_unlabelled.proofs.CellLemmas.{holds_more, last_source}
+use Rattle.luo_unlabelled.proofs.CellLemmas.{holds_more}
 use Rattle.luo_unlabelled.proofs.line.next_number.Goals as goal
 
 pub settle_before-requires-clause-none_empty : goal.settle_before-requires-clause-none_empty

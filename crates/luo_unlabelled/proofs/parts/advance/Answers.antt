@@ -1,4 +1,4 @@
-use Rattle.std.proofs.Common.{◌-◌, ◌+◌, ◌≡◌, suc, slice_index, arith}
+use Rattle.std.proofs.Common.{◌-◌, ◌+◌, slice_index, arith}
 use Rattle.luo_unlabelled.specs.inner.Planes.{last_of}
 use Rattle.luo_unlabelled.proofs.PartCalls.{put_holds, kept_holds}
 use Rattle.luo_unlabelled.proofs.parts.advance.Goals.{then-n-gt2, else-n-gt2}

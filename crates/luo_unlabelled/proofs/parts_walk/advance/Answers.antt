@@ -1,4 +1,4 @@
-use Rattle.std.proofs.Common.{◌+◌, ◌-◌, ◌≡◌, ap, ◌∙◌, subst, ℕ, slice_index, arith}
+use Rattle.std.proofs.Common.{◌+◌, ◌-◌, subst, ℕ, slice_index, arith}
 use Rattle.luo_unlabelled.specs.inner.Planes.{last_of, AreCharges}
 use Rattle.luo_unlabelled.proofs.PartTotals.{totals_put}
 use Rattle.luo_unlabelled.proofs.parts_walk.advance.Goals as goal

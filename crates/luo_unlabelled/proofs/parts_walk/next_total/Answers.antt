@@ -1,5 +1,4 @@
-use Rattle.std.proofs.Common.{◌+◌, ◌-◌, ◌≡◌, ap, ◌∙◌, refl, length, slice_index, arith}
-use Rattle.luo_num.specs.Mark.{capped}
+use Rattle.std.proofs.Common.{◌+◌, ◌-◌, ◌∙◌, refl, length, slice_index, arith}
 use Rattle.luo_unlabelled.specs.inner.Planes.{last_of}
 use Rattle.luo_unlabelled.proofs.CallLemmas.{kept_empty, below_kept}
 use Rattle.luo_unlabelled.proofs.PartCalls.{last_below}

@@ -1,4 +1,4 @@
-use Rattle.std.proofs.Common.{arith, refl, ap, ◌∙◌, ◌+◌, ◌*◌, ◌≤◌, ℕ}
+use Rattle.std.proofs.Common.{arith, refl, ap, ◌∙◌, ◌+◌, ℕ}
 use Rattle.luo_num.specs.Mark.{capped}
 use Rattle.luo_unlabelled.proofs.PlaneLemmas.{copies_more, copies_whole, copies_fit}
 use Rattle.luo_unlabelled.proofs.plane.copies.Goals as goal

@@ -1,6 +1,6 @@
 use Rattle.std.proofs.Common.{arith, ap, ◌-◌, ◌+◌, subst, ℕ}
 use Rattle.luo_num.specs.Mark.{capped}
-use Rattle.luo_unlabelled.specs.inner.Planes.{total_put, with_size, IsPut, IsRowPut}
+use Rattle.luo_unlabelled.specs.inner.Planes.{total_put, with_size, IsPut}
 use Rattle.luo_unlabelled.proofs.PlaneLemmas.{put_more, put_same}
 use Rattle.luo_unlabelled.proofs.plane.put_total.Goals as goal
 

@@ -1,5 +1,4 @@
-use Rattle.std.proofs.Common.{arith, ap, ◌∙◌, ◌+◌}
-use Rattle.luo_num.specs.Mark.{capped}
+use Rattle.std.proofs.Common.{arith}
 use Rattle.luo_unlabelled.specs.inner.Planes.{total_put, with_size}
 use Rattle.luo_unlabelled.proofs.PlaneLemmas.{row_more, row_same, place_in, total_entry}
 use Rattle.luo_unlabelled.proofs.plane.put_total_row.Goals as goal

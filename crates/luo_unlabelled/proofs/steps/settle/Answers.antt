@@ -1,6 +1,6 @@
 use Rattle.std.proofs.Common.{arith, slice_index}
 use Rattle.luo_unlabelled.specs.inner.Steps.{step_count}
-use Rattle.luo_unlabelled.proofs.CellLemmas.{settled_more, settled_none, has_source}
+use Rattle.luo_unlabelled.proofs.CellLemmas.{settled_more}
 use Rattle.luo_unlabelled.proofs.steps.settle.Goals as goal
 
 pub loop-i-preserved : goal.loop-i-preserved

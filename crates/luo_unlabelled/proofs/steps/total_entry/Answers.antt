@@ -1,4 +1,4 @@
-use Rattle.std.proofs.Common.{slice_index, arith}
+use Rattle.std.proofs.Common.{slice_index}
 use Rattle.luo_unlabelled.proofs.CellLemmas.{total_none, total_whole}
 use Rattle.luo_unlabelled.proofs.steps.total_entry.Goals.{else-i-eq0-via-then-i-eq0+else-steps, else-i-eq0-via-else-i-eq0}
 use Rattle.luo_unlabelled.proofs.steps.total_entry.Goals as goal

@@ -1,7 +1,6 @@
 use Rattle.std.proofs.lemmas.List.{with_items_is}
 use Rattle.luo_model.specs.declared.program.Kind.TheVariants.{Sequence}
-use Rattle.std.proofs.Common.{◌≡◌, ◌+◌, ◌-◌, take, length, slice_index, ap, sym, ◌∙◌, arith, subst}
-use Rattle.luo_num.specs.Mark.{capped}
+use Rattle.std.proofs.Common.{◌≡◌, ◌+◌, ◌-◌, take, length, ap, sym, ◌∙◌, arith, subst}
 use Rattle.luo_model.specs.declared.program.Kind.{Kind}
 use Rattle.luo_model.specs.declared.program.Universe.TheVariants.{Unlabelled}
 use Rattle.luo_counting.specs.Items.{Suits}

@@ -1,5 +1,4 @@
-use Rattle.std.proofs.Common.{ℕ, List, ◌≡◌, ◌*◌, ◌+◌, slice_index, ap, subst, arith, ◌∙◌}
-use Rattle.luo_num.specs.Mark.{capped}
+use Rattle.std.proofs.Common.{ℕ, List, ◌*◌, ◌+◌, slice_index, ap, subst, ◌∙◌}
 use Rattle.luo_model.specs.declared.program.Kind.{Kind}
 use Rattle.luo_unlabelled.specs.Calls.{Calls, IsOfParts, ahead_of}
 use Rattle.luo_unlabelled.proofs.PartCalls.{ahead_cell, ahead_counted, ahead_place, known_answer, unknown_answer}

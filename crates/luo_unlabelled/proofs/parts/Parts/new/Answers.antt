@@ -1,5 +1,5 @@
-use Rattle.std.proofs.Common.{◌≡◌, ◌+◌, ◌*◌, ℕ, List, slice_index, replicate, length, arith, ap, refl, ◌∙◌}
-use Rattle.std.proofs.lemmas.List.{length-replicate, length-set}
+use Rattle.std.proofs.Common.{◌+◌, ◌*◌, ℕ, List, slice_index, replicate, length, arith, ap, refl, ◌∙◌}
+use Rattle.std.proofs.lemmas.List.{length-replicate}
 use Rattle.luo_unlabelled.specs.inner.Planes.{last_of}
 use Rattle.luo_unlabelled.proofs.PartCalls.{empty_plane, plane_long, nothing_from, one_at}
 use Rattle.luo_unlabelled.proofs.parts.Parts.new.Goals as goal

@@ -1,6 +1,5 @@
 use Rattle.std.proofs.lemmas.List.{with_items_is}
-use Rattle.std.proofs.Common.{◌≡◌, ◌+◌, ◌-◌, take, length, slice_index, ap, sym, ◌∙◌, arith, subst}
-use Rattle.luo_num.specs.Mark.{capped}
+use Rattle.std.proofs.Common.{◌≡◌, ◌+◌, ◌-◌, take, length, ap, sym, ◌∙◌, arith, subst}
 use Rattle.luo_model.specs.declared.program.Kind.{Kind}
 use Rattle.luo_unlabelled.specs.Calls.{Calls, Walk, IsOfParts, total_of}
 use Rattle.luo_unlabelled.proofs.CallLemmas.{totalled, starts, given_none, answered, calls_are, same_walk}
