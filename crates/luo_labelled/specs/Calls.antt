@@ -1,5 +1,6 @@
 -- What contracts see in tables of labelled collections and of charges over them, and what their calls are given.
 use Rattle.std.specs.Prelude.{◌≡◌, ℕ, suc, ◌≤◌, ◌<◌, Bool, false, List, [], ◌∷◌, ◌++◌, length, slice_index, Option, Some, None}
+use Rattle.luo_num.specs.declared.limits.TheConstants.{BOUND_LIMIT, SIZE_LIMIT}
 use Rattle.luo_model.specs.declared.program.Universe.TheVariants.{Labelled}
 use Rattle.luo_model.specs.declared.program.Kind.{Kind}
 use Rattle.luo_model.specs.Member.{IsWithin}
@@ -17,15 +18,15 @@ pub record Calls : Type 0 where
 
 -- the greatest number of components isn't below the least
 abbrev pub IsAbove : ℕ → Option ℕ → Type 0
-IsAbove low (Some high) = (low ≤ high) × (high ≤ 100)
+IsAbove low (Some high) = (low ≤ high) × (high ≤ BOUND_LIMIT)
 IsAbove low None = Unit {0}
 
 -- sequences, sets, or cycles of at least one component, within bounds, up to a greatest size
 pub record AreBounds (kind : Kind) (low : ℕ) (high : Option ℕ) (n_max : ℕ) : Type 0 where
   pub suits : Suits Labelled kind low
-  pub low_within : low ≤ 100
+  pub low_within : low ≤ BOUND_LIMIT
   pub high_within : IsAbove low high
-  pub n_max_within : n_max ≤ 160
+  pub n_max_within : n_max ≤ SIZE_LIMIT
 
 -- before the first call
 abbrev pub start_of : Kind → ℕ → Option ℕ → ℕ → Calls

@@ -1,5 +1,6 @@
 -- What contracts see in tables of collections and of charges over them, and what their calls are given.
 use Rattle.std.specs.Prelude.{◌≡◌, ℕ, suc, ◌-◌, ◌≤◌, ◌<◌, Bool, false, List, [], ◌∷◌, ◌++◌, length, slice_index, take, Option, Some, None, nat_le, if◌then◌else◌}
+use Rattle.luo_num.specs.declared.limits.TheConstants.{BOUND_LIMIT, SIZE_LIMIT}
 use Rattle.luo_num.specs.declared.TheConstants.{MAX}
 use Rattle.luo_finite.specs.Range.{sum_below}
 use Rattle.luo_model.specs.declared.program.Universe.TheVariants.{Unlabelled}
@@ -21,14 +22,14 @@ pub record Calls : Type 0 where
 
 -- the greatest number is not below the least
 abbrev pub IsAbove : ℕ → Option ℕ → Type 0
-IsAbove low (Some high) = (low ≤ high) × (high ≤ 100)
+IsAbove low (Some high) = (low ≤ high) × (high ≤ BOUND_LIMIT)
 IsAbove low None = Unit {0}
 
 -- bounds on the number of components, and the greatest size
 pub record AreBounds (low : ℕ) (high : Option ℕ) (n_max : ℕ) : Type 0 where
-  pub low_within : low ≤ 100
+  pub low_within : low ≤ BOUND_LIMIT
   pub high_within : IsAbove low high
-  pub n_max_within : n_max ≤ 160
+  pub n_max_within : n_max ≤ SIZE_LIMIT
 
 -- before the first call
 abbrev pub start_of : Kind → ℕ → Option ℕ → ℕ → Calls
