@@ -5,7 +5,7 @@ use Rattle.luo_finite.proofs.SumsBy.{length_is_sum}
 use Rattle.luo_finite.proofs.Sums.{Sums-either, Sums-one}
 use Rattle.luo_finite.proofs.Falling.{IsOrder, falling_listing}
 use Rattle.luo_finite.specs.Places.{IsPlace}
-use Rattle.luo_finite.proofs.Places.{listed_at, Sums-le}
+use Rattle.luo_finite.proofs.OrderedPlaces.{listed_at, Sums-le}
 
 get_some : {A : Type 0} (l : List A) (r : ℕ) → r < length l → (x : A) × (slice_get l r ≡ Some x)
 get_some [] r h = absurd (omega (arith, h))
