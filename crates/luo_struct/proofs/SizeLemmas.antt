@@ -1,9 +1,8 @@
 -- Sizes of structures of the code, part by part.
-use Rattle.std.proofs.Common.{◌≡◌, ℕ, zero, suc, ◌+◌, ◌<◌, ◌≤◌, List, [], ◌∷◌, length, take, get_or, sym, ◌∙◌, ap, subst, refl, arith, add-one}
-use Rattle.luo_struct.specs.declared.structure.Structure.{Structure, Tup, Coll}
+use Rattle.std.proofs.Common.{◌≡◌, ℕ, zero, suc, ◌+◌, ◌<◌, List, [], ◌∷◌, length, take, get_or, ap, arith, add-one}
+use Rattle.luo_struct.specs.declared.structure.Structure.{Structure}
 use Rattle.luo_model.specs.Tree.{size_of, sizes_of}
 use Rattle.luo_struct.specs.View.{tree_of, tree_list}
-use Rattle.luo_struct.proofs.ViewLemmas.{tree_of-Tup, tree_of-Coll}
 
 pub sizes-take : (ss : List Structure) (i : ℕ) (s : Structure) → i < length ss → s ≡ get_or ss i s → sizes_of (tree_list (take (i + 1) ss)) ≡ sizes_of (tree_list (take i ss)) + size_of (tree_of s)
 sizes-take ss i s h e = rw add-one (go ss i s h e)

@@ -1,5 +1,5 @@
 -- Structures of the code whose parts are in a list or a box, as trees.
-use Rattle.std.proofs.Common.{◌≡◌, ℕ, List, refl, ap, ◌∙◌}
+use Rattle.std.proofs.Common.{◌≡◌, ℕ, zero, suc, ◌+◌, ◌<◌, List, [], ◌∷◌, length, take, get_or, refl, sym, ap, ◌∙◌, arith, add-one}
 use mathlib.Core.Former.{Count}
 use Rattle.luo_struct.specs.declared.structure.Structure.{Structure, Atom, Inj, Inj', Tup, Tup', Coll, Coll', Row_of-Structure, end_of-Structure, more_of-Structure, items-the_row-Structure, items_hidden-the_row-Structure-1}
 use Rattle.luo_model.specs.Tree.{Tree, Trees, none, more}
@@ -15,16 +15,19 @@ row_in (Tup' _ row) = (_, row)
 row_in (Coll' _ row) = (_, row)
 row_in _ = (_, end_of-Structure)
 
-pub tree_of-Tup : (parts : List Structure) → tree_of (Tup parts) ≡ tree.Tup (tree_list parts)
-tree_of-Tup parts =
+pub tuple_tree : (s : Structure) (parts same : List Structure) → s ≡ Tup parts → same ≡ parts → tree_of s ≡ tree.Tup (tree_list same)
+tuple_tree s parts same e f =
     let row = row_in (Tup parts) in
-    ap tree.Tup (row_trees row.0 row.1 ∙ ap tree_list (items_hidden-the_row-Structure-1 parts))
+    ap tree_of e ∙ ap tree.Tup (row_trees row.0 row.1 ∙ ap tree_list (items_hidden-the_row-Structure-1 parts)) ∙ ap (λ ss. tree.Tup (tree_list ss)) (sym f)
 
-pub tree_of-Coll : (parts : List Structure) → tree_of (Coll parts) ≡ tree.Coll (tree_list parts)
-tree_of-Coll parts =
+pub collection_tree : (s : Structure) (parts same : List Structure) → s ≡ Coll parts → same ≡ parts → tree_of s ≡ tree.Coll (tree_list same)
+collection_tree s parts same e f =
     let row = row_in (Coll parts) in
-    ap tree.Coll (row_trees row.0 row.1 ∙ ap tree_list (items_hidden-the_row-Structure-1 parts))
+    ap tree_of e ∙ ap tree.Coll (row_trees row.0 row.1 ∙ ap tree_list (items_hidden-the_row-Structure-1 parts)) ∙ ap (λ ss. tree.Coll (tree_list ss)) (sym f)
 
-pub tree_of-Inj : (branch : ℕ) (inner : Structure) → tree_of (Inj branch inner) ≡ tree.Inj branch (tree_of inner)
+inner_tree : (branch : ℕ) (inner : Structure) → tree_of (Inj branch inner) ≡ tree.Inj branch (tree_of inner)
 unfolding Rattle.luo_struct.specs.declared.structure.Structure.TheBlock.hidden-the_row-Structure-0 denote.Hole.Carrier.hidden
-tree_of-Inj branch inner = refl
+inner_tree branch inner = refl
+
+pub branch_tree : (s : Structure) (branch : ℕ) (inner same : Structure) → s ≡ Inj branch inner → same ≡ inner → tree_of s ≡ tree.Inj branch (tree_of same)
+branch_tree s branch inner same e f = ap tree_of e ∙ inner_tree branch inner ∙ ap (λ t. tree.Inj branch (tree_of t)) (sym f)
