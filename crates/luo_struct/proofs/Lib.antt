@@ -4,3 +4,6 @@ pub mod PassLemmas
 pub mod SortedLemmas
 pub mod LabelOrder
 pub mod CompareLemmas
+pub mod NeighbourLemmas
+pub mod MemberLemmas
+pub mod TextLemmas

@@ -252,3 +252,6 @@ In-beyond past z (x ∷ xs) i = by (nat_lt past x) (λ j. In-beyond past z xs j)
     by : (b : Bool) → (In z (beyond past xs) → In z xs) → In z (picks past (x ∷ xs) b) → In z (x ∷ xs)
     by true ih i = i
     by false ih i = inr (ih i)
+
+pub next_positive : (x : ℕ) → 0 < x → (if nat_lt 0 x then x else 0) ≡ x
+next_positive x h = ⊎_elim (λ c. ap (one x) c.1) (λ c. absurd (omega (arith, c.0, h))) (lt_cases 0 x)

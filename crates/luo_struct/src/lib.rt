@@ -3,7 +3,12 @@
 
 mod comparing;
 mod labels;
+mod members;
 mod structure;
+mod text;
 
 pub use comparing::order;
+
+pub use members::member;
 pub use structure::Structure;
+pub use text::write_structure;
