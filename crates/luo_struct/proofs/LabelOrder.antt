@@ -50,8 +50,8 @@ beyond_ends s t past label other e f c h =
     let a : first_of A ≡ label = first_is s past label e in
     let b : first_of B ≡ other = first_is t past other f in
     let d : slice_cmp nat_cmp A B ≡ nat_cmp (first_of A) (first_of B) = first_decides A B
-      (⊎_elim (λ n. inl (λ q. n (sym a ∙ q ∙ b))) (λ p. inr (nothing A (positive_beyond s past) (a ∙ p.1), nothing B (positive_beyond t past) (b ∙ sym p.0 ∙ p.1))) c)
-      (positive_beyond s past) (positive_beyond t past) in
+    (⊎_elim (λ n. inl (λ q. n (sym a ∙ q ∙ b))) (λ p. inr (nothing A (positive_beyond s past) (a ∙ p.1), nothing B (positive_beyond t past) (b ∙ sym p.0 ∙ p.1))) c)
+    (positive_beyond s past) (positive_beyond t past) in
     sym (h ∙ d ∙ (λ i. nat_cmp (a i) (b i)))
 
 split : (s : Tree) (past label : ℕ) → label ≡ next_above past (labels_of s) → 0 < label

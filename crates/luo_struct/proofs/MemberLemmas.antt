@@ -90,9 +90,10 @@ abbrev pub LedFrom : ℕ → List Structure → ℕ → Type 0
 LedFrom m ss i = AllAtLeast m (tree_list (drop i ss)) ↔ AllAtLeast m (tree_list ss)
 
 pub led_next : (m : ℕ) (ss : List Structure) (i : ℕ) (s : Structure) → i < length ss → s ≡ get_or ss i s → m ≤ least_label (tree_of s) → LedFrom m ss i → LedFrom m ss (i + 1)
-led_next m ss i s l e k h =
-    ((λ g. h.0 (subst (AllAtLeast m) (sym (at_part ss i s l e)) (λ y j. ⊎_elim (λ (q : y ≡ tree_of s). subst (λ (t : Tree). m ≤ least_label t) (sym q) k) (λ r. g y r) j))),
-    λ g y j. subst (AllAtLeast m) (at_part ss i s l e) (h.1 g) y (inr j))
+led_next m ss i s l e k h = (
+  (λ g. h.0 (subst (AllAtLeast m) (sym (at_part ss i s l e)) (λ y j. ⊎_elim (λ (q : y ≡ tree_of s). subst (λ (t : Tree). m ≤ least_label t) (sym q) k) (λ r. g y r) j))),
+  λ g y j. subst (AllAtLeast m) (at_part ss i s l e) (h.1 g) y (inr j),
+)
 
 pub led_fails : (m : ℕ) (ss : List Structure) (i : ℕ) (s : Structure) → i < length ss → s ≡ get_or ss i s → least_label (tree_of s) < m → LedFrom m ss i → AllAtLeast m (tree_list ss) → ⊥
 led_fails m ss i s l e k h g =
@@ -186,6 +187,7 @@ no_member p x t e h = go p.nodes x e (subst (λ (s : Shape). Fits p s t) refl h)
     union_of_nothing (Inj (suc i) t) h = none_some h.0 h.1
     union_of_nothing (Tup ts) h = absurd h
     union_of_nothing (Coll ts) h = absurd h
+
     go : (nodes : List Node) (x : ℕ) → slice_get nodes x ≡ None → Fits p (get_or nodes x no_node).shape t → ⊥
     go [] x e h = union_of_nothing t h
     go (n ∷ nodes) zero e h = absurd (none_some n (sym e))

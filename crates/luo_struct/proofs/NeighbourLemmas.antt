@@ -25,15 +25,18 @@ least_is t = go (labels_of t) (labels_positive t)
     join zero r h g = absurd (omega arith)
     join (suc x) zero h g = absurd (omega arith)
     join (suc x) (suc r) h g = refl
+
     least_positive : (x : ℕ) (xs : List ℕ) → ((z : ℕ) → In z (x ∷ xs) → 0 < z) → 0 < least_of (x ∷ xs)
     least_positive x [] h = h x (inl refl)
     least_positive x (y ∷ xs) h = both x (least_of (y ∷ xs)) (h x (inl refl)) (least_positive y xs (λ z i. h z (inr i)))
       where
         both : (a b : ℕ) → 0 < a → 0 < b → 0 < min a b
         both a b h g = grind arith
+
     lesser_zero : (x : ℕ) → lesser x 0 ≡ x
     lesser_zero zero = refl
     lesser_zero (suc x) = refl
+
     go : (xs : List ℕ) → ((z : ℕ) → In z xs → 0 < z) → next_above 0 xs ≡ least_of xs
     go [] h = refl
     go (x ∷ []) h = ap (λ n. lesser n 0) (next_positive x (h x (inl refl))) ∙ lesser_zero x
@@ -58,9 +61,10 @@ module _ (kind : Kind) (ss : List Structure) (i : ℕ) (s : Structure) (l : i < 
         differ e = cc
 
     pub beside_next : (r : _) → (IsTrue r ↔ StandBeside kind (tree_of s) (tree_of t)) → r ≡ true → SameFrom kind ss (i + 1)
-    beside_next r d q =
-        ((λ g. h.0 (subst (EachStandsBeside kind) (sym two) (d.0 q, subst (EachStandsBeside kind) (at_part ss (i + 1) t m f) g))),
-        λ g. subst (EachStandsBeside kind) (sym (at_part ss (i + 1) t m f)) (subst (EachStandsBeside kind) two (h.1 g)).1)
+    beside_next r d q = (
+      (λ g. h.0 (subst (EachStandsBeside kind) (sym two) (d.0 q, subst (EachStandsBeside kind) (at_part ss (i + 1) t m f) g))),
+      λ g. subst (EachStandsBeside kind) (sym (at_part ss (i + 1) t m f)) (subst (EachStandsBeside kind) two (h.1 g)).1,
+    )
 
   pub beside_last : length ss ≤ i + 1 → SameFrom kind ss (i + 1)
   beside_last m =
@@ -92,13 +96,16 @@ beside_stands Sequence n ts = ((λ h. tt), λ h. back Sequence (λ s t. Unit {0}
     anything [] = tt
     anything (x ∷ []) = tt
     anything (x ∷ (y ∷ l)) = (tt, anything (y ∷ l))
-beside_stands Set n ts =
-    ((λ h. neighbours_stand.0 (to_list ts) (into Set (λ s t. least_label s < least_label t) (λ s t u. u) ts h)),
-    λ h. back Set (λ s t. least_label s < least_label t) (λ s t u. u) ts (neighbours_from_pairwise (λ s t. least_label s < least_label t) (to_list ts) h))
+beside_stands Set n ts = (
+  (λ h. neighbours_stand.0 (to_list ts) (into Set (λ s t. least_label s < least_label t) (λ s t u. u) ts h)),
+  λ h. back Set (λ s t. least_label s < least_label t) (λ s t u. u) ts (neighbours_from_pairwise (λ s t. least_label s < least_label t) (to_list ts) h),
+)
 beside_stands Cycle n ts = absurd (n refl)
-beside_stands Multiset n ts =
-    ((λ h. neighbours_stand.1 (to_list ts) (into Multiset IsNotBefore (λ s t u. u) ts h)),
-    λ h. back Multiset IsNotBefore (λ s t u. u) ts (neighbours_from_pairwise IsNotBefore (to_list ts) h))
-beside_stands Powerset n ts =
-    ((λ h. neighbours_stand.2 (to_list ts) (into Powerset (λ s t. IsBefore t s) (λ s t u. u) ts h)),
-    λ h. back Powerset (λ s t. IsBefore t s) (λ s t u. u) ts (neighbours_from_pairwise (λ s t. IsBefore t s) (to_list ts) h))
+beside_stands Multiset n ts = (
+  (λ h. neighbours_stand.1 (to_list ts) (into Multiset IsNotBefore (λ s t u. u) ts h)),
+  λ h. back Multiset IsNotBefore (λ s t u. u) ts (neighbours_from_pairwise IsNotBefore (to_list ts) h),
+)
+beside_stands Powerset n ts = (
+  (λ h. neighbours_stand.2 (to_list ts) (into Powerset (λ s t. IsBefore t s) (λ s t u. u) ts h)),
+  λ h. back Powerset (λ s t. IsBefore t s) (λ s t u. u) ts (neighbours_from_pairwise (λ s t. IsBefore t s) (to_list ts) h),
+)

@@ -27,6 +27,7 @@ lt_cases a b = by (nat_lt a b) refl
       where
         differ : true ≡ false → ⊥
         differ e = cc
+
         either : (a b : ℕ) → (b ≤ a) ⊎ (a < b)
         either a b = grind arith
 
@@ -61,6 +62,7 @@ put_rises x (y ∷ ys) r = by (nat_le x y) (le_cases x y (nat_le x y) refl) (put
   where
     differ : {A : Type 0} → true ≡ false → A
     differ e = cc
+
     by : (b : Bool) → ((x ≤ y) × (b ≡ true)) ⊎ ((y ≤ x) × (b ≡ false)) → Rises (put x ys) → Rises (if b then x ∷ (y ∷ ys) else y ∷ put x ys)
     by true (inl h) ih = ((λ z i. ⊎_elim (λ (e : z ≡ y). omega (arith, h.0, e)) (λ j. omega (arith, h.0, r.0 z j)) i), r)
     by true (inr h) ih = differ h.1
@@ -163,11 +165,11 @@ copies_first : (x : ℕ) (xs : List ℕ) → Rises xs → ((y : ℕ) → In y xs
 copies_first x [] r h = refl
 copies_first x (y ∷ xs) r h = ⊎_elim
     (λ c. let all = beyond_all x (y ∷ xs) (λ z i. ⊎_elim (λ e. omega (arith, c.0, e)) (λ j. omega (arith, c.0, r.0 z j)) i) in
-      sym (ap (λ n. replicate n x ++ beyond x (y ∷ xs)) all.0 ∙ all.1))
+    sym (ap (λ n. replicate n x ++ beyond x (y ∷ xs)) all.0 ∙ all.1))
     (λ c. let e : x ≡ y = omega (arith, c.0, h y (inl refl)) in
-      ⊎_elim (λ q. ap (λ z. z ∷ xs) (sym e) ∙ ap (λ l. x ∷ l) (copies_first x xs r.1 (λ z i. h z (inr i)))
-        ∙ sym (ap (λ n. replicate n x ++ beyond x (y ∷ xs)) (ap (λ b. one_if b + copies_of x xs) q.1 ∙ plus (copies_of x xs)) ∙ ap (λ b. x ∷ (replicate (copies_of x xs) x ++ picks x (y ∷ xs) b)) c.1))
-      (λ q. absurd (q.0 e)) (eq_cases x y))
+    ⊎_elim (λ q. ap (λ z. z ∷ xs) (sym e) ∙ ap (λ l. x ∷ l) (copies_first x xs r.1 (λ z i. h z (inr i)))
+    ∙ sym (ap (λ n. replicate n x ++ beyond x (y ∷ xs)) (ap (λ b. one_if b + copies_of x xs) q.1 ∙ plus (copies_of x xs)) ∙ ap (λ b. x ∷ (replicate (copies_of x xs) x ++ picks x (y ∷ xs) b)) c.1))
+    (λ q. absurd (q.0 e)) (eq_cases x y))
     (lt_cases x y)
   where
     plus : (n : ℕ) → 1 + n ≡ suc n
@@ -177,10 +179,10 @@ pub beyond_split : (past x : ℕ) (xs : List ℕ) → Rises xs → first_of (bey
 beyond_split past x [] r e pos h = absurd (omega (arith, e))
 beyond_split past x (y ∷ xs) r e pos h = ⊎_elim
     (λ c. let same : y ≡ x = sym (ap (λ b. first_of (picks past (y ∷ xs) b)) c.1) ∙ e in
-      ap (picks past (y ∷ xs)) c.1 ∙ copies_first x (y ∷ xs) r (λ z i. ⊎_elim (λ q. omega (arith, same, q)) (λ j. omega (arith, same, r.0 z j)) i))
+    ap (picks past (y ∷ xs)) c.1 ∙ copies_first x (y ∷ xs) r (λ z i. ⊎_elim (λ q. omega (arith, same, q)) (λ j. omega (arith, same, r.0 z j)) i))
     (λ c. ap (picks past (y ∷ xs)) c.1 ∙ beyond_split past x xs r.1 (sym (ap (λ b. first_of (picks past (y ∷ xs) b)) c.1) ∙ e) pos h
-      ∙ ap (λ n. replicate n x ++ beyond x xs) (⊎_elim (λ q. absurd (omega (arith, q.0, c.0))) (λ q. omega (arith, ap one_if q.1)) (eq_cases x y))
-      ∙ ap (λ l. replicate (copies_of x (y ∷ xs)) x ++ l) (⊎_elim (λ q. absurd (omega (arith, q.0, c.0))) (λ q. sym (ap (picks x (y ∷ xs)) q.1)) (lt_cases x y)))
+    ∙ ap (λ n. replicate n x ++ beyond x xs) (⊎_elim (λ q. absurd (omega (arith, q.0, c.0))) (λ q. omega (arith, ap one_if q.1)) (eq_cases x y))
+    ∙ ap (λ l. replicate (copies_of x (y ∷ xs)) x ++ l) (⊎_elim (λ q. absurd (omega (arith, q.0, c.0))) (λ q. sym (ap (picks x (y ∷ xs)) q.1)) (lt_cases x y)))
     (lt_cases past y)
 
 -- what is beyond 0 of positive numbers is all of them

@@ -7,7 +7,7 @@ abbrev mutual
   pub structure_text : Tree → List ℕ
   structure_text (Atom weight zero) = codes "a" ++ decimal weight
   structure_text (Atom weight (suc label)) = codes "#" ++ decimal (suc label)
-  structure_text (Inj branch t) = decimal branch ++ codes ":" ++ structure_text t
+  structure_text (Inj branch t) = decimal branch ++ (codes ":" ++ structure_text t)
   structure_text (Tup ts) = codes "(" ++ joined ts ++ codes ")"
   structure_text (Coll ts) = codes "[" ++ joined ts ++ codes "]"
 

@@ -29,13 +29,7 @@ pub(crate) fn next_label(s: &Structure, past: u32) -> u32
     ensures { result ≡ next_above past (labels_of (tree_of s.now)) }
 {
     match s {
-        Structure::Atom { label, .. } => {
-            if *label > past {
-                *label
-            } else {
-                0
-            }
-        }
+        Structure::Atom { label, .. } => { if *label > past { *label } else { 0 } }
         Structure::Inj { inner, .. } => next_label(inner.get(), past),
         Structure::Tup { parts } => next_of_all(parts.as_slice(), past),
         Structure::Coll { parts } => next_of_all(parts.as_slice(), past),

@@ -8,7 +8,6 @@ mod structure;
 mod text;
 
 pub use comparing::order;
-
 pub use members::member;
 pub use structure::Structure;
 pub use text::write_structure;

@@ -20,13 +20,7 @@ fn is_label(universe: Universe, weight: u32, label: u32) -> bool
 {
     match universe {
         Universe::Unlabelled => label == 0,
-        Universe::Labelled => {
-            if weight == 1 {
-                label > 0
-            } else {
-                label == 0
-            }
-        }
+        Universe::Labelled => { if weight == 1 { label > 0 } else { label == 0 } }
     }
 }
 
@@ -196,9 +190,7 @@ fn has_shape(program: &Program, construct: &Shape, s: &Structure) -> bool
                 high,
             },
             Structure::Coll { parts },
-        ) => {
-            is_collection(program, *kind, *part, *low, *high, parts.as_slice())
-        }
+        ) => { is_collection(program, *kind, *part, *low, *high, parts.as_slice()) }
         _ => false,
     }
 }

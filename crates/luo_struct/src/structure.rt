@@ -10,16 +10,23 @@ use std::alloc::Global;
 #[derive(Debug, Drop)]
 pub enum Structure {
     /// An atom.
-    Atom { weight: u32, label: u32 },
+    Atom {
+        weight: u32,
+        label: u32,
+    },
     /// A structure of a branch of a union.
     Inj {
         branch: u32,
         inner: Boxed<Structure>,
     },
     /// The parts of a product.
-    Tup { parts: Items<Structure> },
+    Tup {
+        parts: Items<Structure>,
+    },
     /// The components of a collection.
-    Coll { parts: Items<Structure> },
+    Coll {
+        parts: Items<Structure>,
+    },
 }
 
 impl Structure {

@@ -6,19 +6,31 @@ use Rattle.luo_struct.proofs.CompareLemmas.{branches_compare, tuples_compare, co
 use Rattle.luo_struct.proofs.comparing.+orders.Goals as goal
 
 pub by_form-order-requires : goal.by_form-order-requires
-by_form-order-requires t c = (search (rules, the_lemmas),
-    (small_inner (tree_of c.args.a.now) (tree_of c.get.result.now) c.in-Inj-Inj.branch (branch_tree c.args.a.now c.in-Inj-Inj.branch c.in-Inj-Inj.inner c.get.result.now c.in-Inj-Inj.is-0 c.get.ensures) c.requires.a_small,
-    small_inner (tree_of c.args.b.now) (tree_of c.get-in-Equal-cmp.result.now) c.in-Inj-Inj.other_branch (branch_tree c.args.b.now c.in-Inj-Inj.other_branch c.in-Inj-Inj.other_inner c.get-in-Equal-cmp.result.now c.in-Inj-Inj.is-1 c.get-in-Equal-cmp.ensures) c.requires.b_small))
+by_form-order-requires t c = (
+  search (rules, the_lemmas),
+  (
+    small_inner (tree_of c.args.a.now) (tree_of c.get.result.now) c.in-Inj-Inj.branch (branch_tree c.args.a.now c.in-Inj-Inj.branch c.in-Inj-Inj.inner c.get.result.now c.in-Inj-Inj.is-0 c.get.ensures) c.requires.a_small,
+    small_inner (tree_of c.args.b.now) (tree_of c.get-in-Equal-cmp.result.now) c.in-Inj-Inj.other_branch (branch_tree c.args.b.now c.in-Inj-Inj.other_branch c.in-Inj-Inj.other_inner c.get-in-Equal-cmp.result.now c.in-Inj-Inj.is-1 c.get-in-Equal-cmp.ensures) c.requires.b_small,
+  ),
+)
 
 pub by_form-by_parts-requires : goal.by_form-by_parts-requires
-by_form-by_parts-requires t c = (search (rules, the_lemmas),
-    (small_tuple (tree_of c.args.a.now) (tree_list c.as_slice.result.now) (tuple_tree c.args.a.now c.in-Tup-Tup.parts c.as_slice.result.now c.in-Tup-Tup.is-0 c.as_slice.ensures) c.requires.a_small,
-    small_tuple (tree_of c.args.b.now) (tree_list c.as_slice-in-Tup-Tup.result.now) (tuple_tree c.args.b.now c.in-Tup-Tup.others c.as_slice-in-Tup-Tup.result.now c.in-Tup-Tup.is-1 c.as_slice-in-Tup-Tup.ensures) c.requires.b_small))
+by_form-by_parts-requires t c = (
+  search (rules, the_lemmas),
+  (
+    small_tuple (tree_of c.args.a.now) (tree_list c.as_slice.result.now) (tuple_tree c.args.a.now c.in-Tup-Tup.parts c.as_slice.result.now c.in-Tup-Tup.is-0 c.as_slice.ensures) c.requires.a_small,
+    small_tuple (tree_of c.args.b.now) (tree_list c.as_slice-in-Tup-Tup.result.now) (tuple_tree c.args.b.now c.in-Tup-Tup.others c.as_slice-in-Tup-Tup.result.now c.in-Tup-Tup.is-1 c.as_slice-in-Tup-Tup.ensures) c.requires.b_small,
+  ),
+)
 
 pub by_form-by_parts-requires-in-Coll-Coll : goal.by_form-by_parts-requires-in-Coll-Coll
-by_form-by_parts-requires-in-Coll-Coll t c = (search (rules, the_lemmas),
-    (small_collection (tree_of c.args.a.now) (tree_list c.as_slice-in-Coll-Coll.result.now) (collection_tree c.args.a.now c.in-Coll-Coll.parts c.as_slice-in-Coll-Coll.result.now c.in-Coll-Coll.is-0 c.as_slice-in-Coll-Coll.ensures) c.requires.a_small,
-    small_collection (tree_of c.args.b.now) (tree_list c.as_slice-in-Coll-Coll-2.result.now) (collection_tree c.args.b.now c.in-Coll-Coll.others c.as_slice-in-Coll-Coll-2.result.now c.in-Coll-Coll.is-1 c.as_slice-in-Coll-Coll-2.ensures) c.requires.b_small))
+by_form-by_parts-requires-in-Coll-Coll t c = (
+  search (rules, the_lemmas),
+  (
+    small_collection (tree_of c.args.a.now) (tree_list c.as_slice-in-Coll-Coll.result.now) (collection_tree c.args.a.now c.in-Coll-Coll.parts c.as_slice-in-Coll-Coll.result.now c.in-Coll-Coll.is-0 c.as_slice-in-Coll-Coll.ensures) c.requires.a_small,
+    small_collection (tree_of c.args.b.now) (tree_list c.as_slice-in-Coll-Coll-2.result.now) (collection_tree c.args.b.now c.in-Coll-Coll.others c.as_slice-in-Coll-Coll-2.result.now c.in-Coll-Coll.is-1 c.as_slice-in-Coll-Coll-2.ensures) c.requires.b_small,
+  ),
+)
 
 pub by_form-returns-in-Equal-cmp : goal.by_form-returns-in-Equal-cmp
 by_form-returns-in-Equal-cmp t c = branches_compare (tree_of c.args.a.now) (tree_of c.args.b.now) c.in-Inj-Inj.branch c.in-Inj-Inj.other_branch (tree_of c.get.result.now) (tree_of c.get-in-Equal-cmp.result.now) c.order.result
@@ -40,9 +52,13 @@ pub order-returns-in_default : goal.order-returns-in_default
 order-returns-in_default t c = order_by_size (tree_of c.args.a.now) (tree_of c.args.b.now) c.size_and_labels.result c.size_and_labels.ensures c.in_default.not-Equal
 
 pub by_parts-order-requires : goal.by_parts-order-requires
-by_parts-order-requires t c = (search (rules, the_lemmas),
-    (small_part c.args.parts.now c.loop-place.place c.index-parts-place.result c.loop-place-test.true c.index-parts-place.is c.requires.a_small,
-    small_part c.args.others.now c.loop-place.place c.in-Some.other.now c.in-Some.ensures.lookup.3.0 c.in-Some.ensures.lookup.1 c.requires.b_small))
+by_parts-order-requires t c = (
+  search (rules, the_lemmas),
+  (
+    small_part c.args.parts.now c.loop-place.place c.index-parts-place.result c.loop-place-test.true c.index-parts-place.is c.requires.a_small,
+    small_part c.args.others.now c.loop-place.place c.in-Some.other.now c.in-Some.ensures.lookup.3.0 c.in-Some.ensures.lookup.1 c.requires.b_small,
+  ),
+)
 
 pub by_parts-returns-in_default-order : goal.by_parts-returns-in_default-order
 by_parts-returns-in_default-order t c =

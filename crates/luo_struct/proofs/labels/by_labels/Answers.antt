@@ -20,7 +20,7 @@ returns-then-label-other c = c.cmp.ensures ∙
 pub returns-then-copies-others : goal.returns-then-copies-others
 returns-then-copies-others c =
     let few : copies_of c.next_label-label.result (labels_of (tree_of c.args.a.now)) < copies_of c.next_label-label.result (labels_of (tree_of c.args.b.now)) =
-      omega (arith, copies_exact (tree_of c.args.a.now) c.next_label-label.result _ c.copies_of-copies.ensures c.requires.a_few, copies_exact (tree_of c.args.b.now) c.next_label-label.result _ c.copies_of-others.ensures c.requires.b_few) in
+    omega (arith, copies_exact (tree_of c.args.a.now) c.next_label-label.result _ c.copies_of-copies.ensures c.requires.a_few, copies_exact (tree_of c.args.b.now) c.next_label-label.result _ c.copies_of-others.ensures c.requires.b_few) in
     c.cmp-then-copies-others.ensures ∙
     fewer_here (tree_of c.args.a.now) (tree_of c.args.b.now) c.loop-label.past c.next_label-label.result c.next_label-other.result c.next_label-label.ensures c.next_label-other.ensures (omega arith) (omega arith) c.loop-label.invariant
     c.next_label.result c.next_label.ensures few
@@ -28,7 +28,7 @@ returns-then-copies-others c =
 pub returns-then-others-copies : goal.returns-then-others-copies
 returns-then-others-copies c =
     let few : copies_of c.next_label-label.result (labels_of (tree_of c.args.b.now)) < copies_of c.next_label-label.result (labels_of (tree_of c.args.a.now)) =
-      omega (arith, copies_exact (tree_of c.args.a.now) c.next_label-label.result _ c.copies_of-copies.ensures c.requires.a_few, copies_exact (tree_of c.args.b.now) c.next_label-label.result _ c.copies_of-others.ensures c.requires.b_few) in
+    omega (arith, copies_exact (tree_of c.args.a.now) c.next_label-label.result _ c.copies_of-copies.ensures c.requires.a_few, copies_exact (tree_of c.args.b.now) c.next_label-label.result _ c.copies_of-others.ensures c.requires.b_few) in
     c.cmp-then-others-copies.ensures ∙
     fewer_there (tree_of c.args.a.now) (tree_of c.args.b.now) c.loop-label.past c.next_label-label.result c.next_label-other.result c.next_label-label.ensures c.next_label-other.ensures (omega arith) (omega arith) c.loop-label.invariant
     c.next_label-then-others-copies.result c.next_label-then-others-copies.ensures few
@@ -39,5 +39,5 @@ loop-label-smaller c = omega (arith, label_more (tree_of c.args.a.now) c.loop-la
 pub loop-label-preserved : goal.loop-label-preserved
 loop-label-preserved c =
     let same : copies_of c.next_label-label.result (labels_of (tree_of c.args.a.now)) ≡ copies_of c.next_label-label.result (labels_of (tree_of c.args.b.now)) =
-      omega (arith, copies_exact (tree_of c.args.a.now) c.next_label-label.result _ c.copies_of-copies.ensures c.requires.a_few, copies_exact (tree_of c.args.b.now) c.next_label-label.result _ c.copies_of-others.ensures c.requires.b_few) in
+    omega (arith, copies_exact (tree_of c.args.a.now) c.next_label-label.result _ c.copies_of-copies.ensures c.requires.a_few, copies_exact (tree_of c.args.b.now) c.next_label-label.result _ c.copies_of-others.ensures c.requires.b_few) in
     beyond_next (tree_of c.args.a.now) (tree_of c.args.b.now) c.loop-label.past c.next_label-label.result c.next_label-other.result c.next_label-label.ensures c.next_label-other.ensures (omega arith) (omega arith) c.loop-label.invariant same

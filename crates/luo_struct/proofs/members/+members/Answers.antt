@@ -19,16 +19,22 @@ pub are_factors-member-requires : goal.are_factors-member-requires
 are_factors-member-requires t c = (search (rules, the_lemmas), size_part c.args.parts.now c.loop-place.place c.index-parts-place.result c.loop-place-test.true c.index-parts-place.is c.requires.small)
 
 pub has_shape-is_branch-requires : goal.has_shape-is_branch-requires
-has_shape-is_branch-requires t c = (search (rules, the_lemmas),
-    size_inner (tree_of c.args.s.now) (tree_of c.get.result.now) c.in-Union-Inj.branch (branch_tree c.args.s.now c.in-Union-Inj.branch c.in-Union-Inj.inner c.get.result.now c.in-Union-Inj.is-1 c.get.ensures) c.requires.small)
+has_shape-is_branch-requires t c = (
+  search (rules, the_lemmas),
+  size_inner (tree_of c.args.s.now) (tree_of c.get.result.now) c.in-Union-Inj.branch (branch_tree c.args.s.now c.in-Union-Inj.branch c.in-Union-Inj.inner c.get.result.now c.in-Union-Inj.is-1 c.get.ensures) c.requires.small,
+)
 
 pub has_shape-are_factors-requires : goal.has_shape-are_factors-requires
-has_shape-are_factors-requires t c = (search (rules, the_lemmas),
-    size_tuple (tree_of c.args.s.now) (tree_list c.as_slice-in-Product-Tup-2.result.now) (tuple_tree c.args.s.now c.in-Product-Tup.parts c.as_slice-in-Product-Tup-2.result.now c.in-Product-Tup.is-1 c.as_slice-in-Product-Tup-2.ensures) c.requires.small)
+has_shape-are_factors-requires t c = (
+  search (rules, the_lemmas),
+  size_tuple (tree_of c.args.s.now) (tree_list c.as_slice-in-Product-Tup-2.result.now) (tuple_tree c.args.s.now c.in-Product-Tup.parts c.as_slice-in-Product-Tup-2.result.now c.in-Product-Tup.is-1 c.as_slice-in-Product-Tup-2.ensures) c.requires.small,
+)
 
 pub has_shape-is_collection-requires : goal.has_shape-is_collection-requires
-has_shape-is_collection-requires t c = (search (rules, the_lemmas),
-    size_collection (tree_of c.args.s.now) (tree_list c.as_slice-in-Coll-Coll.result.now) (collection_tree c.args.s.now c.in-Coll-Coll.parts c.as_slice-in-Coll-Coll.result.now c.in-Coll-Coll.is-1 c.as_slice-in-Coll-Coll.ensures) c.requires.small)
+has_shape-is_collection-requires t c = (
+  search (rules, the_lemmas),
+  size_collection (tree_of c.args.s.now) (tree_list c.as_slice-in-Coll-Coll.result.now) (collection_tree c.args.s.now c.in-Coll-Coll.parts c.as_slice-in-Coll-Coll.result.now c.in-Coll-Coll.is-1 c.as_slice-in-Coll-Coll.ensures) c.requires.small,
+)
 
 pub has_shape-returns-in-Union-Inj : goal.has_shape-returns-in-Union-Inj
 has_shape-returns-in-Union-Inj t c =
