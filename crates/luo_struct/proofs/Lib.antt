@@ -7,3 +7,4 @@ pub mod CompareLemmas
 pub mod NeighbourLemmas
 pub mod MemberLemmas
 pub mod TextLemmas
+pub mod WholeLemmas

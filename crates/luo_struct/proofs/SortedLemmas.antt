@@ -18,7 +18,7 @@ pub nat_greater : (x y : ℕ) → y < x → nat_cmp x y ≡ Greater
 nat_greater x y h = nat_cmp_total.antisymm x y ∙ ap ordering_reverse (nat_less y x h)
 
 -- the cases of a test
-lt_cases : (a b : ℕ) → ((a < b) × (nat_lt a b ≡ true)) ⊎ ((b ≤ a) × (nat_lt a b ≡ false))
+pub lt_cases : (a b : ℕ) → ((a < b) × (nat_lt a b ≡ true)) ⊎ ((b ≤ a) × (nat_lt a b ≡ false))
 lt_cases a b = by (nat_lt a b) refl
   where
     by : (t : Bool) → nat_lt a b ≡ t → ((a < b) × (nat_lt a b ≡ true)) ⊎ ((b ≤ a) × (nat_lt a b ≡ false))
@@ -121,7 +121,7 @@ abbrev picks : ℕ → List ℕ → Bool → List ℕ
 picks past (x ∷ xs) b = if b then x ∷ xs else beyond past xs
 picks past [] b = []
 
-abbrev one : ℕ → Bool → ℕ
+abbrev pub one : ℕ → Bool → ℕ
 one x b = if b then x else 0
 
 lesser_first : (x n : ℕ) → 0 < x → ((n ≡ 0) ⊎ (x ≤ n)) → lesser x n ≡ x

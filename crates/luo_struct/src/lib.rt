@@ -2,12 +2,14 @@
 #![tactic(auto)]
 
 mod comparing;
+mod labelling;
 mod labels;
 mod members;
 mod structure;
 mod text;
 
 pub use comparing::order;
+pub use labelling::whole;
 pub use members::member;
 pub use structure::Structure;
 pub use text::write_structure;
