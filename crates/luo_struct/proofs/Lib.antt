@@ -1,0 +1,10 @@
+pub mod ViewLemmas
+pub mod SizeLemmas
+pub mod PassLemmas
+pub mod SortedLemmas
+pub mod LabelOrder
+pub mod CompareLemmas
+pub mod NeighbourLemmas
+pub mod MemberLemmas
+pub mod TextLemmas
+pub mod WholeLemmas

@@ -1,0 +1,4 @@
+pub mod View
+pub mod Small
+pub mod inner
+pub mod Text
