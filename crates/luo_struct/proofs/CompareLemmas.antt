@@ -5,12 +5,11 @@ use Rattle.std.specs.declared.cmp.Ordering.{Ordering}
 use Rattle.std.specs.declared.cmp.Ordering.TheVariants.{Less, Equal, Greater}
 use Rattle.std.specs.Ordering.{nat_cmp}
 use Rattle.luo_finite.proofs.Orders.{nat_less, nat_itself}
-use Rattle.luo_model.specs.Tree.{Tree, Trees, Atom, Inj, Tup, Coll, none, more, size_of, sizes_of, labels_of, all_labels_of}
+use Rattle.luo_model.specs.Tree.{Tree, Trees, Inj, Tup, Coll, none, more, size_of, labels_of, all_labels_of}
 use Rattle.luo_model.specs.Order.{then_by, by_size_and_labels, by_form, by_parts, order_of}
 use Rattle.luo_struct.specs.declared.structure.Structure.{Structure}
 use Rattle.luo_struct.specs.View.{tree_of, tree_list}
 use Rattle.luo_struct.specs.Small.{IsSmall, AreSmall}
-use Rattle.luo_struct.proofs.SortedLemmas.{nat_greater}
 
 then_equal : (o r : Ordering) → Equal ≡ o → then_by o r ≡ r
 then_equal o r e = sym (ap (λ q. then_by q r) e)

@@ -1,7 +1,6 @@
 -- Which structures of the code belong to a node.
-use Rattle.std.proofs.Common.{◌≡◌, ◌↔◌, ℕ, zero, suc, ◌+◌, ◌-◌, ◌^◌, ◌<◌, ◌≤◌, List, [], ◌∷◌, ◌⊎◌, inl, inr, ⊎_elim, Bool, true, false, IsTrue, length, drop, get_or, refl, sym, ap, subst, ◌∙◌, arith, Option, Some, None, slice_get, length-append}
+use Rattle.std.proofs.Common.{◌≡◌, ◌↔◌, ℕ, zero, suc, ◌+◌, ◌-◌, ◌^◌, ◌<◌, ◌≤◌, List, [], ◌∷◌, inl, inr, ⊎_elim, Bool, true, false, IsTrue, length, drop, get_or, refl, sym, ap, subst, ◌∙◌, arith, Option, Some, None, slice_get, length-append}
 use Rattle.std.proofs.lemmas.List.{drop_all, drop_more}
-use Rattle.std.proofs.lemmas.Option.{slice_get_read, slice_get_past}
 use Rattle.luo_finite.specs.Listing.{In}
 use Rattle.luo_finite.proofs.Places.{some_same, none_some}
 use Rattle.luo_model.specs.declared.program.Universe.TheVariants.{Unlabelled, Labelled}
@@ -13,10 +12,10 @@ use Rattle.luo_model.specs.declared.program.Shape.{Shape}
 use Rattle.luo_model.specs.declared.program.Shape.TheVariants as shape
 use Rattle.luo_model.specs.Tree.{Tree, Trees, Atom, Inj, Tup, Coll, none, more, to_list, size_of, sizes_of, labels_of, all_labels_of, least_label}
 use Rattle.luo_model.specs.Program.{Program, shape_of, no_node}
-use Rattle.luo_model.specs.Member.{IsLabel, IsWithin, ComponentsStand, Fits, FitAll, FitEach, Member}
+use Rattle.luo_model.specs.Member.{IsLabel, IsWithin, Fits, FitAll, FitEach, Member}
 use Rattle.luo_model.proofs.NodeLemmas.{shape_there}
 use Rattle.luo_struct.specs.declared.structure.Structure.{Structure}
-use Rattle.luo_struct.specs.Small.{IsSmall, AreSmall}
+use Rattle.luo_struct.specs.Small.{AreSmall}
 use Rattle.luo_struct.specs.View.{tree_of, tree_list}
 use Rattle.luo_struct.proofs.CompareLemmas.{at_part}
 

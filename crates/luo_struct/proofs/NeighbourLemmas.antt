@@ -1,13 +1,12 @@
 -- Neighbours of a collection, and its least labels.
-use Rattle.std.proofs.Common.{◌≡◌, ◌↔◌, ℕ, zero, suc, ◌+◌, ◌<◌, ◌≤◌, List, [], ◌∷◌, ◌⊎◌, inl, inr, ⊎_elim, length, drop, get_or, min, refl, sym, ap, subst, ◌∙◌, arith, IsTrue, true, false}
+use Rattle.std.proofs.Common.{◌≡◌, ◌↔◌, ℕ, zero, suc, ◌+◌, ◌<◌, ◌≤◌, List, [], ◌∷◌, inl, inr, length, drop, get_or, min, refl, sym, ap, subst, ◌∙◌, arith, IsTrue, true, false}
 use Rattle.std.proofs.lemmas.List.{drop_all}
-use Rattle.luo_finite.specs.Listing.{In, Neighbours, Pairwise}
+use Rattle.luo_finite.specs.Listing.{In, Neighbours}
 use Rattle.luo_finite.proofs.Pairwise.{neighbours_from_pairwise}
 use Rattle.luo_model.specs.declared.program.Kind.{Kind}
 use Rattle.luo_model.specs.declared.program.Kind.TheVariants.{Sequence, Set, Cycle, Multiset, Powerset}
 use Rattle.luo_model.specs.Tree.{Tree, Trees, none, more, to_list, labels_of, least_of, least_label}
 use Rattle.luo_model.specs.Order.{IsBefore, IsNotBefore}
-use Rattle.luo_model.specs.Standing.{IsLed}
 use Rattle.luo_model.specs.Member.{ComponentsStand}
 use Rattle.luo_model.proofs.OrderLemmas.{neighbours_stand}
 use Rattle.luo_struct.specs.declared.structure.Structure.{Structure}

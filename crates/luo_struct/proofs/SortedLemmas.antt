@@ -1,7 +1,7 @@
 -- Sorted lists, label by label.
 use Rattle.std.proofs.Common.{◌≡◌, ℕ, zero, suc, ◌+◌, ◌<◌, ◌≤◌, List, [], ◌∷◌, ◌++◌, ◌⊎◌, inl, inr, ⊎_elim, length, min, refl, sym, ap, subst, ◌∙◌, arith, if◌then◌else◌, nat_lt, nat_eq, nat_le, Bool, true, false, replicate}
 use Rattle.std.specs.declared.cmp.Ordering.{Ordering}
-use Rattle.std.specs.declared.cmp.Ordering.TheVariants.{Less, Equal, Greater}
+use Rattle.std.specs.declared.cmp.Ordering.TheVariants.{Greater}
 use Rattle.std.specs.Cmp.Lexicographic.{slice_cmp}
 use Rattle.std.specs.Ordering.{nat_cmp, ordering_then, ordering_reverse}
 use Rattle.std.proofs.lemmas.Bool.{ltb-true, lt-ltb}
@@ -9,10 +9,9 @@ use Rattle.std.proofs.lemmas.Bool.Decides.{Decides-eqb, nat_tests}
 use Rattle.std.proofs.lemmas.Cmp.{nat_cmp_total}
 use Rattle.luo_finite.specs.Listing.{In, Pairwise}
 use Rattle.luo_finite.proofs.Orders.{nat_less, nat_itself}
-use Rattle.luo_model.specs.Tree.{Tree, Trees, Atom, Inj, Tup, Coll, none, more, labels_of, all_labels_of}
 use Rattle.luo_model.specs.Order.{put, sorted}
 use Rattle.luo_struct.specs.inner.Passes.{lesser, next_above, copies_of}
-use Rattle.luo_struct.proofs.PassLemmas.{lesser_assoc, lesser_comm, lesser_none}
+use Rattle.luo_struct.proofs.PassLemmas.{lesser_assoc, lesser_comm}
 
 pub nat_greater : (x y : ℕ) → y < x → nat_cmp x y ≡ Greater
 nat_greater x y h = nat_cmp_total.antisymm x y ∙ ap ordering_reverse (nat_less y x h)

@@ -1,8 +1,8 @@
 -- Texts of structures of the code, part by part.
-use Rattle.std.proofs.Common.{◌≡◌, ℕ, zero, suc, ◌+◌, ◌<◌, ◌≤◌, List, [], ◌∷◌, ◌++◌, codes, decimal, length, take, get_or, refl, sym, ap, ◌∙◌, arith, add-one, append_assoc}
+use Rattle.std.proofs.Common.{◌≡◌, ℕ, zero, suc, ◌+◌, ◌<◌, List, [], ◌∷◌, ◌++◌, decimal, length, take, get_or, sym, ap, ◌∙◌, arith, add-one, append_assoc}
 use Rattle.std.proofs.lemmas.List.{append-nil}
 use Rattle.luo_struct.specs.declared.structure.Structure.{Structure}
-use Rattle.luo_model.specs.Tree.{Tree, Trees, Inj, Tup, Coll, none, more}
+use Rattle.luo_model.specs.Tree.{Tree, Trees, Inj, Tup, Coll}
 use Rattle.luo_struct.specs.View.{tree_of, tree_list}
 use Rattle.luo_struct.specs.Text.{structure_text, joined, followed}
 

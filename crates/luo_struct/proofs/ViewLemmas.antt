@@ -1,5 +1,5 @@
 -- Structures of the code whose parts are in a list or a box, as trees.
-use Rattle.std.proofs.Common.{◌≡◌, ℕ, zero, suc, ◌+◌, ◌<◌, List, [], ◌∷◌, length, take, get_or, refl, sym, ap, ◌∙◌, arith, add-one}
+use Rattle.std.proofs.Common.{◌≡◌, ℕ, List, refl, sym, ap, ◌∙◌}
 use mathlib.Core.Former.{Count}
 use Rattle.luo_struct.specs.declared.structure.Structure.{Structure, Atom, Inj, Inj', Tup, Tup', Coll, Coll', Row_of-Structure, end_of-Structure, more_of-Structure, items-the_row-Structure, items_hidden-the_row-Structure-1}
 use Rattle.luo_model.specs.Tree.{Tree, Trees, none, more}

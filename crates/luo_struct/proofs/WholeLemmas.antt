@@ -1,7 +1,7 @@
 -- Labels from 1 on, each once.
-use Rattle.std.proofs.Common.{◌≡◌, ◌↔◌, ℕ, zero, suc, ◌+◌, ◌-◌, ◌^◌, ◌<◌, ◌≤◌, List, [], ◌∷◌, ◌++◌, ◌⊎◌, inl, inr, ⊎_elim, Bool, true, false, IsTrue, length, min, refl, sym, ap, subst, ◌∙◌, arith, if◌then◌else◌, nat_lt, length-append}
+use Rattle.std.proofs.Common.{◌≡◌, ◌↔◌, ℕ, zero, suc, ◌+◌, ◌-◌, ◌^◌, ◌<◌, ◌≤◌, List, [], ◌∷◌, ◌++◌, ◌⊎◌, inl, inr, ⊎_elim, Bool, true, IsTrue, length, min, refl, sym, ap, subst, ◌∙◌, arith, nat_lt}
 use Rattle.luo_finite.specs.Listing.{In, NoDouble}
-use Rattle.luo_finite.proofs.Membership.{around, In-without, In-with, In-append_cases}
+use Rattle.luo_finite.proofs.Membership.{around, In-without}
 use Rattle.luo_finite.proofs.Decided.{same_number}
 use Rattle.luo_model.specs.declared.program.Universe.{Universe}
 use Rattle.luo_model.specs.declared.program.Universe.TheVariants.{Unlabelled, Labelled}

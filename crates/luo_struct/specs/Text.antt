@@ -1,6 +1,6 @@
 -- The text of a structure, and which texts are structure texts.
-use Rattle.std.specs.Prelude.{◌≡◌, ℕ, zero, suc, ◌+◌, ◌≤◌, ◌<◌, List, [], ◌∷◌, ◌++◌, take, length, codes, decimal}
-use Rattle.luo_model.specs.Tree.{Tree, Trees, Atom, Inj, Tup, Coll, none, more, to_list}
+use Rattle.std.specs.Prelude.{ℕ, zero, suc, List, [], ◌++◌, codes, decimal}
+use Rattle.luo_model.specs.Tree.{Tree, Trees, Atom, Inj, Tup, Coll, none, more}
 
 -- an atom without a label by its weight, and one with a label by the label; a branch by its number and what is inside; parts of a tuple and components in brackets, with commas between them
 abbrev mutual

@@ -1,8 +1,8 @@
-use Rattle.std.proofs.Common.{rules, ◌≡◌, sym, ap, ◌∙◌, arith}
+use Rattle.std.proofs.Common.{rules, arith}
 use Rattle.luo_struct.specs.declared.structure.Structure.TheFolds.{the_lemmas}
 use Rattle.luo_struct.specs.View.{tree_of, tree_list}
 use Rattle.luo_struct.proofs.ViewLemmas.{tuple_tree, collection_tree, branch_tree}
-use Rattle.luo_struct.proofs.CompareLemmas.{branches_compare, tuples_compare, collections_compare, order_by_form, order_by_size, left_next, left_unequal, left_longer, left_end, small_inner, small_tuple, small_collection, small_part}
+use Rattle.luo_struct.proofs.CompareLemmas.{branches_compare, tuples_compare, collections_compare, order_by_form, order_by_size, left_next, left_unequal, left_end, small_inner, small_tuple, small_collection, small_part}
 use Rattle.luo_struct.proofs.comparing.+orders.Goals as goal
 
 pub by_form-order-requires : goal.by_form-order-requires

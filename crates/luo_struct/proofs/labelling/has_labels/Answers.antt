@@ -1,5 +1,4 @@
-use Rattle.std.proofs.Common.{◌≡◌, ◌<◌, ◌≤◌, inl, inr, refl, arith}
-use Rattle.luo_model.specs.Tree.{labels_of}
+use Rattle.std.proofs.Common.{◌<◌, inl, inr, arith}
 use Rattle.luo_struct.specs.View.{tree_of}
 use Rattle.luo_struct.proofs.MemberLemmas.{never}
 use Rattle.luo_struct.proofs.WholeLemmas.{has_next, has_fails, has_all, next_past}

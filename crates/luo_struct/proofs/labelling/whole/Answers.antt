@@ -1,4 +1,4 @@
-use Rattle.std.proofs.Common.{refl, sym, ap, ◌∙◌}
+use Rattle.std.proofs.Common.{sym, ap, ◌∙◌}
 use Rattle.luo_model.specs.View.{Held, plain_of}
 use Rattle.luo_struct.specs.View.{tree_of}
 use Rattle.luo_struct.proofs.MemberLemmas.{never, failed}

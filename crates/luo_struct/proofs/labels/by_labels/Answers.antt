@@ -1,7 +1,7 @@
-use Rattle.std.proofs.Common.{◌≡◌, ◌<◌, inl, inr, sym, ap, ◌∙◌, arith, ℕ, Fits, w32}
+use Rattle.std.proofs.Common.{◌≡◌, ◌<◌, inl, inr, ◌∙◌, arith}
 use Rattle.luo_model.specs.Tree.{labels_of}
 use Rattle.luo_struct.specs.View.{tree_of}
-use Rattle.luo_struct.specs.inner.Passes.{next_above, copies_of}
+use Rattle.luo_struct.specs.inner.Passes.{copies_of}
 use Rattle.luo_struct.proofs.LabelOrder.{beyond_start, beyond_ends, fewer_here, fewer_there, beyond_next, copies_exact, label_more}
 use Rattle.luo_struct.proofs.labels.by_labels.Goals.{then-label-other-via-then-label-other, then-label-other-via-else-label-other+then-label-eq0}
 use Rattle.luo_struct.proofs.labels.by_labels.Goals as goal

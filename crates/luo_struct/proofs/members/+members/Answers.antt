@@ -1,8 +1,5 @@
-use Rattle.std.proofs.Common.{rules, refl, ◌≡◌, sym, ap, ◌∙◌, arith, subst, None, slice_get}
+use Rattle.std.proofs.Common.{rules, refl, ◌≡◌, sym, ap, subst, None, slice_get}
 use Rattle.luo_model.specs.View.{Held, plain_of}
-use Rattle.luo_model.specs.Member.{Fits, FitAll}
-use Rattle.luo_model.specs.Tree.{Inj, Coll}
-use Rattle.luo_model.specs.declared.program.Shape.TheVariants as shape
 use Rattle.luo_struct.specs.declared.structure.Structure.TheFolds.{the_lemmas}
 use Rattle.luo_struct.specs.View.{tree_of, tree_list}
 use Rattle.luo_struct.proofs.ViewLemmas.{tuple_tree, collection_tree, branch_tree}
