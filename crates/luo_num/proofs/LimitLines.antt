@@ -5,8 +5,8 @@ use Rattle.luo_num.specs.Limits.{HeadsSayLimits, LinesSayLimits}
 
 pub heads-say_limits : HeadsSayLimits
 unfolding digits
-heads-say_limits = (refl, refl, refl)
+heads-say_limits = (refl, refl, refl, refl)
 
 pub lines-say_limits : LinesSayLimits
 unfolding digits
-lines-say_limits = (refl, refl, refl, refl, refl, refl, refl, refl, refl, refl, refl)
+lines-say_limits = (refl, refl, refl, refl, refl, refl, refl, refl, refl, refl, refl, refl)

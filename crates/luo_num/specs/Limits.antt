@@ -1,6 +1,6 @@
 -- What is said where a limit is passed.
 use Rattle.std.specs.Prelude.{◌≡◌, ℕ, List, [], ◌∷◌, ◌++◌, codes, decimal}
-use Rattle.luo_num.specs.declared.limits.TheConstants.{TEXT_LIMIT, TEXT_LIMIT_LINE, NAME_LIMIT, NAME_LIMIT_HEAD, NUMBER_LIMIT, NUMBER_LIMIT_HEAD, DEPTH_LIMIT, DEPTH_LIMIT_HEAD, DEFINITION_LIMIT, DEFINITION_LIMIT_LINE, NODE_LIMIT, NODE_LIMIT_LINE, PART_LIMIT, PART_LIMIT_LINE, BOUND_LIMIT, BOUND_LIMIT_LINE, MULTISET_LIMIT, MULTISET_LIMIT_LINE, PROCEDURE_LIMIT, PROCEDURE_LIMIT_LINE, STATEMENT_LIMIT, STATEMENT_LIMIT_LINE, ANALYSIS_LIMIT, ANALYSIS_LIMIT_LINE, WALK_LIMIT, WALK_LIMIT_LINE, SIZE_LIMIT, SIZE_LIMIT_LINE}
+use Rattle.luo_num.specs.declared.limits.TheConstants.{TEXT_LIMIT, TEXT_LIMIT_LINE, NAME_LIMIT, NAME_LIMIT_HEAD, NUMBER_LIMIT, NUMBER_LIMIT_HEAD, DEPTH_LIMIT, DEPTH_LIMIT_HEAD, DEFINITION_LIMIT, DEFINITION_LIMIT_LINE, NODE_LIMIT, NODE_LIMIT_LINE, PART_LIMIT, PART_LIMIT_LINE, BOUND_LIMIT, BOUND_LIMIT_LINE, MULTISET_LIMIT, MULTISET_LIMIT_LINE, PROCEDURE_LIMIT, PROCEDURE_LIMIT_LINE, STATEMENT_LIMIT, STATEMENT_LIMIT_LINE, ANALYSIS_LIMIT, ANALYSIS_LIMIT_LINE, WALK_LIMIT, WALK_LIMIT_LINE, SIZE_LIMIT, SIZE_LIMIT_LINE, STRUCTURE_TEXT_LIMIT, STRUCTURE_TEXT_LIMIT_LINE, NESTING_LIMIT, NESTING_LIMIT_HEAD}
 
 -- the name of a limit and its number
 abbrev pub limit_message : List ℕ → ℕ → List ℕ
@@ -12,6 +12,7 @@ HeadsSayLimits =
     (NAME_LIMIT_HEAD.now ≡ limit_message (codes "name") NAME_LIMIT)
     × (NUMBER_LIMIT_HEAD.now ≡ limit_message (codes "number") NUMBER_LIMIT)
     × (DEPTH_LIMIT_HEAD.now ≡ limit_message (codes "depth") DEPTH_LIMIT)
+    × (NESTING_LIMIT_HEAD.now ≡ limit_message (codes "nesting") NESTING_LIMIT)
 
 -- the line of a limit whose place is not named
 abbrev pub LinesSayLimits : Type 0
@@ -27,3 +28,4 @@ LinesSayLimits =
     × (ANALYSIS_LIMIT_LINE.now ≡ limit_message (codes "analyses") ANALYSIS_LIMIT ++ 10 ∷ [])
     × (WALK_LIMIT_LINE.now ≡ limit_message (codes "walks") WALK_LIMIT ++ 10 ∷ [])
     × (SIZE_LIMIT_LINE.now ≡ limit_message (codes "size") SIZE_LIMIT ++ 10 ∷ [])
+    × (STRUCTURE_TEXT_LIMIT_LINE.now ≡ limit_message (codes "text") STRUCTURE_TEXT_LIMIT ++ 10 ∷ [])

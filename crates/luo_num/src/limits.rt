@@ -1,4 +1,4 @@
-//! The limits of a text, of its source and of a table, each with what is said where it is passed.
+//! The limits of a text, of its source, of a table and of a structure, each with what is said where it is passed.
 //!
 //! Where a place is named behind a limit, its constant ends in `HEAD` and has no line feed; a `LINE` is whole.
 
@@ -71,3 +71,16 @@ pub const WALK_LIMIT_LINE: &[u8] = b"limit: walks 32\n";
 pub const SIZE_LIMIT: u64 = 160;
 /// The line of a size that is too large.
 pub const SIZE_LIMIT_LINE: &[u8] = b"limit: size 160\n";
+
+/// The most bytes of the text of a structure.
+pub const STRUCTURE_TEXT_LIMIT: usize = 65536;
+/// The line of a structure's text that is too long.
+pub const STRUCTURE_TEXT_LIMIT_LINE: &[u8] = b"limit: text 65536\n";
+
+/// The most branches, tuples and collections of a structure's text that are open at one place.
+pub const NESTING_LIMIT: usize = 1000;
+/// What the line of a place with which too many are open begins with.
+pub const NESTING_LIMIT_HEAD: &[u8] = b"limit: nesting 1000";
+
+/// The greatest size of a structure that is read from a text.
+pub const STRUCTURE_SIZE_LIMIT: u64 = 40;
