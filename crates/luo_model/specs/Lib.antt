@@ -9,6 +9,7 @@ pub mod Numbered
 pub mod Charges
 pub mod Tables
 pub mod View
+pub mod Counted
 pub mod Scopes
 pub mod Invariant
 pub mod Examples

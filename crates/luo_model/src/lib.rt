@@ -2,6 +2,7 @@
 #![tactic(auto)]
 
 mod body;
+mod counts;
 pub mod laws;
 mod program;
 mod shared;
@@ -9,6 +10,7 @@ mod table;
 mod value;
 
 pub use body::{Arm, Bind, Body, Item};
+pub use counts::Counts;
 pub use program::{Def, Kind, Node, Part, Proc, Program, Shape, Site, Universe};
 pub use table::{Entry, Fill, Row};
 pub use value::{Made, Value, ValueArm};

@@ -1,7 +1,7 @@
 // Threads may share a program, and hand on what is said of it.
 use crate::{
-    Arm, Bind, Body, Def, Entry, Fill, Item, Kind, Made, Node, Part, Proc, Program, Row, Shape,
-    Site, Universe, Value, ValueArm,
+    Arm, Bind, Body, Counts, Def, Entry, Fill, Item, Kind, Made, Node, Part, Proc, Program, Row,
+    Shape, Site, Universe, Value, ValueArm,
 };
 
 fn shared<T: Send + Sync>() {}
@@ -26,4 +26,5 @@ fn all_are_shared() {
     shared::<Row>();
     shared::<Fill>();
     shared::<Entry>();
+    shared::<Counts<'static>>();
 }
