@@ -1,2 +1,3 @@
+pub mod CommonDivisors
 pub mod Capped
 pub mod LimitLines

@@ -1,7 +1,8 @@
 use Rattle.std.proofs.Common.{◌≡◌, ◌<◌, ℕ, ◌+◌, ◌-◌, ◌*◌, ◌/◌, suc, sym, ap, ◌∙◌, subst, arith}
 use Rattle.luo_finite.specs.Binomial.{choose}
 use Rattle.luo_binom.proofs.BinomialLemmas.{next_of}
-use Rattle.luo_binom.proofs.Divisors.{divisor_some, quotient_some, quotient_is}
+use Rattle.luo_num.proofs.CommonDivisors.{divisor_some, quotient_some}
+use Rattle.luo_binom.proofs.Divisors.{quotient_is}
 use Rattle.std.specs.Int.{IsGcd}
 use Rattle.luo_binom.proofs.large.one_more.Goals as goal
 

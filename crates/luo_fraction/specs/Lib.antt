@@ -1,0 +1,2 @@
+pub mod Average
+pub mod Laws
