@@ -1,10 +1,12 @@
 // Why a run ends early.
 use luo_num::NoMemory;
-use std::alloc::AllocError;
+use std::alloc::{AllocError, AllocFailed};
 
 /// Why a run ends early.
 #[derive(Clone, Copy)]
 pub enum Failure {
+    /// The words are of no form, or the bounds of a table are past the limits.
+    Refused,
     /// Memory was refused.
     NoMemory,
 }
@@ -17,6 +19,12 @@ impl From<NoMemory> for Failure {
 
 impl From<AllocError> for Failure {
     fn from(_: AllocError) -> Self {
+        Failure::NoMemory
+    }
+}
+
+impl<T: Drop> From<AllocFailed<T>> for Failure {
+    fn from(_: AllocFailed<T>) -> Self {
         Failure::NoMemory
     }
 }
