@@ -9,9 +9,10 @@ pub mod OneOutcome
 pub mod OneReport
 pub mod OutcomeComes
 pub mod OutcomeTells
+pub mod ProgramFacts
+pub mod ReportComes
+pub mod RowLemmas
 pub mod Sections
 pub mod SoleSteps
 pub mod StepLemmas
 pub mod TokenBytes
-pub mod Walks
-pub mod plain_lemmas

@@ -1,11 +1,16 @@
 -- There is at most one outcome.
-use Rattle.std.proofs.Common.{◌≡◌, ℕ, ◌+◌, ◌<◌, ◌≤◌, List, ◌∷◌, refl, sym, ap, ◌∙◌, arith, ⊎_elim, Bool, true, false, Option, None, Some}
+use Rattle.std.proofs.Common.{◌≡◌, ℕ, ◌+◌, ◌<◌, ◌≤◌, List, ◌∷◌, refl, sym, ap, ◌∙◌, arith, ⊎_elim, Option, None, Some}
 use Rattle.std.specs.Prelude.{◌⊎◌}
-use Rattle.std.specs.Str.{bytes_eq}
-use Rattle.std.proofs.lemmas.Slice.Eq.{bytes_eq-Decides}
 use Rattle.luo_finite.specs.Steps.{IsSingle}
 use Rattle.luo_finite.proofs.Steps.{or_else-single}
+use Rattle.luo_model.specs.declared.table.Fill.{Fill}
+use Rattle.luo_model.specs.declared.table.Fill.TheVariants.{All}
 use Rattle.luo_model.specs.Program.{Program}
+use Rattle.luo_model.specs.Invariant.{IsProgram}
+use Rattle.luo_model.specs.Founded.{IsFounded}
+use Rattle.luo_model.proofs.TableLemmas.{totals_are_single}
+use Rattle.luo_model.proofs.WorkLemmas.{sites_are_apart}
+use Rattle.luo_engine.proofs.FirstOver.{first_over_is_one}
 use Rattle.luo_scan.specs.declared.token.Token.{Token}
 use Rattle.luo_scan.specs.Lexemes.{lexemes, Lexeme}
 use Rattle.luo_scan.specs.Tokens.{Tokens}
@@ -18,24 +23,20 @@ use Rattle.luo_source.proofs.OneProgram.{program_one}
 use Rattle.luo_rules.specs.declared.rule.Breach.{Breach}
 use Rattle.luo_rules.specs.Counted.{limits_passed}
 use Rattle.luo_rules.specs.Whole.{IsCore, breaches}
-use Rattle.luo_top.specs.declared.status.Status.TheVariants.{Refused, Limit}
+use Rattle.luo_top.specs.declared.status.Status.TheVariants.{Refused, Limit, Overflow}
 use Rattle.luo_top.specs.Answer.{Refusal}
-use Rattle.luo_top.specs.Commands.Analyse.{plain, reported}
+use Rattle.luo_top.specs.Commands.Analyse.{report}
 use Rattle.luo_founded.proofs.OneAnswer.{first_once}
 use Rattle.luo_top.specs.FoundedRefusals.{founded_line, FoundedRefusal}
 use Rattle.luo_top.specs.Outcome.{Outcome, steps_of}
-use Rattle.luo_top.specs.Plain.{IsPlain}
+use Rattle.luo_top.specs.Overflows.{overflow_line, OverflowRefusal}
 use Rattle.luo_top.specs.Refusals.{LexicalRefusal, SyntaxRefusal, LimitRefusal, RuleRefusal, WalksRefusal, refusal_of_fault, refusal_of_error, byte_of_token, limit_line, rule_line}
-use Rattle.luo_top.specs.Report.{IsReport}
-use Rattle.luo_top.specs.Steps.{tokens_of, source_of, core_of, file_source, file_program, founded, sized}
-use Rattle.luo_top.specs.Step.{◌and_then◌}
+use Rattle.luo_top.specs.Steps.{tokens_of, source_of, core_of, file_source, file_program, founded, sized, tables}
 use Rattle.luo_top.specs.Told.{Told, ReadingRefusal, reading}
 use Rattle.luo_top.specs.Words.{Command, Analyse, Format, command_of, WordsRefusal, asked_by}
-use Rattle.luo_top.proofs.plain_lemmas.CoreSites.{core_one_site}
-use Rattle.luo_top.proofs.plain_lemmas.FillPlain.{own_of, body_is}
+use Rattle.luo_top.proofs.ProgramFacts.{program_is}
 use Rattle.luo_top.proofs.SoleSteps.{IsSole, or_makes-sole, and_then-sole, makes-sole, ends-single, refused-single}
 use Rattle.luo_top.proofs.OneReport.{reports_one}
-use Rattle.luo_top.proofs.plain_lemmas.SiteTotals.{Owns, one_total}
 
 -- the first lexical fault is one
 lexical-single : (text : List ℕ) → IsSingle (LexicalRefusal text)
@@ -95,23 +96,6 @@ walks-single s a b p q = p.1 ∙ sym q.1
 core-single : (s : Source) → IsSingle (IsCore s)
 core-single s p q a b = a.1 ∙ sym b.1
 
--- a plain core form has at most one report
-reports_plain : (s : Source) (p : Program) (last : ℕ) → IsCore s p → IsPlain p → IsSingle (IsReport p last)
-reports_plain s p last c plain =
-    let owns : Owns p = λ f P there. (own_of P.body, body_is P.body (plain.no_item f P there)) in
-    reports_one p (λ f P there n x y k l. one_total p owns (core_one_site s p c) f P there (own_of P.body) (body_is P.body (plain.no_item f P there)) n x y k l) last
-
--- texts that can't differ are equal
-texts_equal : (x y : List ℕ) → ((x ≡ y → ⊥) → ⊥) → x ≡ y
-texts_equal x y h = by (bytes_eq x y) (bytes_eq-Decides x y).0 (bytes_eq-Decides x y).1
-  where
-    by : (b : Bool) → (b ≡ true → x ≡ y) → (x ≡ y → b ≡ true) → x ≡ y
-    by true f g = f refl
-    by false f g = absurd (h (λ e. let t : false ≡ true = g e in cc))
-
-reports-single : (s : Source) (p : Program) (last : ℕ) → IsCore s p → ((IsPlain p → ⊥) → ⊥) → IsSingle (IsReport p last)
-reports-single s p last c plain x y r q = texts_equal x y (λ other. plain (λ w. other (reports_plain s p last c w x y r q)))
-
 some_one : {A : Type 0} (o : Option A) → IsSingle (λ (x : A). o ≡ Some x)
 some_one None x y p q = absurd (none_some x p)
   where
@@ -146,14 +130,6 @@ program-sole : (file : List ℕ) (told : Told) → IsSole (file_program file tol
 program-sole file told =
     and_then-sole _ _ (reading-sole _ _ file told) (λ text _. and_then-sole _ _ (tokens-sole text) (λ ts _. and_then-sole _ _ (source-sole text ts) (λ s _. core-sole text ts s)))
 
--- the program of a file is the core form of a source
-program_core : (file : List ℕ) (told : Told) (p : Program) → (file_program file told).hands p → (s : Source) × IsCore s p
-unfolding ◌and_then◌
-program_core file told p (text, h, (ts, t, (s, d, (none, c)))) = (s, c)
-
-plain-sole : (p : Program) → IsSole (plain p)
-plain-sole p = or_makes-sole _ _ (refused-single _ _ _) (λ none x y _ _. refl)
-
 founded-single : (p : Program) → IsSingle (FoundedRefusal p)
 founded-single p a b (d, h, e) (c, k, g) = e ∙ ap (λ x. Refusal Refused (founded_line p x)) (first_once p d c h k) ∙ sym g
 
@@ -163,14 +139,21 @@ founded-sole p = or_makes-sole _ _ (founded-single p) (λ none x y _ _. refl)
 sized-sole : (n : ℕ) → IsSole (sized n)
 sized-sole n = or_makes-sole _ _ (refused-single _ _ _) (λ none x y e d. e ∙ sym d)
 
-reported-sole : (p : Program) (n : ℕ) → IsSingle (IsReport p n) → IsSole (reported p n)
-reported-sole p n r = and_then-sole _ _ (or_makes-sole _ _ (refused-single _ _ _) (λ none x y _ _. refl)) (λ _ _. makes-sole _ r)
+overflow-single : (fill : Fill) (p : Program) (n : ℕ) → IsProgram p → IsFounded p → IsSingle (OverflowRefusal p fill n)
+overflow-single fill p n q f a b (x, k, h, e) (y, m, g, d) =
+    let same = first_over_is_one p q f n fill x y k m h g in
+    e ∙ (λ i. Refusal Overflow (overflow_line p (same.0 i) (same.1 i))) ∙ sym d
+
+tables-sole : (fill : Fill) (p : Program) (n : ℕ) → IsProgram p → IsFounded p → IsSole (tables fill p n)
+tables-sole fill p n q f = or_makes-sole _ _ (overflow-single fill p n q f) (λ none x y _ _. refl)
+
+report-sole : (p : Program) (n : ℕ) → IsProgram p → IsSole (report p n)
+report-sole p n q = makes-sole _ (reports_one p (totals_are_single p (sites_are_apart p q)) n)
 
 steps-sole : (c : Command) (told : Told) → IsSole (steps_of c told)
 steps-sole (Analyse file n) told = and_then-sole _ _ (program-sole file told) (λ p h.
-    let core = program_core file told p h in
-    and_then-sole _ _ (founded-sole p) (λ _ _. and_then-sole _ _ (plain-sole p) (λ _ k. and_then-sole _ _ (sized-sole n) (λ m _.
-    reported-sole p m (reports-single core.0 p m core.1 (λ other. k.0 _ (other, refl)))))))
+    let is = program_is file told p h in
+    and_then-sole _ _ (founded-sole p) (λ _ k. and_then-sole _ _ (sized-sole n) (λ m _. and_then-sole _ _ (tables-sole All p m is k.1) (λ _ _. report-sole p m is))))
 steps-sole (Format file) told = and_then-sole _ _ (source_file-sole file told) (λ s _. makes-sole _ (λ x y p q. p ∙ sym q))
 
 pub words-single : (o : Option Command) → IsSingle (WordsRefusal o)

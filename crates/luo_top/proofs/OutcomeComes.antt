@@ -1,8 +1,12 @@
 -- There is an outcome: it can't be that no answer holds.
-use Rattle.std.proofs.Common.{◌≡◌, ℕ, ◌<◌, ◌≤◌, List, [], ◌∷◌, refl, sym, subst, ◌∙◌, arith, inl, inr, ⊎_elim, Option, None, Some}
+use Rattle.std.proofs.Common.{◌≡◌, ℕ, List, [], ◌∷◌, refl, sym, ◌∙◌, inl, inr, Option, None, Some}
 use Rattle.std.specs.Prelude.{◌⊎◌}
 use Rattle.luo_model.specs.Program.{Program}
+use Rattle.luo_model.specs.declared.table.Fill.{Fill}
+use Rattle.luo_model.specs.declared.table.Fill.TheVariants.{All}
 use Rattle.luo_model.specs.Invariant.{IsProgram}
+use Rattle.luo_model.specs.Founded.{IsFounded}
+use Rattle.luo_engine.proofs.FirstOver.{none_or_first}
 use Rattle.luo_scan.specs.declared.token.Token.{Token}
 use Rattle.luo_scan.specs.Tokens.{Tokens, LexicalFault, FirstFault}
 use Rattle.luo_scan.proofs.Decide.{tokens_or}
@@ -10,20 +14,18 @@ use Rattle.luo_source.specs.declared.source.Source.{Source}
 use Rattle.luo_syntax.proofs.SourceOrError.{source_or_error}
 use Rattle.luo_rules.specs.declared.rule.Breach.{Breach}
 use Rattle.luo_rules.specs.declared.error.CountLimit.{CountLimit}
-use Rattle.luo_rules.specs.Checks.{IsSource}
 use Rattle.luo_rules.specs.Counted.{limits_passed}
-use Rattle.luo_rules.specs.Whole.{IsCore, breaches, core, walk_count}
-use Rattle.luo_rules.proofs.CoreIsProgram.{core_is_program}
+use Rattle.luo_rules.specs.Whole.{IsCore, breaches, core}
 use Rattle.luo_founded.proofs.SomeAnswer.{founded_or_first}
 use Rattle.luo_top.specs.Answer.{Answer, Output, Untold}
 use Rattle.luo_top.specs.Outcome.{Outcome, steps_of}
 use Rattle.luo_top.specs.Refusals.{LimitRefusal}
 use Rattle.luo_top.specs.Step.{Step, HasNone, ◌or_makes◌, ◌and_then◌, ends}
-use Rattle.luo_top.specs.Steps.{tokens_of, source_of, core_of, CoreRefusal, file_source, file_program, founded}
+use Rattle.luo_top.specs.Steps.{tokens_of, source_of, core_of, CoreRefusal, file_source, file_program, founded, tables}
 use Rattle.luo_top.specs.Told.{Told, ReadingRefusal, reading}
 use Rattle.luo_top.specs.Words.{Command, Analyse, Format, command_of, WordsRefusal, asked_by}
-use Rattle.luo_top.proofs.plain_lemmas.FillPlain.{plain_fillable}
-use Rattle.luo_top.proofs.plain_lemmas.ReportComes.{report_comes}
+use Rattle.luo_top.proofs.ProgramFacts.{program_is}
+use Rattle.luo_top.proofs.ReportComes.{report_comes}
 
 -- where nothing refuses, something is handed on
 abbrev GoesOn : {X : Type 0} → Step X → Type 0
@@ -77,37 +79,17 @@ program-goes_on : (file : List ℕ) (told : Told) → GoesOn (file_program file 
 program-goes_on file told =
     and_then-goes_on _ _ (reading-goes_on _ _ file told) (λ text _. and_then-goes_on _ _ (tokens-goes_on text) (λ ts t. and_then-goes_on _ _ (source-goes_on text ts t.1) (λ s _. core-goes_on text ts s)))
 
--- the program of a file has what holds of every program
-program_is : (file : List ℕ) (told : Told) (p : Program) → (file_program file told).hands p → IsProgram p
-unfolding ◌and_then◌
-program_is file told p (text, h, (ts, t, (s, d, (none, c)))) =
-    let source : IsSource s = record { text = text; tokens = ts; scanned = t.1; derived = d.1 } in
-    subst IsProgram (sym c.1) (core_is_program s source (within (limits_passed s) refl) c.0 (walks (walk_count (core s)) refl))
-  where
-    within : (ws : List CountLimit) → limits_passed s ≡ ws → limits_passed s ≡ []
-    within [] e = e
-    within (w ∷ ws) e = absurd (none _ (inl (w, (ws, e), refl)))
-
-    head : {A : Type 0} (x : A) (xs : List A) → [] ≡ x ∷ xs → ⊥
-    head x xs e = cc
-
-    walks : (n : ℕ) → walk_count (core s) ≡ n → walk_count (core s) ≤ 32
-    walks n e = ⊎_elim (λ (a : walk_count (core s) ≤ 32). a)
-        (λ (a : 32 < walk_count (core s)). absurd (none _ (inr ((λ other (which, p, q). head which p.0 (sym (within (limits_passed s) refl) ∙ p.1)), inr ((λ other (b, p, q). head b p.0 (sym c.0 ∙ p.1)), ((c.0, a), refl)))))) (cases (walk_count (core s)) 32)
-      where
-        cases : (m n : ℕ) → (m ≤ n) ⊎ (n < m)
-        cases m n = grind arith
-
 founded-goes_on : (p : Program) → GoesOn (founded p)
 founded-goes_on p = or_makes-goes_on _ _ (λ none nothing. founded_or_first p (λ e b. none _ (e, b, refl)) (λ f. nothing tt f))
+
+tables-goes_on : (fill : Fill) (p : Program) (n : ℕ) → IsProgram p → IsFounded p → GoesOn (tables fill p n)
+tables-goes_on fill p n q f = or_makes-goes_on _ _ (λ none nothing. nothing tt (none_or_first p q f n fill (λ entry m x. none _ (entry, m, x, refl))))
 
 steps-go_on : (c : Command) (told : Told) → GoesOn (steps_of c told)
 steps-go_on (Analyse file n) told = and_then-goes_on _ _ (program-goes_on file told) (λ p h.
     let is = program_is file told p h in
-    and_then-goes_on _ _ (founded-goes_on p) (λ _ _. and_then-goes_on _ _ (or_makes-goes_on _ _ (λ none nothing. nothing tt tt)) (λ _ k.
-    and_then-goes_on _ _ (or_makes-goes_on _ _ (λ none nothing. nothing n refl)) (λ m l.
-    and_then-goes_on _ _ (or_makes-goes_on _ _ (λ none nothing. nothing tt tt)) (λ _ _. or_makes-goes_on _ _ (λ none nothing.
-    k.0 _ ((λ plain. let r = report_comes p (plain_fillable p is plain) m in nothing r.0 r.1), refl)))))))
+    and_then-goes_on _ _ (founded-goes_on p) (λ _ k. and_then-goes_on _ _ (or_makes-goes_on _ _ (λ none nothing. nothing n refl)) (λ m l.
+    and_then-goes_on _ _ (tables-goes_on All p m is k.1) (λ _ t. or_makes-goes_on _ _ (λ none nothing. let r = report_comes p is k.1 m in nothing r.0 r.1)))))
 steps-go_on (Format file) told = and_then-goes_on _ _ (source_file-goes_on file told) (λ s _. or_makes-goes_on _ _ (λ none nothing. nothing _ refl))
 
 asked-goes_on : (words : List (List ℕ)) → GoesOn (asked_by words)

@@ -7,14 +7,16 @@ use Rattle.luo_syntax.specs.declared.error.SyntaxError.TheVariants.{Grammar, Dep
 use Rattle.luo_source.specs.declared.source.Source.{Source}
 use Rattle.luo_top.specs.declared.status.Status.{Status}
 use Rattle.luo_top.specs.Answer.{Output, Refusal, Untold}
-use Rattle.luo_top.specs.Commands.Analyse.{plain}
+use Rattle.luo_model.specs.declared.table.Fill.{Fill}
+use Rattle.luo_model.specs.declared.table.Fill.TheVariants.{All}
 use Rattle.luo_model.specs.Program.{Program}
 use Rattle.luo_top.specs.FoundedRefusals.{FoundedRefusal}
 use Rattle.luo_top.specs.Laws.{FilesAreTold}
 use Rattle.luo_top.specs.Outcome.{Outcome, steps_of}
+use Rattle.luo_top.specs.Overflows.{OverflowRefusal}
 use Rattle.luo_top.specs.Refusals.{LexicalRefusal, SyntaxRefusal}
-use Rattle.luo_top.specs.Step.{Step, ◌and_then◌, refused_where}
-use Rattle.luo_top.specs.Steps.{text_of, tokens_of, source_of, core_of, CoreRefusal, file_source, file_program, founded, sized}
+use Rattle.luo_top.specs.Step.{Step, ◌and_then◌}
+use Rattle.luo_top.specs.Steps.{text_of, tokens_of, source_of, core_of, CoreRefusal, file_source, file_program, founded, sized, tables}
 use Rattle.luo_top.specs.Told.{Told, ReadingRefusal}
 use Rattle.luo_top.specs.Words.{Command, Analyse, Format, command_of, files_of, WordsRefusal}
 
@@ -54,16 +56,16 @@ program-tells : (file : List ℕ) (told : Told) → (told file ≡ None → ⊥)
 program-tells file told n =
     tells_both (text_of file told) _ (reading-tells _ _ (told file) n) (λ text. tells_both (tokens_of text) _ (tokens-tells text) (λ ts. tells_both (source_of text ts) (core_of text ts) (source-tells text ts) (core-tells text ts)))
 
-guard-tells : (fact : Type 0) (status : Status) (bytes : List ℕ) → (refused_where fact status bytes).refuses Untold → ⊥
-guard-tells fact status bytes u = untold _ _ u.1
-
 founded-tells : (p : Program) → FoundedRefusal p Untold → ⊥
 founded-tells p (e, h, u) = untold _ _ u
+
+overflow-tells : (p : Program) (fill : Fill) (n : ℕ) → OverflowRefusal p fill n Untold → ⊥
+overflow-tells p fill n (entry, m, h, u) = untold _ _ u
 
 steps-tell : (c : Command) (told : Told) → ((file : List ℕ) → In file (files_of c) → told file ≡ None → ⊥) → (steps_of c told).refuses Untold → ⊥
 steps-tell (Analyse file n) told there =
     tells_both (file_program file told) _ (program-tells file told (there file (inl refl))) (λ p. tells_both (founded p) _ (founded-tells p) (λ _.
-    tells_both (plain p) _ (guard-tells _ _ _) (λ _. tells_both (sized n) _ (λ u. untold _ _ u.1) (λ m. tells_both _ _ (guard-tells _ _ _) (λ _ r. r)))))
+    tells_both (sized n) _ (λ u. untold _ _ u.1) (λ m. tells_both (tables All p m) _ (overflow-tells p All m) (λ _ r. r))))
 steps-tell (Format file) told there = tells_both (file_source file told) _ (source_file-tells file told (there file (inl refl))) (λ s r. r)
 
 words-tell : (o : Option Command) → WordsRefusal o Untold → ⊥

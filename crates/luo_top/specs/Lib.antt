@@ -6,7 +6,7 @@ pub mod Headline
 pub mod Laws
 pub mod Names
 pub mod Outcome
-pub mod Plain
+pub mod Overflows
 pub mod Refusals
 pub mod Report
 pub mod Step

@@ -1,9 +1,11 @@
--- The steps that commands share: from a file to its source and its program, and a size.
-use Rattle.std.specs.Prelude.{◌≡◌, ◌<◌, ⊤, ℕ, List}
+-- The steps that commands share: from a file to its source and its program, a size, and the tables.
+use Rattle.std.specs.Prelude.{◌≡◌, ◌<◌, ◌≤◌, ⊤, ℕ, List}
 use Rattle.luo_finite.specs.Steps.{◌or_else◌}
+use Rattle.luo_model.specs.declared.table.Fill.{Fill}
 use Rattle.luo_model.specs.Program.{Program}
 use Rattle.luo_model.specs.Founded.{IsFounded}
 use Rattle.luo_num.specs.declared.limits.TheConstants.{TEXT_LIMIT, SIZE_LIMIT}
+use Rattle.luo_engine.specs.Entries.{NoneOver}
 use Rattle.luo_scan.specs.declared.token.Token.{Token}
 use Rattle.luo_scan.specs.Tokens.{Tokens}
 use Rattle.luo_source.specs.declared.source.Source.{Source}
@@ -12,6 +14,7 @@ use Rattle.luo_rules.specs.Whole.{IsCore}
 use Rattle.luo_top.specs.declared.status.Status.TheVariants.{Limit}
 use Rattle.luo_top.specs.Answer.{Answer}
 use Rattle.luo_top.specs.FoundedRefusals.{FoundedRefusal}
+use Rattle.luo_top.specs.Overflows.{OverflowRefusal}
 use Rattle.luo_top.specs.Refusals.{bytes_line, size_line, LexicalRefusal, SyntaxRefusal, LimitRefusal, RuleRefusal, WalksRefusal}
 use Rattle.luo_top.specs.Step.{Step, ◌or_makes◌, ◌and_then◌, RefusedWhere}
 use Rattle.luo_top.specs.Told.{Told, reading}
@@ -52,3 +55,7 @@ founded p = FoundedRefusal p or_makes λ _. IsFounded p
 -- a size past the limit is refused
 abbrev pub sized : ℕ → Step ℕ
 sized n = RefusedWhere (SIZE_LIMIT < n) Limit size_line or_makes λ size. size ≡ n
+
+-- the first entry past the last number, and else no number up to size n is past it
+abbrev pub tables : Fill → Program → ℕ → Step ⊤
+tables fill p n = OverflowRefusal p fill n or_makes λ _. (m : ℕ) → m ≤ n → NoneOver p fill m

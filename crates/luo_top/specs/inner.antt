@@ -1,3 +1,3 @@
+pub mod Filled
 pub mod Passes
 pub mod Requests
-pub mod plain

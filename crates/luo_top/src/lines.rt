@@ -24,9 +24,6 @@ use std::alloc::Global;
 
 pub const USAGE_LINE: &[u8] = b"usage\n";
 
-/// The line of a program, or of a number, that isn't taken yet.
-pub const UNTAKEN_LINE: &[u8] = b"refused: F0\n";
-
 // `HEAD at byte BYTE`, as a line.
 fn line_at(alloc: Global, head: &[u8], byte: usize) -> Result<Vec<u8>, NoMemory>
     ensures { IfOk result (λ text. text.items ≡ line (head.now ++ at_byte byte)) }

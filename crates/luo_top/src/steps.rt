@@ -1,10 +1,12 @@
 // The steps that commands share. Each answers the next thing, or a refusal.
+mod filling;
 mod founding;
 mod program;
 mod size;
 mod source;
 mod text;
 
+pub use filling::tables;
 pub use founding::founded;
 pub use program::file_program;
 pub use size::sized;

@@ -1,56 +1,19 @@
 // From a program to what is known of it where it is well-founded.
-ghost use Rattle.std.specs.Prelude.{◌≡◌, [], ◌∷◌, ◌++◌, slice_get, IfOk, OnOk};
+ghost use Rattle.std.specs.Prelude.{◌≡◌, [], ◌∷◌, ◌++◌, IfOk, OnOk};
 ghost use Rattle.luo_model.specs.View.{plain_of};
-ghost use Rattle.luo_top.specs.Names.{name_of_definition, node_name, procedure_name};
+ghost use Rattle.luo_top.specs.Names.{node_name, procedure_name};
 ghost use Rattle.luo_founded.specs.declared.checking.NotFounded.TheVariants.{W3, W4};
 ghost use Rattle.luo_top.specs.FoundedRefusals.{first_of, chain_text, founded_line, FoundedRefusal};
 ghost use Rattle.luo_founded.specs.Found.{Refuses, WantsMemory};
 ghost use Rattle.luo_top.specs.Steps as steps;
 ghost use Rattle.luo_top.specs.inner.Passes.{RefusedBy, Passes, none};
 
+use crate::names::{put_node, put_procedure};
 use crate::refusal::{Line, Refusal};
-use itoa::Buffer;
 use luo_founded::{NotFounded, Ranks, found};
 use luo_model::Program;
 use luo_num::NoMemory;
 use std::alloc::Global;
-
-// Puts the name of a definition behind the text.
-fn put_definition(text: &mut Vec<u8>, program: &Program, definition: usize) -> Result<(), NoMemory>
-    ensures { OnOk result (text.new.items ≡ text.old.items ++ name_of_definition
-        (slice_get program.now.defs definition)) }
-{
-    if let Some(def) = program.defs.get(definition) {
-        text.extend_from_slice(def.name.as_slice())?;
-    }
-    Ok(())
-}
-
-// Puts the name of a node behind the text: its definition's, and its place there.
-fn put_node(text: &mut Vec<u8>, program: &Program, node: usize) -> Result<(), NoMemory>
-    ensures { OnOk result (text.new.items ≡ text.old.items ++ node_name
-        (plain_of program.now) node) }
-{
-    let mut buffer = Buffer::new();
-    let Some(node) = program.nodes.get(node) else {
-        return Ok(());
-    };
-    put_definition(text, program, node.owner)?;
-    text.push(b'.')?;
-    text.extend_from_slice(buffer.format(node.place).as_bytes())?;
-    Ok(())
-}
-
-// Puts the name of a procedure behind the text.
-fn put_procedure(text: &mut Vec<u8>, program: &Program, procedure: usize) -> Result<(), NoMemory>
-    ensures { OnOk result (text.new.items ≡ text.old.items ++ procedure_name
-        (plain_of program.now) procedure) }
-{
-    if let Some(procedure) = program.procs.get(procedure) {
-        text.extend_from_slice(procedure.name.as_slice())?;
-    }
-    Ok(())
-}
 
 // Puts the names of nodes behind the text, each with a space before it.
 fn put_nodes(text: &mut Vec<u8>, program: &Program, chain: &[usize]) -> Result<(), NoMemory>

@@ -1,0 +1,75 @@
+// The rows of the analyze lines.
+ghost use Rattle.std.specs.Prelude.{◌≡◌, ◌<◌, ◌≤◌, length, slice_get, Some, IfOk};
+ghost use Rattle.luo_num.specs.declared.limits.TheConstants.{SIZE_LIMIT};
+ghost use Rattle.luo_model.specs.View.{plain_of};
+ghost use Rattle.luo_model.specs.Tables.{IsRow};
+ghost use Rattle.luo_model.specs.declared.table.Fill.TheVariants.{All};
+ghost use Rattle.luo_top.specs.Report.{AreRows, AreTables};
+ghost use Rattle.luo_top.specs.inner.Filled.{full};
+
+use luo_engine::Engine;
+use luo_model::{Proc, Program, Row};
+use luo_num::{Items, NoMemory};
+use std::alloc::Global;
+
+// Procedure f.
+fn procedure_at(procs: &[Proc], f: usize) -> &Proc
+    requires { f < length procs.now }
+    ensures { slice_get procs.now f ≡ Some result.now }
+{
+    &procs[f]
+}
+
+// The row of procedure f of size n.
+fn row_at(program: &Program, engine: &Engine<'_>, last: u32, f: usize, n: u32) -> Row
+    requires full { engine.now ≡ full program.now All last }
+    requires there { f < length program.now.procs }
+    requires size { n ≤ last }
+    ensures size { result.n ≡ n }
+    ensures right { IsRow (plain_of program.now) f result }
+{
+    let procedure = procedure_at(program.procs.as_slice(), f);
+    Row {
+        n,
+        count: engine.count(procedure.on.node, n),
+        total: engine.total(procedure.site, n),
+    }
+}
+
+// The rows of procedure f.
+fn rows_of(
+    alloc: Global,
+    program: &Program,
+    engine: &Engine<'_>,
+    last: u32,
+    f: usize,
+) -> Result<Items<Row>, NoMemory>
+    requires small { last ≤ SIZE_LIMIT }
+    requires full { engine.now ≡ full program.now All last }
+    requires there { f < length program.now.procs }
+    ensures { IfOk result (AreRows (plain_of program.now) last f) }
+{
+    let mut rows = Items::new(alloc);
+    for n in 0..last + 1 {
+        rows.push(row_at(program, engine, last, f, n))?;
+    }
+    Ok(rows)
+}
+
+/// The rows of each analyze line for the sizes up to `last`.
+pub fn all_rows(
+    alloc: Global,
+    program: &Program,
+    engine: &Engine<'_>,
+    last: u32,
+) -> Result<Items<Items<Row>>, NoMemory>
+    requires small { last ≤ SIZE_LIMIT }
+    requires full { engine.now ≡ full program.now All last }
+    ensures { IfOk result (AreTables (plain_of program.now) last program.now.analyses) }
+{
+    let mut all = Items::new(alloc);
+    for f in program.analyses.as_slice() {
+        all.push(rows_of(alloc, program, engine, last, *f)?)?;
+    }
+    Ok(all)
+}
