@@ -1,0 +1,14 @@
+pub mod Flat
+pub mod ShareLemmas
+pub mod ReadLemmas
+pub mod MarkLemmas
+pub mod RowLemmas
+pub mod LabelLemmas
+pub mod Relabelled
+pub mod LabelMaps
+pub mod Atoms
+pub mod CountLemmas
+pub mod TotalLemmas
+pub mod OrderLemmas
+pub mod FillLemmas
+pub mod EntryLemmas
