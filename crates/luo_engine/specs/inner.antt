@@ -6,3 +6,5 @@ pub mod Filled
 pub mod Listed
 pub mod Plan
 pub mod Running
+pub mod Points
+pub mod Tasks

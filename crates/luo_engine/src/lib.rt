@@ -5,4 +5,5 @@ pub mod laws;
 mod numbers;
 mod order;
 mod partial;
+mod points;
 mod table;
