@@ -18,3 +18,4 @@ pub mod OrderLemmas
 pub mod SiteOrder
 pub mod FillLemmas
 pub mod EntryLemmas
+pub mod ScopeReads

@@ -8,3 +8,4 @@ pub mod Plan
 pub mod Running
 pub mod Points
 pub mod Tasks
+pub mod Laid

@@ -7,3 +7,4 @@ mod order;
 mod partial;
 mod points;
 mod table;
+mod tasks;
