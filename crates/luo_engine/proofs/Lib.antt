@@ -19,3 +19,4 @@ pub mod SiteOrder
 pub mod FillLemmas
 pub mod EntryLemmas
 pub mod ScopeReads
+pub mod FallLemmas

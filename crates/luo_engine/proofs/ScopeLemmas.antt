@@ -105,12 +105,12 @@ module _ (p : Program) where
   bound_stands y (Parts k) t f m = product_stands k (shape_of p y) t f m
 
   -- the job of an item itself
-  abbrev own_job : List ℕ → Item → Job
+  abbrev pub own_job : List ℕ → Item → Job
   own_job xs (Call var callee site) = record { site = site; node = node_at xs var; doing = calls callee }
   own_job xs (Case var arms site) = record { site = site; node = node_at xs var; doing = chooses arms }
   own_job xs (Forall var body body_site site) = record { site = site; node = node_at xs var; doing = walks body body_site }
 
-  own_in : (xs : List ℕ) (i : Item) → In (own_job xs i) (jobs_of_item p xs i)
+  pub own_in : (xs : List ℕ) (i : Item) → In (own_job xs i) (jobs_of_item p xs i)
   own_in xs (Call var callee site) = inl refl
   own_in xs (Case var arms site) = In-append_right (own_job xs (Case var arms site)) (jobs_of_arms p (stands (node_at xs var) (shape_of p (node_at xs var))) arms) (own_job xs (Case var arms site) ∷ []) (inl refl)
   own_in xs (Forall var body body_site site) =
@@ -123,12 +123,12 @@ module _ (p : Program) where
   var_there xs (Case var arms site) f = (f.0, f.1)
   var_there xs (Forall var body body_site site) f = (f.0, f.1)
 
-  own_node : (xs : List ℕ) (i : Item) → (own_job xs i).node ≡ node_at xs (var_in i)
+  pub own_node : (xs : List ℕ) (i : Item) → (own_job xs i).node ≡ node_at xs (var_in i)
   own_node xs (Call var callee site) = refl
   own_node xs (Case var arms site) = refl
   own_node xs (Forall var body body_site site) = refl
 
-  own_site : (xs : List ℕ) (i : Item) → (own_job xs i).site ≡ site_in i
+  pub own_site : (xs : List ℕ) (i : Item) → (own_job xs i).site ≡ site_in i
   own_site xs (Call var callee site) = refl
   own_site xs (Case var arms site) = refl
   own_site xs (Forall var body body_site site) = refl
@@ -277,7 +277,7 @@ module _ (p : Program) where
           ap (λ m. products p.universe (sums_in (place (column p.universe (number p q f) (total p q f)) (var_in i) (weight p q f (site_in i)) (total p q f (site_in i)) parts)) n + m) (parts_sum is g.1)
           ∙ sym (point_more p.universe (number p q f) (total p q f) i is 0 (var_in i) (weight p q f (site_in i)) parts n (omega arith) (omega (arith, slice_get_within nodes (var_in i) v.0 v.1, length_map (λ (part : Part). part.node) parts)))
 
-    product_there : (k : ℕ) (s : Shape) → IsProductOf k s → (parts : List Part) × (s ≡ shape.Product parts)
+    pub product_there : (k : ℕ) (s : Shape) → IsProductOf k s → (parts : List Part) × (s ≡ shape.Product parts)
     product_there k (shape.Atom w) i = absurd i
     product_there k (shape.Union parts) i = absurd i
     product_there k (shape.Coll kind part low high) i = absurd i
