@@ -12,3 +12,7 @@ pub mod TotalLemmas
 pub mod OrderLemmas
 pub mod FillLemmas
 pub mod EntryLemmas
+pub mod PlanLemmas
+pub mod LayoutLemmas
+pub mod RunLemmas
+pub mod FirstLemmas

@@ -4,5 +4,6 @@ pub mod Partial
 pub mod Obeys
 pub mod Filled
 pub mod Listed
+pub mod Layout
 pub mod Plan
 pub mod Running

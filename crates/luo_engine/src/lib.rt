@@ -2,7 +2,9 @@
 #![tactic(auto)]
 
 pub mod laws;
+mod layout;
 mod numbers;
 mod order;
 mod partial;
+mod plan;
 mod table;
