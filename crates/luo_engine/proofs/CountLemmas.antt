@@ -87,10 +87,10 @@ module _ (p : Program) (q : IsProgram p) (f : IsFounded p) where
   pub number_is : (x n c : ℕ) → CountsAt p x n c → number x n ≡ c
   number_is x n c h = let r = room_of p.universe n in Sums-unique (IsStructureOn p x (labels_from 1 n) n) (λ t. 1) (number x n) c (number_known x n (labels_from 1 n) r) (h (labels_from 1 n) r)
 
-  light : AreLight p
+  pub light : AreLight p
   light e x = ⊎_elim (λ n. subst IsLight (sym n.2) (light_of n.0.shape (subst (λ u. IsAllowed u n.0.shape) e (q.allowed x n.0 n.1)))) (λ o. subst IsLight (sym o) tt) (node_at_place p x)
 
-  suits : (x low : ℕ) (kind : Kind) (part : Part) (high : Option ℕ) → shape_of p x ≡ shape.Coll kind part low high → Suits p.universe kind low
+  pub suits : (x low : ℕ) (kind : Kind) (part : Part) (high : Option ℕ) → shape_of p x ≡ shape.Coll kind part low high → Suits p.universe kind low
   suits x low kind part high is = ⊎_elim
       (λ n. let a : IsAllowed p.universe (shape.Coll kind part low high) = subst (IsAllowed p.universe) (sym n.2 ∙ is) (q.allowed x n.0 n.1) in suits_of p.universe kind low a.0 a.1)
       (λ o. absurd (never (sym o ∙ is))) (node_at_place p x)
@@ -99,10 +99,10 @@ module _ (p : Program) (q : IsProgram p) (f : IsFounded p) where
       never e = absurd (cc)
 
   -- a component has no structure of size 0
-  solid : (x low : ℕ) (kind : Kind) (part : Part) (high : Option ℕ) → shape_of p x ≡ shape.Coll kind part low high → (t : Tree) → Member p part.node t → size_of t ≡ 0 → ⊥
+  pub solid : (x low : ℕ) (kind : Kind) (part : Part) (high : Option ℕ) → shape_of p x ≡ shape.Coll kind part low high → (t : Tree) → Member p part.node t → size_of t ≡ 0 → ⊥
   solid x low kind part high is t m e = f.solid x (subst (HasEmptyComponent p) (sym is) (zero_of_member p part.node t m e))
 
-  component_none : (x low : ℕ) (kind : Kind) (part : Part) (high : Option ℕ) → shape_of p x ≡ shape.Coll kind part low high → number part.node 0 ≡ 0
+  pub component_none : (x low : ℕ) (kind : Kind) (part : Part) (high : Option ℕ) → shape_of p x ≡ shape.Coll kind part low high → number part.node 0 ≡ 0
   component_none x low kind part high is =
       number_is part.node 0 0 (λ L r. Sums-none (IsStructureOn p part.node L 0) (λ t. 1) (λ t m. solid x low kind part high is t m.0 m.1))
 

@@ -9,7 +9,13 @@ pub mod LabelMaps
 pub mod Atoms
 pub mod CountLemmas
 pub mod TotalLemmas
+pub mod PointLemmas
+pub mod JobLemmas
+pub mod PointSums
+pub mod ScopeLemmas
+pub mod RecipeLemmas
 pub mod OrderLemmas
+pub mod SiteOrder
 pub mod FillLemmas
 pub mod EntryLemmas
 pub mod PlanLemmas

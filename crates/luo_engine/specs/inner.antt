@@ -7,3 +7,5 @@ pub mod Listed
 pub mod Layout
 pub mod Plan
 pub mod Running
+pub mod Points
+pub mod Tasks

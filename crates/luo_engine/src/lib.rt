@@ -7,4 +7,5 @@ mod numbers;
 mod order;
 mod partial;
 mod plan;
+mod points;
 mod table;
