@@ -9,11 +9,12 @@ use Rattle.luo_model.specs.declared.program.Part.{Part}
 use Rattle.luo_model.specs.declared.program.Shape.{Shape}
 use Rattle.luo_model.specs.declared.program.Shape.TheVariants.{Atom, Union, Product, Coll}
 use Rattle.luo_model.specs.Program.{Program, shape_of}
+use Rattle.luo_model.specs.Levels.{IsRank}
 use Rattle.luo_model.specs.Invariant.{IsProgram, IsAllowed, inner_parts}
 use Rattle.luo_model.proofs.NodeLemmas.{node_at_place}
 use Rattle.luo_engine.specs.declared.layout.Layout.{Layout}
-use Rattle.luo_engine.specs.inner.Filled.{IsLaid}
-use Rattle.luo_engine.specs.inner.Layout.{rows_of_parts, laid_behind, AreLaidBelow}
+use Rattle.luo_engine.specs.inner.Filled.{AreRanks, IsLaid}
+use Rattle.luo_engine.specs.inner.Layout.{rows_of_parts, laid_behind, AreLaidBelow, AreRanksBelow}
 use Rattle.luo_engine.proofs.RowLemmas.{room-there}
 use Rattle.luo_engine.proofs.PlanLemmas.{parts_of_program}
 
@@ -130,3 +131,19 @@ laid_none p = record { wide = refl; links = λ r y e. absurd (cc); few = omega a
 
 pub laid_all : (p : Program) (l : Layout) → AreLaidBelow p l (length p.nodes) → IsLaid p l.starts l.factors
 laid_all p l b = record { links = b.links; wide = b.wide; products = b.products }
+
+-- one more rank
+pub ranks_more : (p : Program) (ranks new : List ℕ) (x r : ℕ) → AreRanksBelow p ranks x → new ≡ ranks ++ r ∷ [] → IsRank p x r → AreRanksBelow p new (x + 1)
+ranks_more p ranks new x r b e is = subst (λ (rs : List ℕ). AreRanksBelow p rs (x + 1)) (sym e) (record {
+  wide = omega (arith, length-append ranks (r ∷ []), b.wide);
+  ranked = λ y h. ⊎_elim
+      (λ (g : y < x). subst (IsRank p y) (sym (get_or_append_left ranks (r ∷ []) 0 y (omega (arith, g, b.wide)))) (b.ranked y g))
+      (λ (g : y ≡ x). subst (λ z. IsRank p z (slice_index (ranks ++ r ∷ []) z)) (sym g) (subst (IsRank p x) (sym (ap (slice_index (ranks ++ r ∷ [])) (sym b.wide) ∙ get_or-append_seam ranks r [] 0)) is))
+      (less_or_eq y x h);
+})
+
+pub ranks_none : (p : Program) → AreRanksBelow p [] 0
+ranks_none p = record { wide = refl; ranked = λ y h. absurd (omega (arith, h)) }
+
+pub ranks_all : (p : Program) (ranks : List ℕ) (x : ℕ) → AreRanksBelow p ranks x → x ≡ length p.nodes → AreRanks p ranks
+ranks_all p ranks x b e = record { wide = b.wide ∙ e; ranked = λ y h. b.ranked y (omega (arith, h, e)) }

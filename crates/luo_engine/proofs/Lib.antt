@@ -20,3 +20,7 @@ pub mod FillLemmas
 pub mod EntryLemmas
 pub mod ScopeReads
 pub mod FallLemmas
+pub mod PlanLemmas
+pub mod LayoutLemmas
+pub mod RunLemmas
+pub mod FirstLemmas

@@ -4,6 +4,7 @@ pub mod Partial
 pub mod Obeys
 pub mod Filled
 pub mod Listed
+pub mod Layout
 pub mod Plan
 pub mod Running
 pub mod Points

@@ -2,6 +2,7 @@
 ghost use Rattle.std.specs.Prelude.{◌≡◌, ◌<◌, ◌++◌, length, IfOk, OnOk};
 ghost use Rattle.luo_model.specs.View.{plain_of};
 ghost use Rattle.luo_model.specs.Invariant.{IsProgram};
+ghost use Rattle.luo_model.specs.Founded.{IsFounded};
 ghost use Rattle.luo_engine.specs.inner.Filled.{AreRanks};
 ghost use Rattle.luo_engine.specs.inner.Layout.{rows_of_parts, laid_behind, AreLaidBelow};
 
@@ -10,15 +11,12 @@ use luo_model::{Part, Program, Shape};
 use luo_num::{Items, NoMemory};
 use std::alloc::Global;
 
-/// The ranks of all nodes.
-pub fn ranks_of(
-    alloc: Global,
-    program: &Program,
-    ranks: &Ranks<'_>,
-) -> Result<Items<u32>, NoMemory>
-    requires same { ranks.now ≡ program.now }
-    ensures { IfOk result (AreRanks (plain_of program.now)) }
+/// The ranks of all nodes of a program, which is well-founded.
+pub fn ranks_of(alloc: Global, ranks: &Ranks<'_>) -> Result<Items<u32>, NoMemory>
+    ensures ranked { IfOk result (AreRanks (plain_of ranks.now)) }
+    ensures founded { IfOk result (λ _. IsFounded (plain_of ranks.now)) }
 {
+    let program = ranks.program();
     let mut copied = Items::new(alloc);
     for x in 0..program.nodes.len() {
         copied.push(ranks.node_rank(x))?;

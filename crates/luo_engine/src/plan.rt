@@ -53,7 +53,7 @@ impl<'p> Plan<'p> {
         ensures program { IfOk result (λ plan. plan.program ≡ program.now) }
         ensures reach { IfOk result (λ plan. plan.reach ≡ n_max) }
     {
-        let nodes = ranks_of(alloc, program, ranks)?;
+        let nodes = ranks_of(alloc, ranks)?;
         let order = order_of(alloc, nodes.as_slice())?;
         let layout = layout_of(alloc, program)?;
         let pascal = Pascal::new(alloc, n_max)?;

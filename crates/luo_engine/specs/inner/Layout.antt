@@ -5,6 +5,7 @@ use Rattle.luo_model.specs.declared.program.Part.{Part}
 use Rattle.luo_model.specs.declared.program.Shape.{Shape}
 use Rattle.luo_model.specs.declared.program.Shape.TheVariants.{Atom, Union, Product, Coll}
 use Rattle.luo_model.specs.Program.{Program, shape_of}
+use Rattle.luo_model.specs.Levels.{IsRank}
 use Rattle.luo_engine.specs.declared.layout.Layout.{Layout}
 use Rattle.luo_engine.specs.inner.Partial.{AreLinks}
 
@@ -26,3 +27,8 @@ pub record AreLaidBelow (p : Program) (l : Layout) (x : ℕ) : Type 0 where
   pub few : length l.factors ≤ (PART_LIMIT + 1) * x
   pub products : (y : ℕ) (parts : List Part) → y < x → shape_of p y ≡ Product parts
       → (rest : List (Option ℕ)) × (drop (slice_index l.starts y) l.factors ≡ map (λ part. Some part.node) parts ++ (None ∷ rest))
+
+-- the ranks of the nodes below x
+pub record AreRanksBelow (p : Program) (ranks : List ℕ) (x : ℕ) : Type 0 where
+  pub wide : length ranks ≡ x
+  pub ranked : (y : ℕ) → y < x → IsRank p y (slice_index ranks y)

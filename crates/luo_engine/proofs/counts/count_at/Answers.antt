@@ -1,7 +1,11 @@
-use Rattle.std.proofs.Common.{◌≡◌, ◌∙◌, sym, ap, refl, subst, ℕ, List, Option}
+use Rattle.std.proofs.Common.{◌≡◌, ◌∙◌, sym, ap, refl, subst, ℕ, List, Option, drop}
+use Rattle.luo_num.specs.Mark.{capped}
 use Rattle.luo_model.specs.declared.program.Part.{Part}
+use Rattle.luo_model.specs.declared.program.Universe.{Universe}
 use Rattle.luo_model.specs.declared.program.Shape.TheVariants.{Atom, Union, Product, Coll}
 use Rattle.luo_model.specs.View.{plain_of}
+use Rattle.luo_engine.specs.inner.Grid.{entry_of}
+use Rattle.luo_engine.specs.inner.Shares.{tail_of}
 use Rattle.luo_engine.proofs.PlanLemmas.{parts_there, end_at, room_at, product_to, union_to, atom_to}
 use Rattle.luo_engine.proofs.counts.count_at.Goals as goal
 
@@ -21,4 +25,5 @@ pub returns-in-Union : goal.returns-in-Union
 returns-in-Union c = union_to c.args.plan.now c.node_at-x.ensures.plan c.args.k c.node_at-x.result c.node_at-x.ensures.place c.args.counts.now c.args.n c.sum_at.result c.requires.counted c.as_slice.result.now (sym c.shape.ensures ∙ c.in-Union.is ∙ ap Union (sym c.as_slice.ensures)) c.sum_at.ensures
 
 pub returns-in-Product : goal.returns-in-Product
-returns-in-Product c = product_to c.args.plan.now c.node_at-x.ensures.plan c.args.k c.node_at-x.result c.node_at-x.ensures.place c.args.counts.now c.args.n c.product_at.result c.requires.counted c.in-Product.parts c.start.result c.factors.result.now (sym c.shape.ensures ∙ c.in-Product.is) c.start.ensures c.factors.ensures c.product_at.ensures
+returns-in-Product c = product_to c.args.plan.now c.node_at-x.ensures.plan c.args.k c.node_at-x.result c.node_at-x.ensures.place c.args.counts.now c.args.n c.product_at.result c.requires.counted c.in-Product.parts c.start.result c.factors.result.now (sym c.shape.ensures ∙ c.in-Product.is) c.start.ensures c.factors.ensures
+    (subst (λ (u : Universe). c.product_at.result ≡ capped (tail_of u (entry_of c.args.counts.now) (drop c.start.result c.factors.result.now) c.args.n)) c.universe.ensures c.product_at.ensures)
