@@ -9,3 +9,7 @@ pub mod Plan
 pub mod Running
 pub mod Points
 pub mod Tasks
+pub mod Asked
+pub mod Forms
+pub mod Collections
+pub mod Walks

@@ -1,6 +1,8 @@
 //! All tables of a program, size by size.
 #![tactic(auto)]
 
+mod collecting;
+mod collections;
 pub mod laws;
 mod layout;
 mod numbers;
@@ -9,3 +11,5 @@ mod partial;
 mod plan;
 mod points;
 mod table;
+mod walking;
+mod walks;
