@@ -24,3 +24,8 @@ pub mod PlanLemmas
 pub mod LayoutLemmas
 pub mod RunLemmas
 pub mod FirstLemmas
+pub mod CollectionLemmas
+pub mod CollectingLemmas
+pub mod WalkLemmas
+pub mod WalkingLemmas
+pub mod WalkSteps

@@ -1,6 +1,8 @@
 //! All tables of a program, size by size.
 #![tactic(auto)]
 
+mod collecting;
+mod collections;
 pub mod laws;
 mod layout;
 mod numbers;
@@ -10,3 +12,5 @@ mod plan;
 mod points;
 mod table;
 mod tasks;
+mod walking;
+mod walks;
