@@ -76,20 +76,20 @@ module _ (p : Program) (q : IsProgram p) (l : Layout) (x : ℕ) (b : AreLaidBelo
     links = λ r y e. ⊎_elim
         (λ h. let k = b.links r y h.0 in (k.0, omega (arith, k.1, length-append l.factors (rows_of_parts parts))))
         (λ h. let k = row_links parts h.0 y h.2 in (
-        omega (arith, parts_of_program p q x k.0.0 (subst (λ (s : Shape). In k.0.0 (inner_parts s)) (sym is) k.0.1), k.0.2),
-        omega (arith, k.1, h.1, length-append l.factors (rows_of_parts parts)),
-      ))
+          omega (arith, parts_of_program p q x k.0.0 (subst (λ (s : Shape). In k.0.0 (inner_parts s)) (sym is) k.0.1), k.0.2),
+          omega (arith, k.1, h.1, length-append l.factors (rows_of_parts parts)),
+        ))
         (get_split l.factors (rows_of_parts parts) r (Some y) e);
     few = omega (arith, b.few, length-append l.factors (rows_of_parts parts), rows_long parts, parts_few parts is);
     products = λ y others h e. ⊎_elim
         (λ (g : y < x). old_rows (length l.factors) y others (rows_of_parts parts) g e)
         (λ (g : y ≡ x). (
-        [],
-        ap (λ i. drop (slice_index (l.starts ++ length l.factors ∷ []) i) (l.factors ++ rows_of_parts parts)) g
-            ∙ ap (λ i. drop i (l.factors ++ rows_of_parts parts)) (start_new (length l.factors))
-            ∙ drop-append_seam l.factors (rows_of_parts parts)
-            ∙ ap rows_of_parts (same_parts parts others (sym is ∙ ap (shape_of p) (sym g) ∙ e)),
-      ))
+          [],
+          ap (λ i. drop (slice_index (l.starts ++ length l.factors ∷ []) i) (l.factors ++ rows_of_parts parts)) g
+              ∙ ap (λ i. drop i (l.factors ++ rows_of_parts parts)) (start_new (length l.factors))
+              ∙ drop-append_seam l.factors (rows_of_parts parts)
+              ∙ ap rows_of_parts (same_parts parts others (sym is ∙ ap (shape_of p) (sym g) ∙ e)),
+        ))
         (less_or_eq y x h);
   }
     where

@@ -23,6 +23,7 @@ pub mod FallLemmas
 pub mod PlanLemmas
 pub mod LayoutLemmas
 pub mod RunLemmas
+pub mod LevelLemmas
 pub mod FirstLemmas
 pub mod CollectionLemmas
 pub mod CollectingLemmas

@@ -133,9 +133,11 @@ module _ (f : ℕ → ℕ) where
       item_sent : (i : Item) (vars : List Tree) (q : ℕ) → ItemCharges R i vars q → ItemCharges S i (map (relabelled f) vars) q
       item_sent (Call var callee site) vars q (t, g, c) = (relabelled f t, get_map (relabelled f) vars var t g, sends callee t q c)
       item_sent (Case var arms site) vars q (t, g, c) = (relabelled f t, get_map (relabelled f) vars var t g, case_sent arms t q c)
-      item_sent (Forall var body body_site site) vars q (ts, g, c) =
-          (all_relabelled f ts, get_map (relabelled f) vars var (Coll ts) g,
-          each_charges (λ t. BodyCharges R body (t ∷ [])) (λ t. BodyCharges S body (t ∷ [])) (λ t a. body_sent body (t ∷ []) a) ts q c)
+      item_sent (Forall var body body_site site) vars q (ts, g, c) = (
+        all_relabelled f ts,
+        get_map (relabelled f) vars var (Coll ts) g,
+        each_charges (λ t. BodyCharges R body (t ∷ [])) (λ t. BodyCharges S body (t ∷ [])) (λ t a. body_sent body (t ∷ []) a) ts q c,
+      )
 
       pub case_sent : (arms : Arms) (t : Tree) (q : ℕ) → CaseCharges R arms t q → CaseCharges S arms (relabelled f t) q
       case_sent (arm bind body arms) (Inj (suc zero) t) q c = subst (λ vs. BodyCharges S body vs q) (bound_sent bind t) (body_sent body (bound bind t) q c)
@@ -154,9 +156,11 @@ module _ (f : ℕ → ℕ) where
   work_sent p (of_body body) t q c = body_sent (Charges p) (Charges p) (charges_sent p) body (t ∷ []) q c
   work_sent p (of_call callee) t q c = charges_sent p callee t q c
   work_sent p (of_case arms) t q c = case_sent (Charges p) (Charges p) (charges_sent p) arms t q c
-  work_sent p (of_walk body) t q (ts, e, c) =
-      (all_relabelled f ts, ap (relabelled f) e,
-      each_charges (λ s. BodyCharges (Charges p) body (s ∷ [])) (λ s. BodyCharges (Charges p) body (s ∷ [])) (λ s a. body_sent (Charges p) (Charges p) (charges_sent p) body (s ∷ []) a) ts q c)
+  work_sent p (of_walk body) t q (ts, e, c) = (
+    all_relabelled f ts,
+    ap (relabelled f) e,
+    each_charges (λ s. BodyCharges (Charges p) body (s ∷ [])) (λ s. BodyCharges (Charges p) body (s ∷ [])) (λ s a. body_sent (Charges p) (Charges p) (charges_sent p) body (s ∷ []) a) ts q c,
+  )
 
   pub site_sent : (p : Program) (i : ℕ) (t : Tree) (q : ℕ) → SiteCharges p i t q → SiteCharges p i (relabelled f t) q
   site_sent p i t q (work, h, c) = (work, h, work_sent p work t q c)

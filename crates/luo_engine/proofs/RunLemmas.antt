@@ -1,5 +1,5 @@
 -- One more size of a run.
-use Rattle.std.proofs.Common.{◌≡◌, ◌⊎◌, ℕ, ◌+◌, ◌≤◌, ◌<◌, inl, inr, ⊎_elim, Bool, true, false, List, [], length, slice_get, refl, sym, ◌∙◌, ap, subst, arith, Some}
+use Rattle.std.proofs.Common.{◌≡◌, ◌⊎◌, ℕ, ◌+◌, ◌≤◌, ◌<◌, inl, inr, ⊎_elim, Bool, true, false, Option, List, [], length, slice_get, refl, sym, ◌∙◌, ap, subst, arith, Some}
 use Rattle.std.proofs.lemmas.Option.{slice_get_within}
 use Rattle.luo_num.specs.declared.TheConstants.{MAX}
 use Rattle.luo_finite.proofs.Sums.{Counts-unique}
@@ -8,9 +8,12 @@ use Rattle.luo_model.specs.View.{plain_of}
 use Rattle.luo_model.specs.Tables.{IsCount}
 use Rattle.luo_engine.specs.inner.Grid.{row_of, entry_of, Reaches, SameShape, SameOthers, IsTable, AreZero}
 use Rattle.luo_engine.specs.inner.Partial.{IsClosed, AreClosedBelow, AreClosedFrom}
-use Rattle.luo_engine.specs.inner.Filled.{IsRight, AreCounted}
+use Rattle.luo_engine.specs.inner.Filled.{IsRight, AreCounted, AreKept}
 use Rattle.luo_engine.specs.inner.Plan.{Planned, IsPlan}
-use Rattle.luo_engine.specs.inner.Running.{IsRun, IsGoing}
+use Rattle.luo_engine.specs.inner.Asked.{Asked}
+use Rattle.luo_engine.specs.inner.Collections.{AreCollections, AreUnasked}
+use Rattle.luo_engine.specs.inner.Running.{IsCounting, IsGoing}
+use Rattle.luo_engine.proofs.CollectionLemmas.{collections_next, collections_start}
 
 less_or_eq : (a b : ℕ) → a < b + 1 → (a < b) ⊎ (a ≡ b)
 less_or_eq a b h = grind arith
@@ -22,7 +25,7 @@ pub reach_less : (n last : ℕ) (table : List (List ℕ)) → n ≤ last → Rea
 reach_less n last table h r y l = omega (arith, r y l, h)
 
 -- a run that goes on may fill its next size
-module _ (plan : Planned) (counts partials : List (List ℕ)) (last filled : ℕ) (stopped : Bool) (run : IsRun plan counts partials last filled stopped) (go : stopped ≡ false) (room : filled ≤ last) where
+module _ (plan : Planned) (counts : List (List ℕ)) (tables : List (Option Asked)) (partials : List (List ℕ)) (last filled : ℕ) (stopped : Bool) (run : IsCounting plan counts tables partials last filled stopped) (go : stopped ≡ false) (room : filled ≤ last) where
   pub counted_next : AreCounted (plain_of plan.program) plan.order counts filled 0
   counted_next = record {
     wide = run.wide;
@@ -43,22 +46,24 @@ module _ (plan : Planned) (counts partials : List (List ℕ)) (last filled : ℕ
   }
 
 -- the counts of one more size are known
-module _ (plan : Planned) (old counts first partials : List (List ℕ)) (last filled : ℕ) (stopped : Bool) (run : IsRun plan old first last filled stopped) (room : filled ≤ last)
-    (c : AreCounted (plain_of plan.program) plan.order counts filled (length plan.order)) (closed : AreClosedFrom plan.program.universe counts plan.factors partials filled 0) (s : SameShape old counts) (b : SameShape first partials) where
+module _ (plan : Planned) (old counts : List (List ℕ)) (before tables : List (Option Asked)) (first partials : List (List ℕ)) (last filled : ℕ) (stopped : Bool) (run : IsCounting plan old before first last filled stopped) (room : filled ≤ last)
+    (c : AreCounted (plain_of plan.program) plan.order counts filled (length plan.order)) (closed : AreClosedFrom plan.program.universe counts plan.factors partials filled 0) (s : SameShape old counts) (b : SameShape first partials)
+    (asked : AreCollections (plain_of plan.program) plan.reach plan.order tables filled (length plan.order)) where
   pub right_now : (x m : ℕ) → x < length plan.program.nodes → m < filled + 1 → IsRight (plain_of plan.program) counts x m
   right_now x m h l =
       ⊎_elim (λ (g : m < filled). c.below x m h g)
       (λ (q : m ≡ filled). let at = run.plan_is.ordered.complete x h in subst (IsRight (plain_of plan.program) counts x) (sym q) (c.done at.0 x (slice_get_within plan.order at.0 x at.1) at.1)) (less_or_eq m filled l)
 
-  going_now : IsGoing plan counts partials (filled + 1)
+  going_now : IsGoing plan counts tables partials (filled + 1)
   going_now = record {
     ahead = λ x m l. c.ahead x m (omega (arith, l));
+    asked = collections_next (plain_of plan.program) plan.reach plan.order tables filled asked;
     wide = closed.before.below.wide;
     closed = λ r m h l. ⊎_elim (λ (g : m < filled). closed.before.below.closed r m h g) (λ (q : m ≡ filled). subst (IsClosed plan.program.universe counts plan.factors partials r) (sym q) (closed.closed_rows r (omega arith) h)) (less_or_eq m filled l);
   }
 
-  pub run_more : IsRun plan counts partials last (filled + 1) stopped
-  run_more = record {
+  pub counting_more : IsCounting plan counts tables partials last (filled + 1) stopped
+  counting_more = record {
     plan_is = run.plan_is;
     reach = run.reach;
     wide = c.wide;
@@ -74,27 +79,28 @@ module _ (plan : Planned) (old counts first partials : List (List ℕ)) (last fi
   count_within x m v h l e = let r = right_now x m h l in omega (arith, Counts-unique (IsStructure (plain_of plan.program) x m) (entry_of counts x m) v r.0 e, r.1)
 
 -- after an overflow the sizes that were filled stay
-pub run_stops : (plan : Planned) (old counts first partials : List (List ℕ)) (last filled : ℕ) (stopped : Bool) → IsRun plan old first last filled stopped
-    → ((x m : ℕ) → x < length plan.program.nodes → m < filled → IsRight (plain_of plan.program) counts x m) → SameShape old counts → SameShape first partials → IsRun plan counts partials last filled true
-run_stops plan old counts first partials last filled stopped run kept s b = record {
+pub counting_stops : (plan : Planned) (old counts : List (List ℕ)) (before tables : List (Option Asked)) (first partials : List (List ℕ)) (last filled : ℕ) (stopped : Bool) → IsCounting plan old before first last filled stopped
+    → AreKept (plain_of plan.program) counts filled → SameShape old counts → SameShape first partials → IsCounting plan counts tables partials last filled true
+counting_stops plan old counts before tables first partials last filled stopped run kept s b = record {
   plan_is = run.plan_is;
   reach = run.reach;
-  wide = s.wide ∙ run.wide;
+  wide = kept.wide;
   counts_reach = reach_same last old counts s run.counts_reach;
   partials_reach = reach_same last first partials b run.partials_reach;
   within = run.within;
   small = run.small;
-  right = kept;
+  right = kept.below;
   going = λ e. absurd (cc);
 }
 
-reach_all : (last sizes rows : ℕ) (table : List (List ℕ)) → sizes ≡ last + 1 → IsTable rows sizes table → Reaches last table
+pub reach_all : (last sizes rows : ℕ) (table : List (List ℕ)) → sizes ≡ last + 1 → IsTable rows sizes table → Reaches last table
 reach_all last sizes rows table e t x h = omega (arith, e, t.long x (omega (arith, h, t.wide)))
 
 -- a run begins with tables of zeros
-pub run_starts : (plan : Planned) (counts partials : List (List ℕ)) (last sizes nodes rows : ℕ) → IsPlan plan → plan.reach ≡ last → last ≤ 160 → sizes ≡ last + 1
-    → nodes ≡ length plan.program.nodes → rows ≡ length plan.factors → IsTable nodes sizes counts → AreZero counts → IsTable rows sizes partials → IsRun plan counts partials last 0 false
-run_starts plan counts partials last sizes nodes rows is reach small s a b c cz q = record {
+pub counting_starts : (plan : Planned) (counts : List (List ℕ)) (tables : List (Option Asked)) (partials : List (List ℕ)) (last sizes nodes rows : ℕ) → IsPlan plan → plan.reach ≡ last → last ≤ 160 → sizes ≡ last + 1
+    → nodes ≡ length plan.program.nodes → rows ≡ length plan.factors → IsTable nodes sizes counts → AreZero counts → IsTable rows sizes partials
+    → AreUnasked (plain_of plan.program) plan.reach tables (length plan.program.nodes) → IsCounting plan counts tables partials last 0 false
+counting_starts plan counts tables partials last sizes nodes rows is reach small s a b c cz q u = record {
   plan_is = is;
   reach = reach;
   wide = c.wide ∙ a;
@@ -103,5 +109,10 @@ run_starts plan counts partials last sizes nodes rows is reach small s a b c cz 
   within = omega arith;
   small = small;
   right = λ x m h g. absurd (omega (arith, g));
-  going = λ _. record { ahead = λ x m h. cz x m; wide = q.wide ∙ b; closed = λ r m h g. absurd (omega (arith, g)) };
+  going = λ _. record {
+    ahead = λ x m h. cz x m;
+    asked = collections_start (plain_of plan.program) plan.reach plan.order tables is.ordered.there u;
+    wide = q.wide ∙ b;
+    closed = λ r m h g. absurd (omega (arith, g));
+  };
 }

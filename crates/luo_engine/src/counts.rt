@@ -7,8 +7,11 @@ ghost use Rattle.luo_model.specs.View.{plain_of};
 ghost use Rattle.luo_engine.specs.inner.Grid.{entry_of, Reaches, SameShape, SameOthers};
 ghost use Rattle.luo_engine.specs.inner.Partial.{AreOpenBefore};
 ghost use Rattle.luo_engine.specs.inner.Obeys.{atom_count};
+ghost use Rattle.luo_engine.specs.inner.Collections.{AreCollections};
 ghost use Rattle.luo_engine.specs.inner.Filled.{AreCounted, AreKept, CountsTo, IsFirstPast};
 
+use crate::collecting::collection_at;
+use crate::collections::Collection;
 use crate::partial::product_at;
 use crate::plan::Plan;
 use crate::table::Table;
@@ -35,19 +38,25 @@ fn atom_at(weight: u32, n: usize) -> u128
     if n == weight as usize { 1 } else { 0 }
 }
 
-/// The count of node x at size n, from the entries that come before it.
+/// The count of the node at place k of the order at size n, from the entries that come before it.
 fn count_at(
     plan: &Plan,
     counts: &Table,
+    collections: &mut Vec<Option<Collection>>,
     partials: &Table,
     k: usize,
     n: usize,
 ) -> u128
     requires place { k < length plan.now.order }
+    requires reached { n ≤ plan.now.reach }
     requires counted { AreCounted (plain_of plan.now.program) plan.now.order counts.now n k }
+    requires collections { AreCollections (plain_of plan.now.program) plan.now.reach plan.now.order
+        collections.old.items n k }
     requires open_rows { AreOpenBefore plan.now.program.universe counts.now plan.now.factors
         partials.now n (length plan.now.factors) }
-    ensures { CountsTo (plain_of plan.now.program) (slice_index plan.now.order k) n result }
+    ensures number { CountsTo (plain_of plan.now.program) (slice_index plan.now.order k) n result }
+    ensures collections { result ≤ MAX → AreCollections (plain_of plan.now.program) plan.now.reach
+        plan.now.order collections.new.items n (k + 1) }
 {
     let x = plan.node_at(k);
     match plan.shape(x) {
@@ -64,7 +73,7 @@ fn count_at(
                 n,
             )
         }
-        Shape::Coll { .. } => 0,
+        Shape::Coll { .. } => collection_at(plan, counts, collections, k, n),
     }
 }
 
@@ -72,14 +81,20 @@ fn count_at(
 pub fn fill_counts(
     plan: &Plan,
     counts: &mut Table,
+    collections: &mut Vec<Option<Collection>>,
     partials: &Table,
     n: usize,
 ) -> Option<usize>
+    requires reached { n ≤ plan.now.reach }
     requires counted { AreCounted (plain_of plan.now.program) plan.now.order counts.old n 0 }
+    requires collections { AreCollections (plain_of plan.now.program) plan.now.reach plan.now.order
+        collections.old.items n 0 }
     requires open_rows { AreOpenBefore plan.now.program.universe counts.old plan.now.factors
         partials.now n (length plan.now.factors) }
     ensures counted { IsNone result → AreCounted (plain_of plan.now.program) plan.now.order
         counts.new n (length plan.now.order) }
+    ensures collections { IsNone result → AreCollections (plain_of plan.now.program) plan.now.reach
+        plan.now.order collections.new.items n (length plan.now.order) }
     ensures open_rows { AreOpenBefore plan.now.program.universe counts.new plan.now.factors
         partials.now n (length plan.now.factors) }
     ensures kept { AreKept (plain_of plan.now.program) counts.new n }
@@ -88,7 +103,7 @@ pub fn fill_counts(
     ensures past { IfSome result (IsFirstPast (plain_of plan.now.program) plan.now.ranks n) }
 {
     for k in 0..plan.width() {
-        let value = count_at(plan, counts, partials, k, n);
+        let value = count_at(plan, counts, collections, partials, k, n);
         let x = plan.node_at(k);
         if value > MAX {
             return Some(x);

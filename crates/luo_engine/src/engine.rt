@@ -1,9 +1,12 @@
 // The engine: all tables of a program, size by size.
 ghost use Rattle.std.specs.Prelude.{◌≡◌, ◌<◌, ◌≤◌, ◌+◌, length, IfOk, IfErr, true, false};
+ghost use Rattle.luo_model.specs.declared.table.Fill.TheVariants.{Counts};
 ghost use Rattle.luo_model.specs.Tables.{IsCount};
 ghost use Rattle.luo_model.specs.View.{plain_of};
 ghost use Rattle.luo_engine.specs.Entries.{IsFirstOver, NoneOver};
 
+use crate::collecting::collections_of;
+use crate::collections::Collection;
 use crate::plan::Plan;
 use crate::sizes::extend_counts;
 use crate::table::Table;
@@ -27,6 +30,7 @@ pub struct Overflow {
 pub struct Engine<'p> {
     plan: Plan<'p>,
     counts: Table,
+    collections: Vec<Option<Collection>>,
     partials: Table,
     last: u32,
     fill: Fill,
@@ -47,7 +51,7 @@ impl<'p> Model for Engine<'p> {
 
     ghost view = { λ e. record { program = e.plan.program; last = e.last; fill = e.fill; filled = e.filled; stopped = e.stopped } };
 
-    ghost invariant = { λ e. IsRun e.plan e.counts e.partials e.last e.filled e.stopped };
+    ghost invariant = { λ e. IsRun e.plan e.counts e.collections.items e.partials e.last e.fill e.filled e.stopped };
 }
 
 impl<'p> Engine<'p> {
@@ -65,15 +69,18 @@ impl<'p> Engine<'p> {
     ) -> Result<Engine<'p>, NoMemory>
         requires same { ranks.now ≡ program.now }
         requires small { n_max ≤ SIZE_LIMIT }
+        requires only { fill ≡ Counts }
         ensures { IfOk result (λ engine. engine ≡ record { program = program.now; last = n_max; fill = fill; filled = 0; stopped = false }) }
     {
         let plan = Plan::new(alloc, program, ranks, n_max)?;
         let sizes = n_max as usize + 1;
         let counts = Table::zeros(alloc, plan.nodes(), sizes)?;
+        let collections = collections_of(alloc, program, n_max)?;
         let partials = Table::zeros(alloc, plan.factors().len(), sizes)?;
         Ok(Engine {
             plan,
             counts,
+            collections,
             partials,
             last: n_max,
             fill,
@@ -122,7 +129,13 @@ impl<'p> Engine<'p> {
             × (self.new ≡ record self.old { stopped = true })) }
     {
         let n = self.filled as usize;
-        match extend_counts(&self.plan, &mut self.counts, &mut self.partials, n) {
+        match extend_counts(
+            &self.plan,
+            &mut self.counts,
+            &mut self.collections,
+            &mut self.partials,
+            n,
+        ) {
             Some(x) => {
                 self.stopped = true;
                 Err(Overflow {

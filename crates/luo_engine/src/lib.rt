@@ -3,6 +3,8 @@
 
 mod collecting;
 mod collections;
+mod counts;
+mod engine;
 pub mod laws;
 mod layout;
 mod numbers;
@@ -10,7 +12,11 @@ mod order;
 mod partial;
 mod plan;
 mod points;
+mod shared;
+mod sizes;
 mod table;
 mod tasks;
 mod walking;
 mod walks;
+
+pub use engine::{Engine, Overflow};
