@@ -30,3 +30,5 @@ pub mod CollectingLemmas
 pub mod WalkLemmas
 pub mod WalkingLemmas
 pub mod WalkSteps
+pub mod NodesThere
+pub mod TotalPlan

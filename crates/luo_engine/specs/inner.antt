@@ -14,3 +14,4 @@ pub mod Asked
 pub mod Forms
 pub mod Collections
 pub mod Walks
+pub mod Totals

@@ -16,6 +16,7 @@ mod shared;
 mod sizes;
 mod table;
 mod tasks;
+mod totals;
 mod walking;
 mod walks;
 
