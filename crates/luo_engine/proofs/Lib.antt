@@ -32,3 +32,5 @@ pub mod WalkingLemmas
 pub mod WalkSteps
 pub mod NodesThere
 pub mod TotalPlan
+pub mod PushLemmas
+pub mod LayLoops

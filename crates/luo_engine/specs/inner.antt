@@ -15,3 +15,5 @@ pub mod Forms
 pub mod Collections
 pub mod Walks
 pub mod Totals
+pub mod Starts
+pub mod Laying

@@ -13,6 +13,7 @@ mod partial;
 mod plan;
 mod points;
 mod shared;
+mod sites;
 mod sizes;
 mod table;
 mod tasks;
