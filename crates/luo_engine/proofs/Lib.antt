@@ -34,3 +34,5 @@ pub mod NodesThere
 pub mod TotalPlan
 pub mod PushLemmas
 pub mod LayLoops
+pub mod LaidLemmas
+pub mod JobRecipes
