@@ -80,7 +80,7 @@ module _ (p : Program) where
     nodes_are is j [] = refl
     nodes_are is j (part ∷ parts) = ap (λ (l : List (Option ℕ)). Some part.node ∷ l) (nodes_are is (suc j) parts)
 
-    product_there : (y : ℕ) (parts : List Part) → shape_of p y ≡ shape.Product parts → y < length p.nodes
+    pub product_there : (y : ℕ) (parts : List Part) → shape_of p y ≡ shape.Product parts → y < length p.nodes
     product_there y parts e = ⊎_elim (λ n. n.3) (λ o. absurd (never parts (sym o ∙ e))) (node_at_place p y)
       where
         never : (parts : List Part) → shape.Union [] ≡ shape.Product parts → ⊥

@@ -120,7 +120,7 @@ module _ (starts : List ℕ) (factors : List (Option ℕ)) where
   )
 
   -- ---- all recipes
-  abbrev rows_of_recipe : Recipe → List (Option Link)
+  abbrev pub rows_of_recipe : Recipe → List (Option Link)
   rows_of_recipe (of_scopes Ss) = rows_of_scopes starts Ss
   rows_of_recipe (of_each x b) = []
 
@@ -136,7 +136,7 @@ module _ (starts : List ℕ) (factors : List (Option ℕ)) where
   task_is (of_scopes Ss) before after h = scopes_laid Ss before after h
   task_is (of_each x b) before after h = (refl, refl)
 
-  rows_of_all : List Recipe → List (Option Link)
+  abbrev pub rows_of_all : List Recipe → List (Option Link)
   rows_of_all [] = []
   rows_of_all (r ∷ rs) = rows_of_recipe r ++ rows_of_all rs
 
@@ -149,7 +149,6 @@ module _ (starts : List ℕ) (factors : List (Option ℕ)) where
   lay_is l (of_each x b) = λ t. record { tasks = l.tasks ++ Walk x b ∷ []; links = sym (append-nil l.links) t }
 
   all_links : (l : Laid) (rs : List Recipe) → (lay_all starts l rs).links ≡ l.links ++ rows_of_all rs
-  unfolding rows_of_all
   all_links l [] = sym (append-nil l.links)
   all_links l (r ∷ rs) = all_links (lay starts l r) rs ∙ ap (λ (z : Laid). z.links ++ rows_of_all rs) (lay_is l r) ∙ append_assoc l.links (rows_of_recipe r) (rows_of_all rs)
 
@@ -159,7 +158,7 @@ module _ (starts : List ℕ) (factors : List (Option ℕ)) where
   all_tasks l (r ∷ rs) = all_tasks (lay starts l r) rs ∙ ap (λ (z : Laid). z.tasks ++ tasks_of_all z.links rs) (lay_is l r) ∙ append_assoc l.tasks (task_of l.links r ∷ []) (tasks_of_all (l.links ++ rows_of_recipe r) rs)
 
   each_task : (rs : List Recipe) (before : List (Option Link)) → ((r : Recipe) → In r rs → RecipeRows r) → (i : ℕ) (r : Recipe) (t : Task) → slice_get rs i ≡ Some r → slice_get (tasks_of_all before rs) i ≡ Some t → IsTask factors (before ++ rows_of_all rs) r t
-  unfolding rows_of_all tasks_of_all
+  unfolding tasks_of_all
   each_task [] before h i r t e g = absurd (none_some r e)
   each_task (q ∷ rs) before h zero r t e g =
       let same : q ≡ r = some_same q r e in
@@ -181,3 +180,6 @@ module _ (starts : List ℕ) (factors : List (Option ℕ)) where
 
   pub laid_length : (rs : List Recipe) (l : Laid) → l ≡ lay_all starts (record { tasks = []; links = [] }) rs → length l.tasks ≡ length rs
   laid_length rs l e = ap (λ (z : Laid). length z.tasks) e ∙ ap length (all_tasks (record { tasks = []; links = [] }) rs) ∙ tasks_length rs []
+
+  pub laid_links : (rs : List Recipe) (l : Laid) → l ≡ lay_all starts (record { tasks = []; links = [] }) rs → l.links ≡ rows_of_all rs
+  laid_links rs l e = ap (λ (z : Laid). z.links) e ∙ all_links (record { tasks = []; links = [] }) rs

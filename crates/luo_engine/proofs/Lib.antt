@@ -36,3 +36,5 @@ pub mod PushLemmas
 pub mod LayLoops
 pub mod LaidLemmas
 pub mod JobRecipes
+pub mod LinkedLemmas
+pub mod SitesMade

@@ -17,3 +17,4 @@ pub mod Walks
 pub mod Totals
 pub mod Starts
 pub mod Laying
+pub mod SiteLists

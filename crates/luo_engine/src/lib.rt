@@ -11,6 +11,7 @@ mod numbers;
 mod order;
 mod partial;
 mod plan;
+mod planned;
 mod points;
 mod shared;
 mod sites;
