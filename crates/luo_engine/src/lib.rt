@@ -1,0 +1,26 @@
+//! All tables of a program, size by size.
+#![tactic(auto)]
+
+mod collecting;
+mod collections;
+mod counts;
+mod engine;
+pub mod laws;
+mod layout;
+mod numbers;
+mod order;
+mod partial;
+mod plan;
+mod planned;
+mod points;
+mod scopes;
+mod shared;
+mod sites;
+mod sizes;
+mod table;
+mod tasks;
+mod totals;
+mod walking;
+mod walks;
+
+pub use engine::{Engine, Overflow};
