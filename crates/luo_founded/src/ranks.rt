@@ -1,6 +1,7 @@
 // What is known of the nodes and the sites of a well-founded program.
 ghost use Rattle.std.specs.Prelude.{◌≡◌, ◌<◌, length};
 ghost use Rattle.luo_model.specs.View.{plain_of};
+ghost use Rattle.luo_model.specs.Founded.{IsFounded};
 ghost use Rattle.luo_model.specs.Levels.{IsRank, IsLevel, IsLeastSizeUpTo};
 
 use luo_model::Program;
@@ -34,6 +35,14 @@ impl<'a> Model for Ranks<'a> {
 }
 
 impl<'a> Ranks<'a> {
+    /// The program, which is well-founded.
+    pub fn program(&self) -> &'a Program
+        ensures same { result.now ≡ self.now }
+        ensures founded { IsFounded (plain_of self.now) }
+    {
+        self.program
+    }
+
     /// The rank of a node: the number of same-size steps of the longest chain of them from it. A
     /// structure of a node is made of structures of its own size only at nodes of less rank.
     pub fn node_rank(&self, node: usize) -> u32

@@ -1,0 +1,5 @@
+pub mod Entries
+pub mod Relabelling
+pub mod Laws
+pub mod Run
+pub mod inner

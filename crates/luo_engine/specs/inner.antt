@@ -1,0 +1,16 @@
+pub mod Grid
+pub mod Shares
+pub mod Partial
+pub mod Obeys
+pub mod Filled
+pub mod Listed
+pub mod Layout
+pub mod Plan
+pub mod Running
+pub mod Points
+pub mod Tasks
+pub mod Laid
+pub mod Asked
+pub mod Forms
+pub mod Collections
+pub mod Walks
