@@ -3,6 +3,7 @@
 // fewer components.
 ghost use Rattle.std.specs.Prelude.{◌≡◌, ◌+◌, ◌*◌, ◌-◌, ◌/◌, ◌<◌, ◌≤◌, ℕ, length, set, replicate, slice_index, IfOk};
 ghost use Rattle.luo_num.specs.Mark.{capped};
+ghost use Rattle.luo_num.specs.declared.limits.TheConstants.{SIZE_LIMIT};
 ghost use Rattle.luo_unlabelled.specs.inner.Planes.{with_size, count_put, total_put, IsPut, IsRowPut, IsSlim, IsSlimBehind, alone, top_count, top_total, sum_from};
 
 use crate::numbers::zeros;
@@ -20,8 +21,8 @@ pub fn cell(cells: &[u128], wide: usize, k: usize, m: usize) -> u128
 // The plane of no sizes: the empty collection alone.
 pub fn empty_plane(alloc: Global, wide: usize, deep: usize) -> Result<Vec<u128>, NoMemory>
     requires some { 1 ≤ deep * wide }
-    requires sizes { wide ≤ 161 }
-    requires rows { deep ≤ 161 }
+    requires sizes { wide ≤ SIZE_LIMIT + 1 }
+    requires rows { deep ≤ SIZE_LIMIT + 1 }
     ensures { IfOk result (λ cells. cells.items ≡ set (replicate (deep * wide) 0) 0 1) }
 {
     let mut cells = zeros(alloc, deep * wide)?;
