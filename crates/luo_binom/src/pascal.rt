@@ -5,15 +5,16 @@ ghost use Rattle.luo_num.specs.declared.TheConstants.{MAX};
 ghost use Rattle.luo_finite.specs.Binomial.{choose};
 ghost use Rattle.luo_binom.specs.inner.Cells.{AreCells, IsTable};
 
+use luo_num::limits::SIZE_LIMIT;
 use luo_num::{MAX, NoMemory, marked_add};
 use std::alloc::Global;
 use std::marker::Model;
 
 /// The greatest number of things that a table reaches.
-pub const LAST: u32 = 160;
+pub const LAST: u32 = SIZE_LIMIT as u32;
 
 // The cells of a row: the choices of 0 to `LAST` things.
-const WIDE: usize = 161;
+const WIDE: usize = SIZE_LIMIT as usize + 1;
 
 /// Pascal's triangle up to a row. Contracts see in it the number of that row. A binomial past the last number of tables is marked.
 #[derive(Drop)]

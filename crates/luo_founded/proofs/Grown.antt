@@ -2,6 +2,7 @@
 use Rattle.std.proofs.Common.{◌≡◌, ℕ, zero, suc, ◌+◌, ◌*◌, ◌≤◌, ◌<◌, List, [], ◌∷◌, ◌++◌, ◌⊎◌, inl, inr, ⊎_elim, length, refl, sym, ◌∙◌, ap, subst, arith, min, sum_by, Option, Some, None}
 use Rattle.std.specs.declared.cmp.Ordering.TheVariants.{Less, Equal}
 use Rattle.luo_finite.specs.Listing.{In, NoDouble, Pairwise}
+use Rattle.luo_num.specs.declared.limits.TheConstants.{SIZE_LIMIT}
 use Rattle.luo_model.specs.declared.program.Universe.{Universe}
 use Rattle.luo_model.specs.declared.program.Universe.TheVariants.{Unlabelled, Labelled}
 use Rattle.luo_model.specs.declared.program.Kind.{Kind}
@@ -284,11 +285,11 @@ module _ (p : Program) where
     pub each_has_structure : (x : ℕ) → x < length p.nodes → (n : ℕ) × (s : Tree) × IsStructure p x n s
     each_has_structure x h = structure_exists x (f.inhabited x h)
 
-    -- where T is backed by structures up to 160, so is what the construct makes of it
+    -- where T is backed by structures up to the last size, so is what the construct makes of it
     abbrev pub IsBacked : (ℕ → ℕ) → Type 0
-    IsBacked T = (x : ℕ) → T x ≤ 160 → Grown p (shape_of p x) (T x)
+    IsBacked T = (x : ℕ) → T x ≤ SIZE_LIMIT → Grown p (shape_of p x) (T x)
 
-    least_branch : (T : ℕ → ℕ) (parts : List Part) → least_part T parts ≤ 160 → (part : Part) × In part parts × (T part.node ≡ least_part T parts)
+    least_branch : (T : ℕ → ℕ) (parts : List Part) → least_part T parts ≤ SIZE_LIMIT → (part : Part) × In part parts × (T part.node ≡ least_part T parts)
     least_branch T [] h = absurd (omega arith)
     least_branch T (part ∷ parts) h = ⊎_elim
         (λ a. (part, inl refl, sym a))
@@ -298,13 +299,13 @@ module _ (p : Program) where
         min_cases : (a b : ℕ) → (min a b ≡ a) ⊎ (min a b ≡ b)
         min_cases a b = grind arith
 
-    least_all : (T : ℕ → ℕ) → IsBacked T → (parts : List Part) → sum_by (λ (part : Part). T part.node) parts ≤ 160 → GrownAll p parts (sum_by (λ (part : Part). T part.node) parts)
+    least_all : (T : ℕ → ℕ) → IsBacked T → (parts : List Part) → sum_by (λ (part : Part). T part.node) parts ≤ SIZE_LIMIT → GrownAll p parts (sum_by (λ (part : Part). T part.node) parts)
     least_all T b [] h = grown_none
     least_all T b (part ∷ parts) h =
         let e = sum_by-cons (λ (other : Part). T other.node) part parts in
         subst (GrownAll p (part ∷ parts)) (sym e) (grown_more part parts (T part.node) (sum_by (λ (other : Part). T other.node) parts) (b part.node (omega (arith, e))) (least_all T b parts (omega (arith, e))))
 
-    pub least_backed : (T : ℕ → ℕ) → IsBacked T → (x : ℕ) (s : Shape) → shape_of p x ≡ s → least_by T s ≤ 160 → Grown p s (least_by T s)
+    pub least_backed : (T : ℕ → ℕ) → IsBacked T → (x : ℕ) (s : Shape) → shape_of p x ≡ s → least_by T s ≤ SIZE_LIMIT → Grown p s (least_by T s)
     least_backed T b x (shape.Atom w) e h = grown_atom p.universe refl w (allowed_of x (shape.Atom w) e (λ z. cc))
     least_backed T b x (shape.Union parts) e h =
         let r = least_branch T parts h in

@@ -4,6 +4,7 @@ use Rattle.std.proofs.lemmas.Option.{slice_get_within, slice_get-get_or, slice_g
 use Rattle.luo_finite.proofs.Loops.{AllBefore, all_more, all_end}
 use Rattle.luo_finite.specs.Listing.{In}
 use Rattle.luo_finite.proofs.Membership.{In-at}
+use Rattle.luo_num.specs.declared.limits.TheConstants.{SIZE_LIMIT}
 use Rattle.luo_model.specs.declared.program.Node.{Node}
 use Rattle.luo_model.specs.declared.program.Part.{Part}
 use Rattle.luo_model.specs.Program.{Program, shape_of}
@@ -20,7 +21,7 @@ pub record IsLeastBefore (parts : List Part) (table : List ℕ) (n r : ℕ) : Ty
   pub low : (k : ℕ) (part : Part) → k < n → slice_get parts k ≡ Some part → r ≤ size_at table part.node
   pub one : (r ≡ past_last) ⊎ ((part : Part) × In part parts × (r ≡ size_at table part.node))
 
-pub least_none : (parts : List Part) (table : List ℕ) → IsLeastBefore parts table 0 161
+pub least_none : (parts : List Part) (table : List ℕ) → IsLeastBefore parts table 0 past_last
 least_none parts table = record { capped = omega arith; low = λ k part h e. absurd (omega arith); one = inl refl }
 
 min_cases : (a b : ℕ) → (min a b ≤ a) × (min a b ≤ b) × ((min a b ≡ a) ⊎ (min a b ≡ b))
@@ -68,14 +69,14 @@ AllPast n table = (length table ≡ n) × ((x r : ℕ) → slice_get table x ≡
 pub past_none : (table : List ℕ) → table ≡ [] → AllPast 0 table
 past_none table e = (ap length e, λ x r b. absurd (none_some r (sym (ap (λ l. slice_get l x) e) ∙ b)))
 
-pub past_next : (n : ℕ) (table more : List ℕ) → more ≡ table ++ 161 ∷ [] → AllPast n table → AllPast (n + 1) more
-past_next n table more e h = subst (AllPast (n + 1)) (sym e) (one_longer table 161 ∙ ap (λ k. k + 1) h.0, λ x r b. ⊎_elim (λ o. h.1 x r o) (λ o. sym o.1) (get_last table 161 x r b))
+pub past_next : (n : ℕ) (table more : List ℕ) → more ≡ table ++ past_last ∷ [] → AllPast n table → AllPast (n + 1) more
+past_next n table more e h = subst (AllPast (n + 1)) (sym e) (one_longer table past_last ∙ ap (λ k. k + 1) h.0, λ x r b. ⊎_elim (λ o. h.1 x r o) (λ o. sym o.1) (get_last table past_last x r b))
 
 -- structures back the numbers of the table
 pub record IsBackedTable (p : Program) (table : List ℕ) : Type 0 where
   pub long : length table ≡ length p.nodes
   pub capped : IsCapped table
-  pub backed : (x : ℕ) → size_at table x ≤ 160 → Grown p (shape_of p x) (size_at table x)
+  pub backed : (x : ℕ) → size_at table x ≤ SIZE_LIMIT → Grown p (shape_of p x) (size_at table x)
 
 by_option : (P : ℕ → Type 0) (o : Option ℕ) → P past_last → ((n : ℕ) → o ≡ Some n → P n) → P (or_past o)
 by_option P None a b = a
@@ -114,7 +115,7 @@ module _ (p : Program) (q : IsProgram p) (f : IsFounded p) where
   backed_next nodes table slice new r d e less is b = subst (IsBackedTable p) (sym is) (record {
     long = set_long table r.0 r.1 ∙ b.long;
     capped = λ y k g. ⊎_elim (λ o. omega (arith, o.1, small)) (λ o. b.capped y k o) (set_cases table r.0 r.1 y k g);
-    backed = λ y l. by_option (λ k. k ≤ 160 → Grown p (shape_of p y) k) (slice_get (slice_set table r.0 r.1) y) (λ c. absurd (omega arith))
+    backed = λ y l. by_option (λ k. k ≤ SIZE_LIMIT → Grown p (shape_of p y) k) (slice_get (slice_set table r.0 r.1) y) (λ c. absurd (omega arith))
         (λ k g c. ⊎_elim
         (λ o. subst (λ z. Grown p (shape_of p z) k) (sym o.0) (subst (Grown p (shape_of p r.0)) (sym o.1) (here (omega (arith, o.1)))))
         (λ o. subst (Grown p (shape_of p y)) (ap or_past o) (b.backed y (omega (arith, ap or_past o))))
@@ -130,7 +131,7 @@ module _ (p : Program) (q : IsProgram p) (f : IsFounded p) where
       at : shape_of p r.0 ≡ l.0.shape
       at = shape_there p r.0 l.0 l.1
 
-      here : r.1 ≤ 160 → Grown p (shape_of p r.0) r.1
+      here : r.1 ≤ SIZE_LIMIT → Grown p (shape_of p r.0) r.1
       here c =
           let same : r.1 ≡ least_by (size_at table) l.0.shape = ⊎_elim (λ z. absurd (omega (arith, z, l.3))) (λ z. l.3 ∙ z) (min_cases past_last (least_by (size_at table) l.0.shape)).2 in
           subst (λ s. Grown p s r.1) (sym at) (subst (Grown p l.0.shape) (sym same) (least_backed p q f (size_at table) b.backed r.0 l.0.shape at (omega (arith, same))))

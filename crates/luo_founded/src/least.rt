@@ -2,15 +2,16 @@
 ghost use Rattle.std.specs.Prelude.{◌≡◌, ◌<◌, ◌≤◌, ◌*◌, ℕ, min, sum_by, IfOk, MatchOption, length};
 ghost use Rattle.luo_model.specs.declared.program.Part.{Part};
 ghost use Rattle.luo_model.specs.View.{plain_of};
-ghost use Rattle.luo_founded.specs.inner.Least.{least_part, least_by, size_at, IsCapped, IsLess, NoneLess, IsLesser, AreLeast};
+ghost use Rattle.luo_founded.specs.inner.Least.{past_last, least_part, least_by, size_at, IsCapped, IsLess, NoneLess, IsLesser, AreLeast};
 ghost use Rattle.luo_model.specs.Founded.{IsFounded};
 
 use luo_model::{Node, Part, Program, Shape};
+use luo_num::limits::SIZE_LIMIT;
 use luo_num::{Items, NoMemory};
 use std::alloc::Global;
 
-// Stands for sizes past the last that is asked of.
-const PAST: u32 = 161;
+// Stands for sizes past the last of a table.
+const PAST: u32 = SIZE_LIMIT as u32 + 1;
 
 fn smaller(a: u32, b: u32) -> u32
     ensures { result ≡ min a b }
@@ -22,7 +23,7 @@ fn smaller(a: u32, b: u32) -> u32
 fn size_at(table: &[u32], y: usize) -> u32
     requires { IsCapped table.now }
     ensures value { result ≡ size_at table.now y }
-    ensures capped { result ≤ 161 }
+    ensures capped { result ≤ past_last }
 {
     match table.get(y) {
         Some(size) => *size,
@@ -43,7 +44,7 @@ fn least_part(parts: &[Part], table: &[u32]) -> u32
 
 fn sum_of(parts: &[Part], table: &[u32]) -> u32
     requires { IsCapped table.now }
-    ensures { result ≡ min 161 (sum_by (λ (part : Part). size_at table.now part.node) parts.now) }
+    ensures { result ≡ min past_last (sum_by (λ (part : Part). size_at table.now part.node) parts.now) }
 {
     let mut sum = 0;
     for part in parts {
@@ -53,8 +54,8 @@ fn sum_of(parts: &[Part], table: &[u32]) -> u32
 }
 
 fn product(low: u32, size: u32) -> u32
-    requires { size ≤ 161 }
-    ensures { result ≡ min 161 (low * size) }
+    requires { size ≤ past_last }
+    ensures { result ≡ min past_last (low * size) }
 {
     let all = low as u64 * size as u64;
     if all <= PAST as u64 { all as u32 } else { PAST }
@@ -63,7 +64,7 @@ fn product(low: u32, size: u32) -> u32
 // The size of a least structure of this construct by the table.
 fn size_by(shape: &Shape, table: &[u32]) -> u32
     requires { IsCapped table.now }
-    ensures { result ≡ min 161 (least_by (size_at table.now) shape.now) }
+    ensures { result ≡ min past_last (least_by (size_at table.now) shape.now) }
 {
     match shape {
         Shape::Atom { weight } => smaller(PAST, *weight),

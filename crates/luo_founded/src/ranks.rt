@@ -1,5 +1,6 @@
 // What is known of the nodes and the sites of a well-founded program.
 ghost use Rattle.std.specs.Prelude.{◌≡◌, ◌<◌, length};
+ghost use Rattle.luo_num.specs.declared.limits.TheConstants.{SIZE_LIMIT};
 ghost use Rattle.luo_model.specs.View.{plain_of};
 ghost use Rattle.luo_model.specs.Founded.{IsFounded};
 ghost use Rattle.luo_model.specs.Levels.{IsRank, IsLevel, IsLeastSizeUpTo};
@@ -62,10 +63,10 @@ impl<'a> Ranks<'a> {
         self.site_levels.as_slice()[site]
     }
 
-    /// The least size of a structure of a node, and 161 where that is above 160.
+    /// The least size of a structure of a node, and one more than `SIZE_LIMIT` where that is above the limit.
     pub fn least(&self, node: usize) -> u32
         requires there { node < length self.now.nodes }
-        ensures { IsLeastSizeUpTo (plain_of self.now) 160 node result }
+        ensures { IsLeastSizeUpTo (plain_of self.now) SIZE_LIMIT node result }
     {
         self.least_sizes.as_slice()[node]
     }

@@ -1,7 +1,8 @@
 // Collections within bounds, step by step: at step i stand those of at most i components, or of any number where the bounds have
 // no greatest number, and of so many fewer at least than at the last step as there are steps between. Behind the first component
 // of a collection stands one of the step before.
-ghost use Rattle.std.specs.Prelude.{◌≡◌, ◌≤◌, ◌-◌, ◌*◌, MatchOption};
+ghost use Rattle.std.specs.Prelude.{◌≡◌, ◌≤◌, ◌+◌, ◌-◌, ◌*◌, MatchOption};
+ghost use Rattle.luo_num.specs.declared.limits.TheConstants.{BOUND_LIMIT, SIZE_LIMIT};
 ghost use Rattle.luo_labelled.specs.Calls.{IsAbove};
 ghost use Rattle.luo_labelled.specs.inner.Steps.{steps_of, empty_at, row_count, HasSource};
 
@@ -39,8 +40,8 @@ impl Steps {
 
     // The cells of all rows: one row for each step below the last, or where there is none one for the answers.
     pub fn cells(self) -> usize
-        requires short { self.last ≤ 100 }
-        requires narrow { self.wide ≤ 161 }
+        requires short { self.last ≤ BOUND_LIMIT }
+        requires narrow { self.wide ≤ SIZE_LIMIT + 1 }
         ensures { result ≡ row_count self.last * self.wide }
     {
         self.last.max(1) * self.wide
@@ -48,8 +49,8 @@ impl Steps {
 
     // Where the row of step i begins.
     pub fn row(self, i: usize) -> usize
-        requires short { i ≤ 100 }
-        requires narrow { self.wide ≤ 161 }
+        requires short { i ≤ BOUND_LIMIT }
+        requires narrow { self.wide ≤ SIZE_LIMIT + 1 }
         ensures { result ≡ i * self.wide }
     {
         i * self.wide
@@ -58,8 +59,8 @@ impl Steps {
     // Where the row of the step before step i begins, if there is one: where the bounds have no greatest number, step 0 goes on
     // from itself.
     pub fn source(self, i: usize) -> Option<usize>
-        requires short { i ≤ 100 }
-        requires narrow { self.wide ≤ 161 }
+        requires short { i ≤ BOUND_LIMIT }
+        requires narrow { self.wide ≤ SIZE_LIMIT + 1 }
         ensures { MatchOption result (HasSource self.unbounded i → ⊥)
             (λ row. HasSource self.unbounded i × (row ≡ (i - 1) * self.wide)) }
     {

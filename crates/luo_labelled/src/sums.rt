@@ -1,6 +1,7 @@
 // Numbers of collections, and sums of charges over them, by their first component.
 ghost use Rattle.std.specs.Prelude.{◌≡◌, ◌≤◌, ◌+◌, ◌*◌, ◌-◌, ◌<◌, length, slice_index};
 ghost use Rattle.luo_num.specs.Mark.{capped};
+ghost use Rattle.luo_num.specs.declared.limits.TheConstants.{SIZE_LIMIT};
 ghost use Rattle.luo_labelled.specs.inner.Steps.{is_led, ways, joined, counts_of, totals_of};
 ghost use Rattle.luo_labelled.specs.inner.Steps.{rest_of, row_count, HoldsSource, IsPlanned};
 
@@ -23,7 +24,7 @@ pub fn rest_of(kind: Kind) -> Kind
 fn ways(pascal: &Pascal, kind: Kind, n: usize, j: usize) -> u128
     requires some { 1 ≤ j }
     requires inside { j ≤ n }
-    requires small { n ≤ 160 }
+    requires small { n ≤ SIZE_LIMIT }
     requires reached { n ≤ pascal.now }
     ensures { result ≡ capped (ways (is_led kind) n j) }
 {
@@ -42,7 +43,7 @@ fn joined(
     row: usize,
     n: usize,
 ) -> u128
-    requires small { n ≤ 160 }
+    requires small { n ≤ SIZE_LIMIT }
     requires reached { n ≤ pascal.now }
     requires numbers { n < length numbers.now }
     requires row { row + n ≤ length cells.now }

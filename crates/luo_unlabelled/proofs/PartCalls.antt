@@ -5,6 +5,7 @@ use Rattle.std.proofs.lemmas.List.{length-replicate, length-set, get_or-take, le
 use Rattle.std.proofs.lemmas.Bool.Decides.{nat_tests}
 use Rattle.luo_num.specs.Mark.{capped}
 use Rattle.luo_num.specs.declared.TheConstants.{MAX}
+use Rattle.luo_num.specs.declared.limits.TheConstants.{SIZE_LIMIT}
 use Rattle.luo_model.specs.declared.program.Universe.TheVariants.{Unlabelled}
 use Rattle.luo_model.specs.declared.program.Kind.{Kind}
 use Rattle.luo_model.specs.declared.program.Kind.TheVariants.{Sequence, Set, Cycle, Multiset, Powerset}
@@ -166,6 +167,6 @@ ahead_place t kind low n_max calls high comp ways cells row wide k m p eh en hm 
     let r : k < last_of high n_max + 1 = row_within high k n_max (omega (arith, hk, en)) (subst (λ (o : Option ℕ). IfSome o (λ h. k ≤ h)) (sym eh) hb) in
     place_in (last_of high n_max) k m wide (length row) (omega (arith, ap length er, p.rows, ap (λ x. (last_of high n_max + 1) * x) ew)) (omega (arith, r)) (omega (arith, hm, en, ew))
 
-pub deep_small : (high : Option ℕ) (n_max : ℕ) → n_max ≤ 160 → last_of high n_max + 1 ≤ 161
+pub deep_small : (high : Option ℕ) (n_max : ℕ) → n_max ≤ SIZE_LIMIT → last_of high n_max + 1 ≤ SIZE_LIMIT + 1
 deep_small (Some h) n_max l = omega (arith, l)
 deep_small None n_max l = omega (arith, l)

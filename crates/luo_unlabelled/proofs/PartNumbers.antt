@@ -13,7 +13,7 @@ use Rattle.luo_counting.specs.Numbers.{repeats, chosen, chosen_totals, back, pla
 use Rattle.luo_counting.proofs.Planes.{back-no, times_suc}
 use Rattle.luo_counting.proofs.PlaneTops.{plane-top, is_one}
 use Rattle.luo_unlabelled.specs.Calls.{IsOfParts, up_to}
-use Rattle.luo_unlabelled.specs.inner.Planes.{with_size, AreWays, AreCharges, HoldsPlane, alone, sum_from, last_of}
+use Rattle.luo_unlabelled.specs.inner.Planes.{with_size, AreWays, AreCharges, HoldsPlane, IsSlim, alone, sum_from, last_of}
 use Rattle.luo_unlabelled.proofs.StepLemmas.{alike}
 use Rattle.luo_unlabelled.proofs.PlaneLemmas.{back_there, back_same}
 
@@ -137,14 +137,12 @@ plane_up_to kind a d k n = ⊎_elim
     (λ l. sym (plane_far kind (up_to d a) d k n (omega (arith, l))) ∙ plane_cut kind a d d k n (omega arith))
     (le_or d n)
 
--- there are no more components than the size
-pub plane-past : (kind : Kind) (a : ℕ → ℕ) (d k n : ℕ) → n < k → plane kind a d k n ≡ 0
-plane-past kind a zero zero n h = absurd (omega arith)
-plane-past kind a zero (suc k) n h = refl
-plane-past kind a (suc d) k n h = sum_below-zero (λ j. chosen kind (a (suc d)) j * back (j * suc d) (plane kind a d (k - j)) n) (suc k) (λ j l. ⊎_elim
-    (λ i. ap (λ x. chosen kind (a (suc d)) j * x) (back_there (j * suc d) (plane kind a d (k - j)) n i ∙ plane-past kind a d (k - j) (n - j * suc d) (fewer j d k n h i)) ∙ mul-zero (chosen kind (a (suc d)) j))
-    (λ i. ap (λ x. chosen kind (a (suc d)) j * x) (back-no (j * suc d) (plane kind a d (k - j)) n i) ∙ mul-zero (chosen kind (a (suc d)) j))
-    (le_or (j * suc d) n))
+-- j components of a size, and behind them what is 0 where there are more components than the size
+pub back_past : (f : ℕ → ℕ) (j d k n : ℕ) → n < k → ((x : ℕ) → x < k - j → f x ≡ 0) → back (j * suc d) f n ≡ 0
+back_past f j d k n h z = ⊎_elim
+    (λ i. back_there (j * suc d) f n i ∙ z (n - j * suc d) (fewer j d k n h i))
+    (λ i. back-no (j * suc d) f n i)
+    (le_or (j * suc d) n)
   where
     at_least : (j d : ℕ) → j ≤ j * suc d
     at_least zero d = omega arith
@@ -152,6 +150,18 @@ plane-past kind a (suc d) k n h = sum_below-zero (λ j. chosen kind (a (suc d)) 
 
     fewer : (j d k n : ℕ) → n < k → j * suc d ≤ n → n - j * suc d < k - j
     fewer j d k n h i = omega (arith, h, i, at_least j d)
+
+-- there are no more components than the size
+pub plane-past : (kind : Kind) (a : ℕ → ℕ) (d k n : ℕ) → n < k → plane kind a d k n ≡ 0
+plane-past kind a zero zero n h = absurd (omega arith)
+plane-past kind a zero (suc k) n h = refl
+plane-past kind a (suc d) k n h = sum_below-zero (λ j. chosen kind (a (suc d)) j * back (j * suc d) (plane kind a d (k - j)) n) (suc k)
+    (λ j l. ap (λ x. chosen kind (a (suc d)) j * x) (back_past (plane kind a d (k - j)) j d k n h (λ x q. plane-past kind a d (k - j) x q)) ∙ mul-zero (chosen kind (a (suc d)) j))
+
+-- so the plane has nothing there
+pub slim_plane : (kind : Kind) (a : ℕ → ℕ) (cells : List ℕ) (deep wide rows cols d : ℕ) → rows ≤ deep → cols ≡ wide → HoldsPlane deep wide (plane kind a d) cells → IsSlim cols rows cells
+slim_plane kind a cells deep wide rows cols d l e h = λ k m hk hm q.
+    ap (λ x. slice_index cells (k * x + m)) e ∙ h k m (omega (arith, hk, l)) (omega (arith, hm, e)) ∙ ap capped (plane-past kind a d k m q) ∙ (let z : capped 0 ≡ 0 = omega arith in z)
 
 of_kind : (kind : Kind) (a : ℕ → ℕ) (low : ℕ) (high : Option ℕ) (n : ℕ) → IsOfParts kind → coll_count Unlabelled kind a low high n ≡ sum_below (λ i. plane kind a n (low + i) n) (terms low high n)
 unfolding coll_count

@@ -10,10 +10,10 @@ use Rattle.luo_model.specs.declared.program.Kind.TheVariants.{Sequence, Set, Cyc
 use Rattle.luo_counting.specs.Numbers.{chosen, chosen_totals, back, plane, plane_totals, coll_total, terms}
 use Rattle.luo_counting.proofs.Planes.{back-no, times_suc}
 use Rattle.luo_unlabelled.specs.Calls.{IsOfParts}
-use Rattle.luo_unlabelled.specs.inner.Planes.{with_size, total_put, AreWays, AreCharges, HoldsPlane, IsPut, alone, sum_from, last_of, sum_within, top_total}
+use Rattle.luo_unlabelled.specs.inner.Planes.{with_size, total_put, AreWays, AreCharges, HoldsPlane, IsPut, IsSlim, alone, sum_from, last_of, sum_within, top_total}
 use Rattle.luo_unlabelled.proofs.StepLemmas.{alike}
 use Rattle.luo_unlabelled.proofs.PlaneLemmas.{back_there}
-use Rattle.luo_unlabelled.proofs.PartNumbers.{le_or, chosen-none, plane-beyond, plane_totals-same, total_step, alone_is, alone_none, terms_are}
+use Rattle.luo_unlabelled.proofs.PartNumbers.{le_or, back_past, plane-past, chosen-none, plane-beyond, plane_totals-same, total_step, alone_is, alone_none, terms_are}
 use Rattle.luo_unlabelled.proofs.CallLemmas.{number_kept, number_below}
 
 -- nothing chosen is charged nothing, and one of all is charged what all are
@@ -62,6 +62,18 @@ total-zero kind a b (suc d) k = rest_of kind a b d k 0 (λ j.
     let e : chosen_totals kind (a (suc d)) (b (suc d)) (suc j) * back (suc j * suc d) (plane kind a d (k - suc j)) 0 ≡ 0 = ap (λ x. chosen_totals kind (a (suc d)) (b (suc d)) (suc j) * x) (back-no (suc j * suc d) (plane kind a d (k - suc j)) 0 (omega (arith, behind j d))) ∙ mul-zero (chosen_totals kind (a (suc d)) (b (suc d)) (suc j)) in
     let g : chosen kind (a (suc d)) (suc j) * back (suc j * suc d) (plane_totals kind a b d (k - suc j)) 0 ≡ 0 = ap (λ x. chosen kind (a (suc d)) (suc j) * x) (back-no (suc j * suc d) (plane_totals kind a b d (k - suc j)) 0 (omega (arith, behind j d))) ∙ mul-zero (chosen kind (a (suc d)) (suc j)) in
     omega (arith, e, g)) ∙ total-zero kind a b d k
+
+-- where there are more components than the size, nothing is charged
+totals-past : (kind : Kind) (a b : ℕ → ℕ) (d k n : ℕ) → n < k → plane_totals kind a b d k n ≡ 0
+totals-past kind a b zero k n h = refl
+totals-past kind a b (suc d) k n h = sum_below-zero (λ j. chosen_totals kind (a (suc d)) (b (suc d)) j * back (j * suc d) (plane kind a d (k - j)) n + chosen kind (a (suc d)) j * back (j * suc d) (plane_totals kind a b d (k - j)) n) (suc k) (λ j l.
+    let e : chosen_totals kind (a (suc d)) (b (suc d)) j * back (j * suc d) (plane kind a d (k - j)) n ≡ 0 = ap (λ x. chosen_totals kind (a (suc d)) (b (suc d)) j * x) (back_past (plane kind a d (k - j)) j d k n h (λ x q. plane-past kind a d (k - j) x q)) ∙ mul-zero (chosen_totals kind (a (suc d)) (b (suc d)) j) in
+    let g : chosen kind (a (suc d)) j * back (j * suc d) (plane_totals kind a b d (k - j)) n ≡ 0 = ap (λ x. chosen kind (a (suc d)) j * x) (back_past (plane_totals kind a b d (k - j)) j d k n h (λ x q. totals-past kind a b d (k - j) x q)) ∙ mul-zero (chosen kind (a (suc d)) j) in
+    omega (arith, e, g))
+
+pub slim_totals : (kind : Kind) (a b : ℕ → ℕ) (cells : List ℕ) (deep wide rows cols d : ℕ) → rows ≤ deep → cols ≡ wide → HoldsPlane deep wide (plane_totals kind a b d) cells → IsSlim cols rows cells
+slim_totals kind a b cells deep wide rows cols d l e h = λ k m hk hm q.
+    ap (λ x. slice_index cells (k * x + m)) e ∙ h k m (omega (arith, hk, l)) (omega (arith, hm, e)) ∙ ap capped (totals-past kind a b d k m q) ∙ (let z : capped 0 ≡ 0 = omega arith in z)
 
 -- of a size n: the plane of charges of the smaller sizes, and one component of this size
 total-top : (kind : Kind) (a b : ℕ → ℕ) (n k : ℕ) → (a (suc n) ≡ 0 → b (suc n) ≡ 0) → plane_totals kind a b (suc n) k (suc n) ≡ plane_totals kind a b n k (suc n) + alone (b (suc n)) k

@@ -1,14 +1,14 @@
 -- Cells of planes.
-use Rattle.std.proofs.Common.{◌≡◌, ℕ, zero, suc, ◌+◌, ◌*◌, ◌-◌, ◌≤◌, ◌<◌, ◌⊎◌, ⊎_elim, List, length, set, slice_index, refl, sym, ◌∙◌, ap, arith}
+use Rattle.std.proofs.Common.{◌≡◌, ℕ, zero, suc, ◌+◌, ◌*◌, ◌-◌, ◌/◌, ◌≤◌, ◌<◌, min, ◌⊎◌, ⊎_elim, List, length, set, slice_index, refl, sym, ◌∙◌, ap, arith}
 use Rattle.std.proofs.lemmas.List.{length-set}
-use Rattle.std.proofs.lemmas.Nat.{mul-add-lt, mul-le}
-use Rattle.std.proofs.Math.Nat.{mul-zero}
+use Rattle.std.proofs.lemmas.Nat.{mul-add-lt, mul-le, le-div}
+use Rattle.std.proofs.Math.Nat.{mul-zero, zero-mul, mul-one, mul-add, div-mul-le_self}
 use Rattle.luo_num.specs.Mark.{capped}
 use Rattle.luo_finite.specs.Range.{sum_below}
-use Rattle.luo_finite.proofs.Ranges.{sum_below-same}
+use Rattle.luo_finite.proofs.Ranges.{sum_below-same, sum_below-zero}
 use Rattle.luo_counting.specs.Numbers.{back}
 use Rattle.luo_counting.proofs.Planes.{back-yes, back-no}
-use Rattle.luo_unlabelled.specs.inner.Planes.{with_size, IsRowPut, IsPut, sum_from}
+use Rattle.luo_unlabelled.specs.inner.Planes.{with_size, IsRowPut, IsPut, IsSlim, IsSlimBehind, sum_from}
 use Rattle.luo_unlabelled.proofs.CellLemmas.{cell_same, cell_other}
 use Rattle.luo_unlabelled.proofs.RowLemmas.{sum_below-tail}
 
@@ -32,12 +32,50 @@ copies_more ways cells wide d k m j next sum way rest e n l w r =
     let q : capped (sum + capped (way * rest)) ≡ capped (f j + sum_below f j) = omega (arith, e, t) in
     q ∙ ap (λ i. capped (sum_below f i)) (let g : suc j ≡ next = omega (arith, n) in g)
 
+fits_or : (s m : ℕ) → (s ≤ m) ⊎ (m < s)
+fits_or s m = grind arith
+
+-- where more components are left than size, nothing is there
+behind_none : (cells : List ℕ) (wide d k m i : ℕ) → IsSlimBehind wide d k m cells → i ≤ k → m + i < k + i * d → back (i * d) (λ x. slice_index cells ((k - i) * wide + x)) m ≡ 0
+behind_none cells wide d k m i s l h = ⊎_elim
+    (λ f. back_there (i * d) (λ x. slice_index cells ((k - i) * wide + x)) m f ∙ s i l f (omega (arith, f, h, l)))
+    (λ f. back-no (i * d) (λ x. slice_index cells ((k - i) * wide + x)) m f)
+    (fits_or (i * d) m)
+
 -- the terms behind are 0
 pub copies_whole : (ways cells : List ℕ) (wide d k m j sum most : ℕ) → sum ≡ capped (sum_below (λ j. slice_index ways j * back (j * d) (λ x. slice_index cells ((k - j) * wide + x)) m) j) → j ≡ most + 1 → most ≤ k
-    → ((i : ℕ) → most < i → i ≤ k → m < i * d) → sum ≡ capped (with_size ways cells wide d k m)
-copies_whole ways cells wide d k m j sum most e n l h =
+    → ((i : ℕ) → most < i → i ≤ k → m + i < k + i * d) → IsSlimBehind wide d k m cells → sum ≡ capped (with_size ways cells wide d k m)
+copies_whole ways cells wide d k m j sum most e n l h s =
     let f : ℕ → ℕ = λ j. slice_index ways j * back (j * d) (λ x. slice_index cells ((k - j) * wide + x)) m in
-    e ∙ ap capped (sum_below-tail f j (suc k) (omega (arith, n, l)) (λ i a b. ap (λ x. slice_index ways i * x) (back-no (i * d) (λ x. slice_index cells ((k - i) * wide + x)) m (h i (omega (arith, a, n)) (omega (arith, b)))) ∙ mul-zero (slice_index ways i)))
+    e ∙ ap capped (sum_below-tail f j (suc k) (omega (arith, n, l)) (λ i a b. ap (λ x. slice_index ways i * x) (behind_none cells wide d k m i s (omega (arith, b)) (h i (omega (arith, a, n)) (omega (arith, b)))) ∙ mul-zero (slice_index ways i)))
+
+-- all terms are, where there are more components than the size
+pub copies_none : (ways cells : List ℕ) (wide d k m : ℕ) → 1 ≤ d → m < k → IsSlimBehind wide d k m cells → 0 ≡ capped (with_size ways cells wide d k m)
+copies_none ways cells wide d k m o h s =
+    let f : ℕ → ℕ = λ j. slice_index ways j * back (j * d) (λ x. slice_index cells ((k - j) * wide + x)) m in
+    let z : sum_below f (suc k) ≡ 0 = sum_below-zero f (suc k) (λ i b. ap (λ x. slice_index ways i * x) (behind_none cells wide d k m i s (omega (arith, b)) (omega (arith, h, mul-le i 1 i d (omega arith) o))) ∙ mul-zero (slice_index ways i)) in
+    omega (arith, z)
+
+-- what stands behind a cell is in rows below and in its own
+pub slim_behind : (cells : List ℕ) (wide deep d k m : ℕ) → k < deep → m < wide → IsSlim wide deep cells → IsSlimBehind wide d k m cells
+slim_behind cells wide deep d k m l b s = λ j _ _ q. s (k - j) (m - j * d) (omega (arith, l)) (omega (arith, b)) q
+
+pub slim_less : (cells : List ℕ) (wide deep rows : ℕ) → rows ≤ deep → IsSlim wide deep cells → IsSlim wide rows cells
+slim_less cells wide deep rows l s = λ k m h b q. s k m (omega (arith, h, l)) b q
+
+-- a cell at hand, in a row that has been written up to it
+pub slim_row : (g : List ℕ → ℕ → ℕ → ℕ) (wide d k m : ℕ) (old new : List ℕ) → m < wide → IsSlim wide (k + 1) old → IsRowPut g wide k m old new → IsSlimBehind wide d k m new
+slim_row g wide d k m old new b s r = λ j l f q. by j (j * d) (λ e. ap (λ x. x * d) e ∙ zero-mul d) l f q
+  where
+    by : (j p : ℕ) → (j ≡ 0 → p ≡ 0) → j ≤ k → p ≤ m → m - p < k - j → slice_index new ((k - j) * wide + (m - p)) ≡ 0
+    by zero p z l f q =
+        ap (λ x. slice_index new (x * wide + (m - p))) (let e : k - 0 ≡ k = omega arith in e) ∙ ap (λ x. slice_index new (k * wide + x)) (let e : m - p ≡ m = omega (arith, z refl) in e)
+        ∙ r.rest m (omega arith) b ∙ s k m (omega arith) b (omega (arith, q, z refl))
+    by (suc j) p z l f q = r.others (k - suc j) (m - p) (λ e. omega (arith, e, l)) (omega (arith, b)) ∙ s (k - suc j) (m - p) (omega arith) (omega (arith, b)) q
+
+-- the next row to be written, and those below
+pub slim_put : (g : List ℕ → ℕ → ℕ → ℕ) (wide k first deep : ℕ) (old new : List ℕ) → k < first → first ≤ deep → IsSlim wide deep old → IsPut g wide first deep old new → IsSlim wide (k + 1) new
+slim_put g wide k first deep old new l h s p = λ i m a b q. p.rest i m (omega (arith, a, l)) b ∙ s i m (omega (arith, a, l, h)) b q
 
 pub back_same : (s : ℕ) (f g : ℕ → ℕ) (m : ℕ) → ((x : ℕ) → x ≤ m → s + x ≡ m → f x ≡ g x) → back s f m ≡ back s g m
 back_same zero f g m h = h m (omega arith) (omega arith)
@@ -114,6 +152,25 @@ sum_more low k next sum v f l n e q =
 
 pub sum_whole : (low last k sum : ℕ) (f : ℕ → ℕ) → low ≤ last + 1 → sum ≡ capped (sum_from low k f) → last + 1 ≤ k → (low ≤ last + 1 → k ≤ last + 1) → sum ≡ capped (sum_from low (last + 1) f)
 sum_whole low last k sum f h e l g = e ∙ ap (λ i. capped (sum_from low i f)) (let q : k ≡ last + 1 = omega (arith, l, g h) in q)
+
+-- a component of size d has d - 1 more of size than of components
+one_more : (r d : ℕ) → 1 ≤ d → r * d ≡ r * (d - 1) + r
+one_more r d o =
+    ap (λ x. r * x) (let e : d ≡ d - 1 + 1 = omega (arith, o) in e) ∙ mul-add r (d - 1) 1 ∙ ap (λ x. r * (d - 1) + x) (mul-one r)
+
+pub most_fit : (d k m r : ℕ) → 2 ≤ d → k ≤ m → r ≡ min ((m - k) / (d - 1)) k → r * d ≤ m
+most_fit d k m r o l e =
+    let q : r ≤ (m - k) / (d - 1) = grind (arith, e) in
+    let w : r ≤ k = grind (arith, e) in
+    let t : r * (d - 1) ≤ (m - k) / (d - 1) * (d - 1) = mul-le r (d - 1) ((m - k) / (d - 1)) (d - 1) q (omega arith) in
+    omega (arith, one_more r d (omega (arith, o)), t, div-mul-le_self (m - k) (d - 1), l, w)
+
+-- any more of them leave less size than components
+pub most_past : (d k m r : ℕ) → 2 ≤ d → k ≤ m → r ≡ min ((m - k) / (d - 1)) k → (j : ℕ) → r < j → j ≤ k → m + j < k + j * d
+most_past d k m r o l e j a b = ⊎_elim
+    (λ f. absurd (let q : j ≤ (m - k) / (d - 1) = le-div j (m - k) (d - 1) (omega (arith, o)) f in let w : j ≤ min ((m - k) / (d - 1)) k = grind (arith, q, b) in omega (arith, e, w, a)))
+    (λ f. omega (arith, one_more j d (omega (arith, o)), f, l))
+    (fits_or (j * (d - 1)) (m - k))
 
 pub copies_fit : (d m j most : ℕ) → j ≤ most → most * d ≤ m → j * d ≤ m
 copies_fit d m j most l h = omega (arith, h, mul-le j d most d l (omega arith))

@@ -1,6 +1,7 @@
 // Choices of some of the components of one size.
 ghost use Rattle.std.specs.Prelude.{◌≡◌, ◌+◌, ◌*◌, ◌/◌, ◌<◌, ◌≤◌, ℕ, length, slice_index};
 ghost use Rattle.luo_num.specs.Mark.{capped};
+ghost use Rattle.luo_num.specs.declared.limits.TheConstants.{SIZE_LIMIT};
 ghost use Rattle.luo_num.specs.declared.TheConstants.{MAX};
 ghost use Rattle.luo_finite.specs.Binomial.{choose};
 ghost use Rattle.luo_counting.specs.Numbers.{repeats, repeat_totals, subset_totals, chosen, chosen_totals};
@@ -22,7 +23,7 @@ fn binomial(a: u128, j: usize) -> u128
 // The multisets of j of c things, marked.
 fn multisets(c: u128, j: usize) -> u128
     requires things { c ≤ MAX }
-    requires few { j ≤ 160 }
+    requires few { j ≤ SIZE_LIMIT }
     ensures { result ≡ capped (repeats c j) }
 {
     if j == 0 {
@@ -35,7 +36,7 @@ fn multisets(c: u128, j: usize) -> u128
 // The charges over all multisets of j of c things, marked: each copy is charged. Those over the things are `charge`.
 fn charged_multisets(c: u128, charge: u128, j: usize) -> u128
     requires things { c ≤ MAX }
-    requires few { j ≤ 160 }
+    requires few { j ≤ SIZE_LIMIT }
     ensures { result ≡ capped (repeat_totals c charge j) }
 {
     if j == 0 {
@@ -48,7 +49,7 @@ fn charged_multisets(c: u128, charge: u128, j: usize) -> u128
 // And over all subsets.
 fn charged_subsets(c: u128, charge: u128, j: usize) -> u128
     requires things { c ≤ MAX }
-    requires few { j ≤ 160 }
+    requires few { j ≤ SIZE_LIMIT }
     ensures { result ≡ capped (subset_totals c charge j) }
 {
     if j == 0 || c == 0 {
@@ -61,7 +62,7 @@ fn charged_subsets(c: u128, charge: u128, j: usize) -> u128
 // The choices of a kind.
 fn choices(kind: Kind, c: u128, j: usize) -> u128
     requires things { c ≤ MAX }
-    requires few { j ≤ 160 }
+    requires few { j ≤ SIZE_LIMIT }
     ensures { result ≡ capped (chosen kind c j) }
 {
     match kind {
@@ -73,7 +74,7 @@ fn choices(kind: Kind, c: u128, j: usize) -> u128
 // The charges over them.
 fn charged(kind: Kind, c: u128, charge: u128, j: usize) -> u128
     requires things { c ≤ MAX }
-    requires few { j ≤ 160 }
+    requires few { j ≤ SIZE_LIMIT }
     ensures { result ≡ capped (chosen_totals kind c charge j) }
 {
     match kind {
@@ -86,7 +87,7 @@ fn charged(kind: Kind, c: u128, charge: u128, j: usize) -> u128
 pub fn write_ways(kind: Kind, ways: &mut [u128], c: u128, d: usize)
     requires things { c ≤ MAX }
     requires some { 1 ≤ d }
-    requires long { length ways.old ≤ 161 }
+    requires long { length ways.old ≤ SIZE_LIMIT + 1 }
     requires not_empty { 1 ≤ length ways.old }
     ensures { AreWays kind c d (length ways.old) ways.new }
 {
@@ -99,7 +100,7 @@ pub fn write_ways(kind: Kind, ways: &mut [u128], c: u128, d: usize)
 pub fn write_charges(kind: Kind, charges: &mut [u128], c: u128, charge: u128, d: usize)
     requires things { c ≤ MAX }
     requires some { 1 ≤ d }
-    requires long { length charges.old ≤ 161 }
+    requires long { length charges.old ≤ SIZE_LIMIT + 1 }
     requires not_empty { 1 ≤ length charges.old }
     ensures { AreCharges kind c charge d (length charges.old) charges.new }
 {

@@ -3,7 +3,8 @@
 // fewer components.
 ghost use Rattle.std.specs.Prelude.{◌≡◌, ◌+◌, ◌*◌, ◌-◌, ◌/◌, ◌<◌, ◌≤◌, ℕ, length, set, replicate, slice_index, IfOk};
 ghost use Rattle.luo_num.specs.Mark.{capped};
-ghost use Rattle.luo_unlabelled.specs.inner.Planes.{with_size, count_put, total_put, IsPut, IsRowPut, alone, top_count, top_total, sum_from};
+ghost use Rattle.luo_num.specs.declared.limits.TheConstants.{SIZE_LIMIT};
+ghost use Rattle.luo_unlabelled.specs.inner.Planes.{with_size, count_put, total_put, IsPut, IsRowPut, IsSlim, IsSlimBehind, alone, top_count, top_total, sum_from};
 
 use crate::numbers::zeros;
 use luo_num::{NoMemory, marked_add, marked_mul};
@@ -20,8 +21,8 @@ pub fn cell(cells: &[u128], wide: usize, k: usize, m: usize) -> u128
 // The plane of no sizes: the empty collection alone.
 pub fn empty_plane(alloc: Global, wide: usize, deep: usize) -> Result<Vec<u128>, NoMemory>
     requires some { 1 ≤ deep * wide }
-    requires sizes { wide ≤ 161 }
-    requires rows { deep ≤ 161 }
+    requires sizes { wide ≤ SIZE_LIMIT + 1 }
+    requires rows { deep ≤ SIZE_LIMIT + 1 }
     ensures { IfOk result (λ cells. cells.items ≡ set (replicate (deep * wide) 0) 0 1) }
 {
     let mut cells = zeros(alloc, deep * wide)?;
@@ -29,24 +30,34 @@ pub fn empty_plane(alloc: Global, wide: usize, deep: usize) -> Result<Vec<u128>,
     Ok(cells)
 }
 
-// The most components of size d among k of size m together.
+// The most components of size d among k of size m together, where the others have some size too.
 fn most_copies(d: usize, k: usize, m: usize) -> usize
-    requires { 1 ≤ d }
+    requires some { 1 ≤ d }
+    requires room { k ≤ m }
     ensures within { result ≤ k }
     ensures fits { result * d ≤ m }
-    ensures most { (j : ℕ) → result < j → j ≤ k → m < j * d }
+    ensures most { (j : ℕ) → result < j → j ≤ k → m + j < k + j * d }
 {
-    (m / d).min(k)
+    if d == 1 {
+        k
+    } else {
+        ((m - k) / (d - 1)).min(k)
+    }
 }
 
-// The sum over j of the ways to take j components of size d, times the cell of the others, marked.
+// The sum over j of the ways to take j components of size d, times the cell of the others, marked. Only those j are gone through
+// that leave at least as much size as components.
 fn copies(ways: &[u128], cells: &[u128], wide: usize, d: usize, k: usize, m: usize) -> u128
     requires some { 1 ≤ d }
     requires ways { k < length ways.now }
     requires size { m < wide }
     requires cells { (k + 1) * wide ≤ length cells.now }
+    requires slim { IsSlimBehind wide d k m cells.now }
     ensures { result ≡ capped (with_size ways.now cells.now wide d k m) }
 {
+    if m < k {
+        return 0;
+    }
     let most = most_copies(d, k, m);
     let mut sum = 0;
     for j in 0..most + 1 {
@@ -63,6 +74,7 @@ fn put_row(cells: &mut [u128], ways: &[u128], wide: usize, d: usize, k: usize)
     requires some { 1 ≤ d }
     requires ways { k < length ways.now }
     requires cells { (k + 1) * wide ≤ length cells.old }
+    requires slim { IsSlim wide (k + 1) cells.old }
     ensures { IsRowPut (count_put ways.now wide d) wide k wide cells.old cells.new }
 {
     for m in 0..wide {
@@ -76,6 +88,7 @@ pub fn put(cells: &mut [u128], ways: &[u128], wide: usize, deep: usize, d: usize
     requires some { 1 ≤ d }
     requires ways { deep ≤ length ways.now }
     requires cells { deep * wide ≤ length cells.old }
+    requires slim { IsSlim wide deep cells.old }
     ensures { IsPut (count_put ways.now wide d) wide 0 deep cells.old cells.new }
 {
     for done in 0..deep {
@@ -98,6 +111,8 @@ fn put_total_row(
     requires charges { k < length charges.now }
     requires counts { (k + 1) * wide ≤ length counts.now }
     requires cells { (k + 1) * wide ≤ length cells.old }
+    requires slim_counts { IsSlim wide (k + 1) counts.now }
+    requires slim { IsSlim wide (k + 1) cells.old }
     ensures { IsRowPut
         (total_put ways.now charges.now counts.now wide d) wide k wide cells.old cells.new }
 {
@@ -123,6 +138,8 @@ pub fn put_total(
     requires charges { deep ≤ length charges.now }
     requires counts { deep * wide ≤ length counts.now }
     requires cells { deep * wide ≤ length cells.old }
+    requires slim_counts { IsSlim wide deep counts.now }
+    requires slim { IsSlim wide deep cells.old }
     ensures { IsPut
         (total_put ways.now charges.now counts.now wide d) wide 0 deep cells.old cells.new }
 {
@@ -143,6 +160,7 @@ fn top_count(cells: &[u128], ways: &[u128], wide: usize, n: usize, here: u128, k
     requires ways { k < length ways.now }
     requires size { n < wide }
     requires cells { (k + 1) * wide ≤ length cells.now }
+    requires slim { IsSlim wide (k + 1) cells.now }
     ensures { result ≡ capped (top_count ways.now cells.now wide n here k) }
 {
     if n < 2 {
@@ -166,6 +184,7 @@ pub fn count_within(
     requires ways { last < length ways.now }
     requires size { n < wide }
     requires cells { (last + 1) * wide ≤ length cells.now }
+    requires slim { IsSlim wide (last + 1) cells.now }
     ensures { result ≡ capped (sum_from low (last + 1) (top_count ways.now cells.now wide n here)) }
 {
     let mut sum = 0;

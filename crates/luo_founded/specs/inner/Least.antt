@@ -1,5 +1,6 @@
 -- Least sizes by the construct, from those of the parts.
-use Rattle.std.specs.Prelude.{◌≡◌, ◌⊎◌, ℕ, ◌≤◌, ◌<◌, ◌*◌, List, [], ◌∷◌, min, sum_by, Option, Some, None, length, slice_get}
+use Rattle.std.specs.Prelude.{◌≡◌, ◌⊎◌, ℕ, ◌≤◌, ◌<◌, ◌+◌, ◌*◌, List, [], ◌∷◌, min, sum_by, Option, Some, None, length, slice_get}
+use Rattle.luo_num.specs.declared.limits.TheConstants.{SIZE_LIMIT}
 use Rattle.luo_model.specs.declared.program.Node.{Node}
 use Rattle.luo_model.specs.declared.program.Part.{Part}
 use Rattle.luo_model.specs.declared.program.Shape.{Shape}
@@ -8,9 +9,9 @@ use Rattle.luo_model.specs.Tree.{Tree}
 use Rattle.luo_model.specs.Program.{Program, shape_of}
 use Rattle.luo_model.specs.Structures.{IsStructure}
 
--- a number for sizes past the last that is asked of
+-- a number for sizes past the last of a table
 abbrev pub past_last : ℕ
-past_last = 161
+past_last = SIZE_LIMIT + 1
 
 abbrev pub least_part : (ℕ → ℕ) → List Part → ℕ
 least_part T [] = past_last
@@ -27,10 +28,10 @@ least_by T (shape.Coll kind part low high) = low * T part.node
 abbrev pub IsSettled : Program → (ℕ → ℕ) → Type 0
 IsSettled p T = (x : ℕ) → T x ≤ least_by T (shape_of p x)
 
--- n is the least size of a structure of node x, or 161 where each is larger than 160
+-- n is the least size of a structure of node x, where it is within the sizes of tables; where it is past them, each is at least n
 pub record IsLeastTo (p : Program) (x n : ℕ) : Type 0 where
   pub low : (m : ℕ) (s : Tree) → IsStructure p x m s → n ≤ m
-  pub there : n ≤ 160 → (s : Tree) × IsStructure p x n s
+  pub there : n ≤ SIZE_LIMIT → (s : Tree) × IsStructure p x n s
 
 abbrev pub or_past : Option ℕ → ℕ
 or_past None = past_last
@@ -40,7 +41,7 @@ or_past (Some n) = n
 abbrev pub size_at : List ℕ → ℕ → ℕ
 size_at table x = or_past (slice_get table x)
 
--- no number of the table is above 161
+-- no number of the table is above the one for sizes past the last
 abbrev pub IsCapped : List ℕ → Type 0
 IsCapped table = (x n : ℕ) → slice_get table x ≡ Some n → n ≤ past_last
 

@@ -1,5 +1,6 @@
 -- Collections within bounds, step by step.
 use Rattle.std.specs.Prelude.{◌≡◌, ℕ, zero, suc, ◌+◌, ◌*◌, ◌-◌, ◌≤◌, ◌<◌, Bool, true, false, List, length, slice_index, Option, Some, None}
+use Rattle.luo_num.specs.declared.limits.TheConstants.{BOUND_LIMIT, SIZE_LIMIT}
 use Rattle.luo_num.specs.Mark.{capped}
 use Rattle.luo_finite.specs.Range.{sum_below}
 use Rattle.luo_finite.specs.Binomial.{choose}
@@ -96,15 +97,15 @@ HoldsRow wide f i n cells = (m : ℕ) → m < n → slice_index cells (i * wide 
 -- a plan for collections of a kind
 pub record IsPlan (s : Steps) (kind : Kind) : Type 0 where
   pub chained : Suits Labelled kind 1
-  pub short : s.last ≤ 100
-  pub narrow : s.wide ≤ 161
+  pub short : s.last ≤ BOUND_LIMIT
+  pub narrow : s.wide ≤ SIZE_LIMIT + 1
   pub may_begin : IsOpen kind s.free s.last
 
 -- step i of a plan, at size n
 pub record IsPlanned (s : Steps) (kind : Kind) (i n : ℕ) : Type 0 where
   pub chained : Suits Labelled kind 1
-  pub short : s.last ≤ 100
-  pub narrow : s.wide ≤ 161
+  pub short : s.last ≤ BOUND_LIMIT
+  pub narrow : s.wide ≤ SIZE_LIMIT + 1
   pub may_begin : IsOpen kind s.free i
   pub inside : i ≤ s.last
   pub size : n < s.wide

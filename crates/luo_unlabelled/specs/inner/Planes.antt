@@ -22,6 +22,14 @@ AreCharges kind c t d wide charges = (j : ℕ) → j * d < wide → slice_index 
 abbrev pub HoldsPlane : ℕ → ℕ → (ℕ → ℕ → ℕ) → List ℕ → Type 0
 HoldsPlane deep wide f cells = (k m : ℕ) → k < deep → m < wide → slice_index cells (k * wide + m) ≡ capped (f k m)
 
+-- in the rows below `deep` nothing stands for more components than the size
+abbrev pub IsSlim : ℕ → ℕ → List ℕ → Type 0
+IsSlim wide deep cells = (k m : ℕ) → k < deep → m < wide → m < k → slice_index cells (k * wide + m) ≡ 0
+
+-- nor in the cells from which cell m of row k goes on, with components of size d
+abbrev pub IsSlimBehind : ℕ → ℕ → ℕ → ℕ → List ℕ → Type 0
+IsSlimBehind wide d k m cells = (j : ℕ) → j ≤ k → j * d ≤ m → m - j * d < k - j → slice_index cells ((k - j) * wide + (m - j * d)) ≡ 0
+
 -- row k has been written up to cell m: g says what from the old cells
 pub record IsRowPut (g : List ℕ → ℕ → ℕ → ℕ) (wide k m : ℕ) (old new : List ℕ) : Type 0 where
   pub long : length new ≡ length old
