@@ -1,0 +1,6 @@
+//! The interpreter: what a procedure charges on a structure.
+#![tactic(auto)]
+
+mod charges;
+
+pub use charges::charge;
