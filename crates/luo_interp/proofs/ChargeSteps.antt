@@ -1,8 +1,8 @@
 -- What a procedure charges, step by step of the interpreter.
-use Rattle.std.proofs.Common.{◌≡◌, ℕ, zero, suc, ◌+◌, ◌-◌, ◌*◌, ◌^◌, ◌<◌, ◌≤◌, List, [], ◌∷◌, inl, inr, ⊎_elim, length, drop, get_or, map, max, min, refl, sym, ap, subst, ◌∙◌, arith, Some, None, slice_get}
+use Rattle.std.proofs.Common.{◌≡◌, ℕ, zero, suc, ◌+◌, ◌-◌, ◌<◌, ◌≤◌, List, [], ◌∷◌, inl, inr, ⊎_elim, length, drop, get_or, map, max, refl, sym, ap, subst, ◌∙◌, arith, Some, None, slice_get}
 use Rattle.std.proofs.lemmas.List.{drop_all, drop_more}
 use Rattle.std.proofs.lemmas.Option.{slice_get_within}
-use Rattle.luo_finite.specs.Walk.{Walk, OnCircle}
+use Rattle.luo_finite.specs.Walk.{OnCircle}
 use Rattle.luo_finite.proofs.Places.{get_map, length_map, some_same, none_some}
 use Rattle.luo_finite.proofs.Walks.{no_path, few_steps}
 use Rattle.luo_num.specs.Mark.{capped}
@@ -13,8 +13,6 @@ use Rattle.luo_model.specs.declared.body.Body.{Body}
 use Rattle.luo_model.specs.declared.body.Item.{Item, Case, Forall, Call}
 use Rattle.luo_model.specs.declared.body.Bind.{Bind}
 use Rattle.luo_model.specs.declared.body.Bind.TheVariants.{Nothing, Whole, Parts}
-use Rattle.luo_model.specs.declared.program.Node.{Node}
-use Rattle.luo_model.specs.declared.program.Part.{Part}
 use Rattle.luo_model.specs.declared.program.Proc.{Proc}
 use Rattle.luo_model.specs.declared.program.Shape.{Shape}
 use Rattle.luo_model.specs.declared.program.Shape.TheVariants as shape
@@ -23,11 +21,11 @@ use Rattle.luo_model.specs.Tree as tree
 use Rattle.luo_model.specs.Program as plain
 use Rattle.luo_model.specs.Program.{Program, Procedure, Arms, no_arms, arm, shape_of}
 use Rattle.luo_model.specs.Charges.{parts_of, bound, EachCharges, BodyCharges, ItemsCharge, ItemCharges, CaseCharges, ChargesWithin, Charges, Work, of_call, of_case, of_walk, WorkCharges}
-use Rattle.luo_model.specs.Founded.{CallsAmong, CallsIn, OwnCall, IsFounded}
+use Rattle.luo_model.specs.Founded.{CallsAmong, OwnCall, IsFounded}
 use Rattle.luo_model.specs.Invariant.{IsProgram, IsAllowed}
 use Rattle.luo_model.specs.Lists.{arm_list}
 use Rattle.luo_model.specs.Member.{Member}
-use Rattle.luo_model.specs.Scopes.{FitsBody, FitsItems, FitsItem, FitsArms, Stand, itself, stands, component, MayBind, bound_nodes}
+use Rattle.luo_model.specs.Scopes.{FitsItems, FitsItem, FitsArms, Stand, itself, stands, component, MayBind, bound_nodes}
 use Rattle.luo_model.specs.View.{Held, plain_of, procedure_of, item_of, item_list, body_of}
 use Rattle.luo_model.proofs.NodeLemmas.{node_at_place}
 use Rattle.luo_model.proofs.SiteLemmas.{procedures_charge_their_bodies}
@@ -273,7 +271,7 @@ item_stops p (plain.Call var callee site) vars q e c = none_some c.0 (sym e ∙ 
 item_stops p (plain.Case var arms site) vars q e c = none_some c.0 (sym e ∙ c.1)
 item_stops p (plain.Forall var body body_site site) vars q e c = none_some (Coll c.0) (sym e ∙ c.1)
 
-no_get : {A : Type 0} (xs : List A) (i : ℕ) → length xs ≤ i → slice_get xs i ≡ None
+pub no_get : {A : Type 0} (xs : List A) (i : ℕ) → length xs ≤ i → slice_get xs i ≡ None
 no_get [] i h = refl
 no_get (x ∷ xs) zero h = absurd (omega arith)
 no_get (x ∷ xs) (suc i) h = no_get xs i (omega arith)

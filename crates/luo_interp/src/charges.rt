@@ -1,15 +1,14 @@
 // What procedures charge on structures.
-ghost use Rattle.std.specs.Prelude.{◌≡◌, ◌≤◌, ◌<◌, ℕ, Some, slice_get, MatchResult};
-ghost use Rattle.luo_num.specs.Mark.{capped};
+ghost use Rattle.std.specs.Prelude.{◌≡◌, ◌≤◌, ◌<◌, ℕ, MatchResult};
 ghost use Rattle.luo_num.specs.declared.TheConstants.{MAX};
 ghost use Rattle.luo_model.specs.Charges.{bound, BodyCharges, ItemsCharge, ItemCharges, CaseCharges, Charges, of_walk, WorkCharges};
 ghost use Rattle.luo_model.specs.Founded.{IsFounded};
 ghost use Rattle.luo_model.specs.Lists.{arm_list};
-ghost use Rattle.luo_model.specs.Member.{Member};
-ghost use Rattle.luo_model.specs.Program.{Procedure};
 ghost use Rattle.luo_model.specs.Tree.{to_list};
 ghost use Rattle.luo_model.specs.View.{plain_of, item_of, item_list, body_of};
 ghost use Rattle.luo_struct.specs.View.{tree_of, tree_list};
+ghost use Rattle.luo_interp.specs.Takes.{Takes};
+ghost use Rattle.luo_interp.specs.inner.Marked.{Marks};
 ghost use Rattle.luo_interp.specs.inner.Short.{Ends, IsShort, AreShort, BodyIsShort, ItemIsShort, StandsBody, StandItems, StandsItem, StandArms};
 
 use luo_founded::Ranks;
@@ -19,7 +18,7 @@ use luo_struct::Structure;
 use std::slice;
 
 // The structures that an arm binds of this one.
-fn bound(bind: Bind, s: &Structure) -> &[Structure]
+pub(crate) fn bound(bind: Bind, s: &Structure) -> &[Structure]
     ensures { to_list (tree_list result.now) ≡ bound bind (tree_of s.now) }
 {
     match bind {
@@ -38,7 +37,7 @@ fn bound(bind: Bind, s: &Structure) -> &[Structure]
 fn procedure_charge(program: &Program, left: usize, callee: usize, s: &Structure) -> u128
     requires ends { Ends (plain_of program.now) }
     requires short { IsShort (plain_of program.now) left callee }
-    ensures { (q : ℕ) → Charges (plain_of program.now) callee (tree_of s.now) q → result ≡ capped q }
+    ensures { Marks (Charges (plain_of program.now) callee (tree_of s.now)) result }
 {
     match program.procs.get(callee) {
         Some(procedure) => body_charge(program, left - 1, &procedure.body, slice::from_ref(s)),
@@ -52,7 +51,8 @@ fn body_charge(program: &Program, left: usize, body: &Body, vars: &[Structure]) 
     requires ends { Ends (plain_of program.now) }
     requires stands { StandsBody (plain_of program.now) (body_of body.now) }
     requires short { BodyIsShort (plain_of program.now) left (body_of body.now) }
-    ensures { (q : ℕ) → BodyCharges (Charges (plain_of program.now)) (body_of body.now) (to_list (tree_list vars.now)) q → result ≡ capped q }
+    ensures { Marks (BodyCharges (Charges (plain_of program.now)) (body_of body.now)
+        (to_list (tree_list vars.now))) result }
 {
     let items = items_charge(program, left, body.items.as_slice(), vars);
     marked_add(body.own, items)
@@ -64,7 +64,8 @@ fn items_charge(program: &Program, left: usize, items: &[Item], vars: &[Structur
     requires ends { Ends (plain_of program.now) }
     requires stand { StandItems (plain_of program.now) (item_list items.now) }
     requires short { AreShort (plain_of program.now) left (item_list items.now) }
-    ensures { (q : ℕ) → ItemsCharge (Charges (plain_of program.now)) (item_list items.now) (to_list (tree_list vars.now)) q → result ≡ capped q }
+    ensures { Marks (ItemsCharge (Charges (plain_of program.now)) (item_list items.now)
+        (to_list (tree_list vars.now))) result }
 {
     let mut sum = 0;
     for item in items {
@@ -79,7 +80,8 @@ fn item_charge(program: &Program, left: usize, item: &Item, vars: &[Structure]) 
     requires ends { Ends (plain_of program.now) }
     requires stands { StandsItem (plain_of program.now) (item_of item.now) }
     requires short { ItemIsShort (plain_of program.now) left (item_of item.now) }
-    ensures { (q : ℕ) → ItemCharges (Charges (plain_of program.now)) (item_of item.now) (to_list (tree_list vars.now)) q → result ≡ capped q }
+    ensures { Marks (ItemCharges (Charges (plain_of program.now)) (item_of item.now)
+        (to_list (tree_list vars.now))) result }
 {
     match item {
         Item::Call { var, callee, .. } => match vars.get(*var) {
@@ -102,7 +104,8 @@ fn item_charge(program: &Program, left: usize, item: &Item, vars: &[Structure]) 
 fn case_charge(program: &Program, arms: &[Arm], s: &Structure) -> u128
     requires ends { Ends (plain_of program.now) }
     requires stand { StandArms (plain_of program.now) (arm_list arms.now) }
-    ensures { (q : ℕ) → CaseCharges (Charges (plain_of program.now)) (arm_list arms.now) (tree_of s.now) q → result ≡ capped q }
+    ensures { Marks (CaseCharges (Charges (plain_of program.now)) (arm_list arms.now)
+        (tree_of s.now)) result }
 {
     match s {
         Structure::Inj { branch, inner } => {
@@ -130,7 +133,8 @@ fn case_charge(program: &Program, arms: &[Arm], s: &Structure) -> u128
 fn arm_charge(program: &Program, arm: &Arm, vars: &[Structure]) -> u128
     requires ends { Ends (plain_of program.now) }
     requires stands { StandsBody (plain_of program.now) (body_of arm.now.body) }
-    ensures { (q : ℕ) → BodyCharges (Charges (plain_of program.now)) (body_of arm.now.body) (to_list (tree_list vars.now)) q → result ≡ capped q }
+    ensures { Marks (BodyCharges (Charges (plain_of program.now)) (body_of arm.now.body)
+        (to_list (tree_list vars.now))) result }
 {
     body_charge(program, program.procs.len() + 1, &arm.body, vars)
 }
@@ -140,7 +144,8 @@ fn arm_charge(program: &Program, arm: &Arm, vars: &[Structure]) -> u128
 fn walk_charge(program: &Program, body: &Body, s: &Structure) -> u128
     requires ends { Ends (plain_of program.now) }
     requires stands { StandsBody (plain_of program.now) (body_of body.now) }
-    ensures { (q : ℕ) → WorkCharges (plain_of program.now) (of_walk (body_of body.now)) (tree_of s.now) q → result ≡ capped q }
+    ensures { Marks (WorkCharges (plain_of program.now) (of_walk (body_of body.now))
+        (tree_of s.now)) result }
 {
     let Structure::Coll { parts } = s else {
         return 0;
@@ -161,8 +166,10 @@ fn walk_charge(program: &Program, body: &Body, s: &Structure) -> u128
 pub fn charge(program: &Program, ranks: &Ranks, callee: usize, s: &Structure) -> Result<u128, Over>
     requires same { ranks.now ≡ program.now }
     requires founded { IsFounded (plain_of program.now) }
-    requires there { (P : Procedure) × (slice_get (plain_of program.now).procs callee ≡ Some P) × Member (plain_of program.now) P.on.node (tree_of s.now) }
-    ensures { MatchResult result (λ q. Charges (plain_of program.now) callee (tree_of s.now) q × (q ≤ MAX)) (λ _. (q : ℕ) × Charges (plain_of program.now) callee (tree_of s.now) q × (MAX < q)) }
+    requires there { Takes (plain_of program.now) callee (tree_of s.now) }
+    ensures { MatchResult result
+        (λ q. Charges (plain_of program.now) callee (tree_of s.now) q × (q ≤ MAX))
+        (λ _. (q : ℕ) × Charges (plain_of program.now) callee (tree_of s.now) q × (MAX < q)) }
 {
     let _ = ranks;
     let charge = procedure_charge(program, program.procs.len() + 1, callee, s);

@@ -1,8 +1,6 @@
-use Rattle.std.proofs.Common.{◌≡◌, ℕ, ◌∷◌, [], Some, length, refl, sym, ap, subst, ◌∙◌, arith, slice_get}
-use Rattle.luo_num.specs.Mark.{capped}
+use Rattle.std.proofs.Common.{◌≡◌, ◌∷◌, [], length, refl, sym, ap, subst, ◌∙◌, arith}
 use Rattle.luo_model.specs.declared.body.Item.{Item}
-use Rattle.luo_model.specs.Charges.{BodyCharges, EachCharges, ItemsCharge, ItemCharges, Charges, WorkCharges, of_walk}
-use Rattle.luo_model.specs.Invariant.{IsProgram}
+use Rattle.luo_model.specs.Charges.{BodyCharges, EachCharges, ItemsCharge, ItemCharges, Charges}
 use Rattle.luo_model.specs.Program as plain
 use Rattle.luo_model.specs.Tree.{to_list}
 use Rattle.luo_model.specs.View.{Held, plain_of, procedure_of, item_of, item_list, body_of}
@@ -11,7 +9,7 @@ use Rattle.luo_model.proofs.ViewLemmas.{case_item, walk_item}
 use Rattle.luo_struct.specs.declared.structure.Structure.{Structure}
 use Rattle.luo_struct.specs.View.{tree_of, tree_list}
 use Rattle.luo_struct.proofs.ViewLemmas.{tuple_tree, collection_tree, branch_tree}
-use Rattle.luo_interp.proofs.ChargeSteps.{reach, beneath, some_parts, part_reach, got, sum_next, sum_end, some_left, call_short, body_charges, no_procedure, tree_at, item_stands, case_stands, walk_stands, arm_stands, item_short, called, item_charged, item_unbound, body_charged, branch_charged, branch_missing, tuple_charged, nothing_bound, more_arms, branch_falls, tuple_falls, part_falls, few, all_left, proc_at, no_proc, walked}
+use Rattle.luo_interp.proofs.ChargeSteps.{reach, some_parts, part_reach, got, sum_next, sum_end, some_left, call_short, body_charges, no_procedure, tree_at, item_stands, case_stands, walk_stands, arm_stands, item_short, called, item_charged, item_unbound, body_charged, branch_charged, branch_missing, tuple_charged, nothing_bound, more_arms, branch_falls, tuple_falls, part_falls, few, all_left, proc_at, no_proc, walked}
 use Rattle.luo_interp.proofs.charges.+charges.Goals as goal
 
 pub arm_charge-body_charge-requires : goal.arm_charge-body_charge-requires

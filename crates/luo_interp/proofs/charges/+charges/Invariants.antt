@@ -1,4 +1,4 @@
-use Rattle.std.proofs.Common.{ℕ, ◌+◌, ◌*◌, ◌^◌, ◌∷◌, [], length}
+use Rattle.std.proofs.Common.{◌+◌, ◌*◌, ◌^◌, ◌∷◌, [], length}
 use Rattle.luo_model.specs.declared.body.Item.{Item}
 use Rattle.luo_model.specs.Tree.{to_list}
 use Rattle.luo_model.specs.Charges.{BodyCharges, EachCharges, ItemsCharge, Charges}

@@ -1,4 +1,4 @@
-use Rattle.std.proofs.Common.{length, subst, ap, ◌∙◌, ◌≡◌, ◌<◌, arith}
+use Rattle.std.proofs.Common.{length, subst, ap, ◌∙◌}
 use Rattle.luo_model.specs.Invariant.{IsProgram}
 use Rattle.luo_model.specs.View.{Held, plain_of}
 use Rattle.luo_struct.specs.View.{tree_of}
