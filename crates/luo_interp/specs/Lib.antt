@@ -1,0 +1,4 @@
+pub mod Takes
+pub mod Makes
+pub mod Laws
+pub mod inner

@@ -1,0 +1,4 @@
+pub mod Short
+pub mod Marked
+pub mod Values
+pub mod ValueSizes

@@ -1,0 +1,47 @@
+-- Values of the code, their calls, and how far calls go on one structure.
+use Rattle.std.specs.Prelude.{◌≡◌, ◌⊎◌, ℕ, List, [], ◌∷◌}
+use Rattle.luo_model.specs.declared.value.Value as made
+use Rattle.luo_model.specs.declared.value.ValueArm.{ValueArm}
+use Rattle.luo_model.specs.Program.{Program, Value, Made, Tuple, Branch, Values, no_values, value, ValueArms, no_value_arms, value_arm, shape_of}
+use Rattle.luo_model.specs.Scopes.{FitsValue, FitsValues, FitsValueArms, stands}
+use Rattle.luo_model.specs.View.{value_of}
+use Rattle.luo_interp.specs.inner.Short.{IsShort}
+
+-- the values and arms of a list
+abbrev pub value_list : List made.Value → Values
+value_list [] = no_values
+value_list (v ∷ vs) = value (value_of v) (value_list vs)
+
+abbrev pub value_arm_list : List ValueArm → ValueArms
+value_arm_list [] = no_value_arms
+value_arm_list (a ∷ arms) = value_arm a.bind (value_of a.value) (value_arm_list arms)
+
+abbrev mutual
+  -- a value calls g in its own scope
+  pub ValueCalls : ℕ → Value → Type 0
+  ValueCalls g (Made var callee) = callee ≡ g
+  ValueCalls g (Tuple vs) = ValuesCall g vs
+  ValueCalls g (Branch number v) = ValueCalls g v
+  ValueCalls g _ = ⊥
+
+  pub ValuesCall : ℕ → Values → Type 0
+  ValuesCall g no_values = ⊥
+  ValuesCall g (value v vs) = ValueCalls g v ⊎ ValuesCall g vs
+
+-- from what a value calls, calls on the same structure go on for less than so many steps
+abbrev pub ValueIsShort : Program → ℕ → Value → Type 0
+ValueIsShort p left v = (g : ℕ) → ValueCalls g v → IsShort p left g
+
+abbrev pub ValuesAreShort : Program → ℕ → Values → Type 0
+ValuesAreShort p left vs = (g : ℕ) → ValuesCall g vs → IsShort p left g
+
+-- what makes structures of some nodes in a scope of some variables
+abbrev pub StandsValue : Program → Value → Type 0
+StandsValue p v = (vars : List ℕ) × (expected : ℕ) × FitsValue p vars expected v
+
+abbrev pub StandValues : Program → Values → Type 0
+StandValues p vs = (vars : List ℕ) × (nodes : List ℕ) × FitsValues p vars nodes vs
+
+-- the arms of a case on some node
+abbrev pub StandValueArms : Program → ValueArms → Type 0
+StandValueArms p arms = (x : ℕ) × (expected : ℕ) × FitsValueArms p (stands x (shape_of p x)) expected arms
