@@ -1,0 +1,49 @@
+//! Laws: the core form of a source keeps what the source means.
+#![tactic(auto)]
+
+ghost use Rattle.luo_meaning.specs.Laws.{StructuresAreKept, ConstructsAreKept, ChargesAreKept, CountsAreKept, TotalsAreKept, RowsAreKept, TablesAreKept, OverIsKept, WalksAreKept};
+
+/// The members of a definition's node are the structures of its name.
+pub fn structures_are_kept()
+    ensures { StructuresAreKept }
+{}
+
+/// The nodes of the core form are the constructs of the source, with the same structures.
+pub fn constructs_are_kept()
+    ensures { ConstructsAreKept }
+{}
+
+/// A procedure of the core form charges what the one of its name does.
+pub fn charges_are_kept()
+    ensures { ChargesAreKept }
+{}
+
+/// The counts of nodes are the counts of constructs.
+pub fn counts_are_kept()
+    ensures { CountsAreKept }
+{}
+
+/// The totals of sites are the totals of sites of the source.
+pub fn totals_are_kept()
+    ensures { TotalsAreKept }
+{}
+
+/// The rows of a procedure are those of the one in its place of the source.
+pub fn rows_are_kept()
+    ensures { RowsAreKept }
+{}
+
+/// The tables of the analyze lines are those of the source.
+pub fn tables_are_kept()
+    ensures { TablesAreKept }
+{}
+
+/// A count or total of the core form is too large exactly where one of the source is.
+pub fn over_is_kept()
+    ensures { OverIsKept }
+{}
+
+/// The core form has as many walks over multisets and powersets as the source.
+pub fn walks_are_kept()
+    ensures { WalksAreKept }
+{}
