@@ -19,3 +19,6 @@ pub mod OverKept
 pub mod TablesKept
 pub mod WalksKept
 pub mod CheckedSource
+pub mod Held
+pub mod ValuesMade
+pub mod ProceduresMade

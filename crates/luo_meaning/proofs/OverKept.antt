@@ -1,13 +1,13 @@
 -- The core form keeps counts and totals, and so whether one is too large.
-use Rattle.std.proofs.Common.{◌≡◌, ◌⊎◌, ◌↔◌, ℕ, zero, suc, ◌+◌, ◌≤◌, ◌<◌, List, [], ◌∷◌, ◌++◌, length, Some, slice_get, refl, sym, ap, ◌∙◌, subst, inl, inr, arith}
+use Rattle.std.proofs.Common.{◌≡◌, ◌⊎◌, ◌↔◌, ℕ, zero, suc, ◌+◌, ◌<◌, List, [], ◌∷◌, ◌++◌, length, Some, slice_get, refl, sym, ap, ◌∙◌, subst, inl, inr, arith}
 use Rattle.std.specs.Prelude.{flat_map}
 use Rattle.luo_finite.specs.Listing.{In, Totals}
 use Rattle.luo_model.specs.Tree.{Tree}
-use Rattle.luo_model.specs.Program.{Program, Procedure, site_node}
+use Rattle.luo_model.specs.Program.{Program, Procedure}
 use Rattle.luo_model.specs.Invariant.{IsProgram}
 use Rattle.luo_model.specs.Member.{Member}
 use Rattle.luo_model.specs.Structures.{IsStructure}
-use Rattle.luo_model.specs.Charges.{of_body, Charges, BodyCharges, WorkCharges, SiteCharges}
+use Rattle.luo_model.specs.Charges.{of_body, Charges, BodyCharges, WorkCharges}
 use Rattle.luo_model.proofs.SiteLemmas.{procedures_charge_their_bodies}
 use Rattle.luo_source.specs.declared.types.TypeExpr.{TypeExpr, Named}
 use Rattle.luo_source.specs.declared.source.ProcBody.{ProcBody}
@@ -30,7 +30,7 @@ use Rattle.luo_rules.proofs.CleanSource.{Clean, clean_proc, def_node_is}
 use Rattle.luo_meaning.specs.Structures.{IsOf}
 use Rattle.luo_meaning.specs.Charges.{ProcCharges}
 use Rattle.luo_meaning.specs.Rows.{IsStructureOf}
-use Rattle.luo_meaning.specs.Sites.{SomeBodySite, SomeSiteOf}
+use Rattle.luo_meaning.specs.Sites.{SomeBodySite}
 use Rattle.luo_meaning.specs.Constructs.{IsConstructOf}
 use Rattle.luo_meaning.specs.Rows.{IsTotalOf}
 use Rattle.luo_meaning.specs.Over.{HasCount, HasTotal, HasOver}
@@ -39,9 +39,10 @@ use Rattle.luo_meaning.specs.Laws.{IsOver}
 use Rattle.luo_meaning.proofs.ProceduresKept.{charges_kept}
 use Rattle.luo_meaning.proofs.SiteWorks.{InBody, InProcs, some_site}
 use Rattle.luo_meaning.proofs.Sits.{all_nodes}
-use Rattle.luo_meaning.proofs.NodesKept.{sits_kept, node_kept, construct_kept}
+use Rattle.luo_meaning.proofs.NodesKept.{node_kept, construct_kept}
 use Rattle.luo_meaning.proofs.RowsKept.{clean_source, measures_none, counts_same, totals_same, named_sits}
 use Rattle.luo_meaning.proofs.Typing.{Holds}
+use Rattle.luo_meaning.proofs.Held.{held}
 use Rattle.luo_meaning.proofs.TypedScopes.{typed_one}
 use Rattle.luo_meaning.proofs.SitesKept.{Related, At, list_some}
 use Rattle.luo_meaning.proofs.ValueSitesKept.{value_some}
@@ -145,13 +146,10 @@ module _ (source : Source) (is : IsSource source) (unbroken : breaches source �
         (k.0, k.1, counts_same (IsStructureOf source h.0 n) (IsStructure (core source) k.0 n) v (λ t. let b = structures k.0 h.0 k.2 n t in (b.1, b.0)) h.2),
   )
 
-  held : (x : ℕ) (e : TypeExpr) → Holds source x e → (t : Tree) → Member (core source) x t ↔ IsOf source e t
-  held x e h t = subst (λ y. Member (core source) y t ↔ IsOf source e t) h.at (sits_kept source c e h.owner h.spot h.sits t)
-
   related : (n v : ℕ) → Related source (NodeTotal (core source) n v) (TotalOf source n v)
   related n v x e C D h same = (
-    λ q. totals_same (IsStructure (core source) x n) (IsStructureOf source e n) C D v (λ t. structures x e (held x e h) n t) (λ t r. (same t r).0) q,
-    λ q. totals_same (IsStructureOf source e n) (IsStructure (core source) x n) D C v (λ t. let b = structures x e (held x e h) n t in (b.1, b.0)) (λ t r. (same t r).1) q,
+    λ q. totals_same (IsStructure (core source) x n) (IsStructureOf source e n) C D v (λ t. structures x e (held source c x e h) n t) (λ t r. (same t r).0) q,
+    λ q. totals_same (IsStructureOf source e n) (IsStructure (core source) x n) D C v (λ t. let b = structures x e (held source c x e h) n t in (b.1, b.0)) (λ t r. (same t r).1) q,
   )
 
   proper : (k : ℕ) (p : ProcDef) → slice_get source.procs k ≡ Some p → ProperProc p × (slice_get source.procs (0 + k) ≡ Some p)

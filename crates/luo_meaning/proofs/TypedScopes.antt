@@ -74,7 +74,7 @@ module _ (source : Source) (c : Clean source) where
   by_factors x n e (Product' size parts token) l h q t = (exprs_in parts, product_of l)
   by_factors x n e (Coll' kind size part bound token) l h q t = let f : false ≡ true = sym (ap (has_factors n) (shape_of_construct source c (Coll' kind size part bound token) x tt h refl)) ∙ t in absurd (cc)
 
-  factors_up : (x n : ℕ) (e : TypeExpr) → Holds source x e → has_factors n (shape_at_node source x) ≡ true → (es : List TypeExpr) × IsProductOf source e es
+  pub factors_up : (x n : ℕ) (e : TypeExpr) → Holds source x e → has_factors n (shape_at_node source x) ≡ true → (es : List TypeExpr) × IsProductOf source e es
   factors_up x n e h t = let u = up source c x e h in by_factors x n e u.k u.to u.holds u.is_construct t
 
   -- what a pattern binds, by node and by type

@@ -15,6 +15,8 @@ use Rattle.luo_rules.specs.Checks.{IsSource, IsChecked}
 use Rattle.luo_rules.specs.Whole.{IsCore, walk_count}
 use Rattle.luo_meaning.specs.Structures.{IsOf}
 use Rattle.luo_meaning.specs.Charges.{ProcCharges}
+use Rattle.luo_meaning.specs.Makes.{Makes}
+use Rattle.luo_meaning.specs.Made.{ProcMakes}
 use Rattle.luo_meaning.specs.Constructs.{IsConstructOf}
 use Rattle.luo_meaning.specs.Rows.{IsRowOf, AreTablesOf}
 use Rattle.luo_meaning.specs.Over.{HasCount, HasTotal, HasOver}
@@ -37,6 +39,11 @@ ConstructsAreKept =
 abbrev pub ChargesAreKept : Type 0
 ChargesAreKept =
     (source : Source) (p : Program) → IsSource source → IsCore source p → (f : ℕ) (P : Procedure) → slice_get p.procs f ≡ Some P → (t : Tree) (q : ℕ) → Charges p f t q ↔ ProcCharges source P.name t q
+
+-- a procedure makes what the one of its name does
+abbrev pub MadeIsKept : Type 0
+MadeIsKept =
+    (source : Source) (p : Program) → IsSource source → IsCore source p → (f : ℕ) (P : Procedure) → slice_get p.procs f ≡ Some P → (t r : Tree) → Makes p f t r ↔ ProcMakes source P.name t r
 
 -- a number is the count of some node exactly where it is that of some construct
 abbrev pub CountsAreKept : Type 0

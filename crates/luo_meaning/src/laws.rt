@@ -1,7 +1,7 @@
 //! Laws: the core form of a source keeps what the source means.
 #![tactic(auto)]
 
-ghost use Rattle.luo_meaning.specs.Laws.{StructuresAreKept, ConstructsAreKept, ChargesAreKept, CountsAreKept, TotalsAreKept, RowsAreKept, TablesAreKept, OverIsKept, WalksAreKept};
+ghost use Rattle.luo_meaning.specs.Laws.{StructuresAreKept, ConstructsAreKept, ChargesAreKept, MadeIsKept, CountsAreKept, TotalsAreKept, RowsAreKept, TablesAreKept, OverIsKept, WalksAreKept};
 
 /// The members of a definition's node are the structures of its name.
 pub fn structures_are_kept()
@@ -16,6 +16,11 @@ pub fn constructs_are_kept()
 /// A procedure of the core form charges what the one of its name does.
 pub fn charges_are_kept()
     ensures { ChargesAreKept }
+{}
+
+/// A procedure of the core form makes what the one of its name does.
+pub fn made_is_kept()
+    ensures { MadeIsKept }
 {}
 
 /// The counts of nodes are the counts of constructs.
