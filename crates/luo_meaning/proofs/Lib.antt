@@ -22,3 +22,4 @@ pub mod CheckedSource
 pub mod Held
 pub mod ValuesMade
 pub mod ProceduresMade
+pub mod SourceMeanings

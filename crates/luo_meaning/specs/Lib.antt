@@ -10,4 +10,5 @@ pub mod Rows
 pub mod Sites
 pub mod Over
 pub mod Walks
+pub mod Facts
 pub mod Laws

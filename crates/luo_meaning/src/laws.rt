@@ -1,6 +1,7 @@
-//! Laws: the core form of a source keeps what the source means.
+//! Laws: the core form of a source keeps what the source means; and what small sources mean.
 #![tactic(auto)]
 
+ghost use Rattle.luo_meaning.specs.Facts.{BinaryTreesOfTwo, PathLengths, PermutationsOfTwo, FewCyclesOfTwo, BothIsMade};
 ghost use Rattle.luo_meaning.specs.Laws.{StructuresAreKept, ConstructsAreKept, ChargesAreKept, MadeIsKept, CountsAreKept, TotalsAreKept, RowsAreKept, TablesAreKept, OverIsKept, WalksAreKept};
 
 /// The members of a definition's node are the structures of its name.
@@ -51,4 +52,29 @@ pub fn over_is_kept()
 /// The core form has as many walks over multisets and powersets as the source.
 pub fn walks_are_kept()
     ensures { WalksAreKept }
+{}
+
+/// Of two inner nodes there are two binary trees.
+pub fn binary_trees_of_two()
+    ensures { BinaryTreesOfTwo }
+{}
+
+/// The path lengths of three binary trees.
+pub fn path_lengths()
+    ensures { PathLengths }
+{}
+
+/// Two points have two permutations, as sets of cycles.
+pub fn permutations_of_two()
+    ensures { PermutationsOfTwo }
+{}
+
+/// One of them has two cycles.
+pub fn few_cycles_of_two()
+    ensures { FewCyclesOfTwo }
+{}
+
+/// What a procedure with a result makes of two pairs, and charges.
+pub fn both_is_made()
+    ensures { BothIsMade }
 {}
