@@ -27,7 +27,8 @@ use Rattle.luo_rules.proofs.CleanSource.{Clean, clean}
 use Rattle.luo_meaning.specs.Structures.{IsOf}
 use Rattle.luo_meaning.specs.Rows.{IsStructureOf}
 use Rattle.luo_meaning.specs.Charges.{ProcCharges}
-use Rattle.luo_meaning.specs.Facts.{AreAllOf, ChargesJust, point, leaf, inner, zero_bit, one_bit, bits, BinaryTreesOfTwo, PathLengths, PermutationsOfTwo, FewCyclesOfTwo, BothIsMade}
+use Rattle.luo_meaning.specs.Examples.{choices}
+use Rattle.luo_meaning.specs.Facts.{AreAllOf, ChargesJust, point, leaf, inner, zero_bit, one_bit, bits, first_kind, second_kind, CyclesAreCharged, ChoicesOfTwo, BinaryTreesOfTwo, PathLengths, PermutationsOfTwo, FewCyclesOfTwo, BothIsMade}
 use Rattle.luo_meaning.specs.Makes.{Makes}
 use Rattle.luo_meaning.specs.Made.{ProcMakes}
 use Rattle.luo_meaning.proofs.RowsKept.{type_kept}
@@ -63,6 +64,23 @@ permutations_clean = clean permutations_source (record { right_sides = (tt, ((re
 
 few_cycles_clean : Clean few_cycles
 few_cycles_clean = clean few_cycles (record { right_sides = (tt, ((refl, (tt, tt)), ((refl, (tt, tt)), tt))); values = (omega arith, tt); bodies = (((tt, tt), tt), tt) }) refl
+
+pub cycles_are_charged : CyclesAreCharged
+cycles_are_charged = (
+  just permutations_source permutations_clean refl (codes "cycles") 0 (Coll (more (Coll (more (point 1) (more (point 2) none))) none)) 1 refl refl,
+  just permutations_source permutations_clean refl (codes "cycles") 0 (Coll (more (Coll (more (point 1) none)) (more (Coll (more (point 2) none)) none))) 2 refl refl,
+)
+
+choices_clean : Clean choices
+choices_clean = clean choices (record { right_sides = (tt, ((omega arith, (tt, (tt, tt))), ((refl, (tt, tt)), ((refl, (tt, tt)), tt)))); values = (omega arith, tt); bodies = (((tt, tt), tt), tt) }) refl
+
+pub choices_of_two : ChoicesOfTwo
+unfolding order_of
+choices_of_two = (
+  all_of choices choices_clean (codes "u") 3 3 0 (Coll none ∷ []) refl refl refl,
+  all_of choices choices_clean (codes "u") 3 3 2 (Coll (more second_kind (more first_kind none)) ∷ []) refl refl refl,
+  all_of choices choices_clean (codes "x") 4 4 2 (Coll (more first_kind (more first_kind none)) ∷ Coll (more second_kind (more first_kind none)) ∷ Coll (more second_kind (more second_kind none)) ∷ []) refl refl refl,
+)
 
 copying_proper : ProperSource copying.types copying.measures copying.procs
 copying_proper = record {

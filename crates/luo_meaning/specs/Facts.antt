@@ -5,6 +5,7 @@ use Rattle.luo_model.specs.Tree.{Tree, Atom, Inj, Tup, Coll, none, more}
 use Rattle.luo_source.specs.declared.types.TypeExpr.{TypeExpr, Named}
 use Rattle.luo_source.specs.declared.source.Source.{Source}
 use Rattle.luo_rules.specs.Sources.{binary_source, permutations_source, few_cycles, copying}
+use Rattle.luo_meaning.specs.Examples.{choices}
 use Rattle.luo_meaning.specs.Rows.{IsStructureOf}
 use Rattle.luo_meaning.specs.Charges.{ProcCharges}
 use Rattle.luo_meaning.specs.Made.{ProcMakes}
@@ -48,6 +49,26 @@ PermutationsOfTwo =
 -- where exactly two cycles are allowed, only the second remains
 abbrev pub FewCyclesOfTwo : Type 0
 FewCyclesOfTwo = AreAllOf few_cycles (codes "perm") 2 (Coll (more (Coll (more (point 1) none)) (more (Coll (more (point 2) none)) none)) ∷ [])
+
+-- a walk over the cycles of a permutation charges one for each
+abbrev pub CyclesAreCharged : Type 0
+CyclesAreCharged =
+    ChargesJust permutations_source (codes "cycles") (Coll (more (Coll (more (point 1) (more (point 2) none))) none)) 1
+    × ChargesJust permutations_source (codes "cycles") (Coll (more (Coll (more (point 1) none)) (more (Coll (more (point 2) none)) none))) 2
+
+-- one of two kinds of points
+abbrev pub first_kind : Tree
+first_kind = Inj 1 (point 0)
+
+abbrev pub second_kind : Tree
+second_kind = Inj 2 (point 0)
+
+-- of at most two points of two kinds: one set is empty, one has both kinds, and with copies there are three of two points
+abbrev pub ChoicesOfTwo : Type 0
+ChoicesOfTwo =
+    AreAllOf choices (codes "u") 0 (Coll none ∷ [])
+    × AreAllOf choices (codes "u") 2 (Coll (more second_kind (more first_kind none)) ∷ [])
+    × AreAllOf choices (codes "x") 2 (Coll (more first_kind (more first_kind none)) ∷ Coll (more second_kind (more first_kind none)) ∷ Coll (more second_kind (more second_kind none)) ∷ [])
 
 -- a bit that is `zero` or `one`, and two bits as a tuple
 abbrev pub zero_bit : Tree

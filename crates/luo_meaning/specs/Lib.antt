@@ -10,5 +10,6 @@ pub mod Rows
 pub mod Sites
 pub mod Over
 pub mod Walks
+pub mod Examples
 pub mod Facts
 pub mod Laws

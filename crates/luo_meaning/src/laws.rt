@@ -1,7 +1,7 @@
 //! Laws: the core form of a source keeps what the source means; and what small sources mean.
 #![tactic(auto)]
 
-ghost use Rattle.luo_meaning.specs.Facts.{BinaryTreesOfTwo, PathLengths, PermutationsOfTwo, FewCyclesOfTwo, BothIsMade};
+ghost use Rattle.luo_meaning.specs.Facts.{BinaryTreesOfTwo, PathLengths, PermutationsOfTwo, FewCyclesOfTwo, CyclesAreCharged, ChoicesOfTwo, BothIsMade};
 ghost use Rattle.luo_meaning.specs.Laws.{StructuresAreKept, ConstructsAreKept, ChargesAreKept, MadeIsKept, CountsAreKept, TotalsAreKept, RowsAreKept, TablesAreKept, OverIsKept, WalksAreKept};
 
 /// The members of a definition's node are the structures of its name.
@@ -77,4 +77,14 @@ pub fn few_cycles_of_two()
 /// What a procedure with a result makes of two pairs, and charges.
 pub fn both_is_made()
     ensures { BothIsMade }
+{}
+
+/// A walk over the cycles of a permutation charges one for each.
+pub fn cycles_are_charged()
+    ensures { CyclesAreCharged }
+{}
+
+/// Sets and collections with copies of at most two points of two kinds.
+pub fn choices_of_two()
+    ensures { ChoicesOfTwo }
 {}
