@@ -16,7 +16,8 @@ use Rattle.luo_rules.proofs.Lists.{some_same, none_some}
 use Rattle.luo_rules.proofs.CleanSource.{Clean}
 use Rattle.luo_meaning.specs.Structures.{exprs_in, IsOf}
 use Rattle.luo_meaning.specs.Types.{LeadsTo, IsUnionOf, union_of, IsProductOf, product_of}
-use Rattle.luo_meaning.proofs.Sits.{AllSit, IsConstruct, shape_at_node, head_sits, tail_sits, union_sits, product_sits}
+use Rattle.luo_meaning.specs.Constructs.{IsConstruct}
+use Rattle.luo_meaning.proofs.Sits.{AllSit, shape_at_node, head_sits, tail_sits, union_sits, product_sits}
 use Rattle.luo_meaning.proofs.NodesKept.{sits_kept}
 use Rattle.luo_meaning.proofs.Typing.{Holds, down, up, union_shape, product_shape, shape_of_construct}
 
@@ -66,7 +67,7 @@ module _ (source : Source) (c : Clean source) where
       let k = down source c l x h in
       row_branch k.owner (behind k.spot 1) parts (union_sits source k.owner k.spot size parts k.sits) number y (ap (λ z. branch_of z number) (sym (union_shape source c size parts x k)) ∙ b)
 
-  by_branch : (x : ℕ) (e k : TypeExpr) → LeadsTo source k e → Holds source x k → IsConstruct source k → (number y : ℕ) → branch_of (shape_at_node source x) number ≡ Some y → (es : List TypeExpr) × IsUnionOf source e es
+  by_branch : (x : ℕ) (e k : TypeExpr) → LeadsTo source k e → Holds source x k → IsConstruct k → (number y : ℕ) → branch_of (shape_at_node source x) number ≡ Some y → (es : List TypeExpr) × IsUnionOf source e es
   by_branch x e (Named name) l h q number y b = absurd q
   by_branch x e (Epsilon token) l h q number y b = absurd (none_some y (ap (λ z. branch_of z number) (sym (shape_of_construct source c (Epsilon token) x tt h refl)) ∙ b))
   by_branch x e (Atom weight weight_at token) l h q number y b = absurd (none_some y (ap (λ z. branch_of z number) (sym (shape_of_construct source c (Atom weight weight_at token) x tt h refl)) ∙ b))

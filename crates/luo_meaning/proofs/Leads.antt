@@ -17,11 +17,12 @@ use Rattle.luo_meaning.specs.Structures.{IsOf}
 use Rattle.luo_meaning.specs.Structures.{by_name}
 use Rattle.luo_meaning.specs.Types.{LeadsTo, itself}
 use Rattle.luo_meaning.specs.Types as sites
+use Rattle.luo_meaning.specs.Constructs.{IsConstruct}
 use Rattle.luo_meaning.proofs.Named.{type_named}
-use Rattle.luo_meaning.proofs.Sits.{Sits, IsConstruct, definition_sits}
+use Rattle.luo_meaning.proofs.Sits.{Sits, definition_sits}
 
 -- a name, or a construct
-pub sort_of : (source : Source) (e : TypeExpr) → ((name : Name) × (e ≡ Named name)) ⊎ IsConstruct source e
+pub sort_of : (source : Source) (e : TypeExpr) → ((name : Name) × (e ≡ Named name)) ⊎ IsConstruct e
 sort_of source (Named name) = inl (name, refl)
 sort_of source (Epsilon at) = inr tt
 sort_of source (Atom weight weight_at at) = inr tt
@@ -29,7 +30,7 @@ sort_of source (Union' size parts) = inr tt
 sort_of source (Product' size parts at) = inr tt
 sort_of source (Coll' kind size part bound at) = inr tt
 
-names_none : (source : Source) (e : TypeExpr) → IsConstruct source e → named_by (names_of source) e ≡ None
+names_none : (source : Source) (e : TypeExpr) → IsConstruct e → named_by (names_of source) e ≡ None
 names_none source (Named name) q = absurd q
 names_none source (Epsilon at) q = refl
 names_none source (Atom weight weight_at at) q = refl
@@ -37,7 +38,7 @@ names_none source (Union' size parts) q = refl
 names_none source (Product' size parts at) q = refl
 names_none source (Coll' kind size part bound at) q = refl
 
-bare_node : (source : Source) (at : Spot) (e : TypeExpr) → IsConstruct source e → (part_at (names_of source) (definitions source) at e).node ≡ at.node
+pub bare_node : (source : Source) (at : Spot) (e : TypeExpr) → IsConstruct e → (part_at (names_of source) (definitions source) at e).node ≡ at.node
 bare_node source at (Named name) q = absurd q
 bare_node source at (Epsilon token) q = refl
 bare_node source at (Atom weight weight_at token) q = refl
@@ -50,7 +51,7 @@ pub record Leads (source : Source) (node : ℕ) (e : TypeExpr) : Type 0 where
   pub owner : ℕ
   pub spot : Spot
   pub construct : TypeExpr
-  pub is_construct : IsConstruct source construct
+  pub is_construct : IsConstruct construct
   pub sits : Sits source owner spot construct
   pub at : node ≡ spot.node
   pub back : (t : Tree) → IsOf source construct t → IsOf source e t

@@ -2,7 +2,7 @@ pub mod NamesMean
 pub mod Named
 pub mod Sits
 pub mod Leads
-pub mod MembersKept
+pub mod StructuresKept
 pub mod Steps
 pub mod StatementsKept
 pub mod ValuesKept

@@ -15,11 +15,11 @@ use Rattle.luo_rules.proofs.CoreNodes.{at_node}
 use Rattle.luo_rules.proofs.CleanSource.{Clean}
 use Rattle.luo_meaning.specs.Structures.{exprs_in}
 use Rattle.luo_meaning.specs.Structures.{IsOf}
-use Rattle.luo_meaning.specs.Constructs.{IsIn, itself, in_union, in_product, in_collection, IsConstructOf}
-use Rattle.luo_meaning.specs.Constructs as inside
+use Rattle.luo_meaning.specs.Constructs.{IsIn, IsConstruct, itself, in_union, in_product, in_collection, IsConstructOf}
 use Rattle.luo_meaning.proofs.Named.{type_named, named_type}
-use Rattle.luo_meaning.proofs.Sits.{all_nodes, Sits, AllSit, head_sits, tail_sits, union_sits, product_sits, coll_sits, row_back, definition_sits}
-use Rattle.luo_meaning.proofs.MembersKept.{member_is_of, of_is_member}
+use Rattle.luo_meaning.proofs.Sits.{first_same, all_nodes, Sits, AllSit, head_sits, tail_sits, union_sits, product_sits, coll_sits, row_back, definition_sits}
+use Rattle.luo_meaning.proofs.Leads.{bare_node}
+use Rattle.luo_meaning.proofs.StructuresKept.{member_is_of, of_is_member}
 
 -- node x is that of a construct inside a type expression
 pub record SitsIn (source : Source) (owner : ℕ) (whole : TypeExpr) (x : ℕ) : Type 0 where
@@ -27,7 +27,7 @@ pub record SitsIn (source : Source) (owner : ℕ) (whole : TypeExpr) (x : ℕ) :
   pub spot : Spot
   pub at : spot.node ≡ x
   pub sits : Sits source owner spot sub
-  pub is_construct : inside.IsConstruct sub
+  pub is_construct : IsConstruct sub
   pub is_in : IsIn sub whole
 
 -- node x is that of a construct inside a part of a row
@@ -37,11 +37,8 @@ record RowHolds (source : Source) (owner : ℕ) {n : _} (row : Row_of-TypeExpr n
   pub is : slice_get (exprs_in row) i ≡ Some e
   pub holds : SitsIn source owner e x
 
-first_same : (x y : TypeExpr) → x ∷ [] ≡ y ∷ [] → x ≡ y
-first_same x y e = cc
-
 module _ (source : Source) where
-  here : (owner : ℕ) (at : Spot) (e : TypeExpr) → inside.IsConstruct e → Sits source owner at e → SitsIn source owner e (at.node + 0)
+  here : (owner : ℕ) (at : Spot) (e : TypeExpr) → IsConstruct e → Sits source owner at e → SitsIn source owner e (at.node + 0)
   here owner at e q s = record { sub = e; spot = at; at = omega arith; sits = s; is_construct = q; is_in = itself }
 
   moved : (owner : ℕ) (whole : TypeExpr) (x y : ℕ) → x ≡ y → SitsIn source owner whole x → SitsIn source owner whole y
@@ -98,21 +95,13 @@ module _ (source : Source) where
       inside_sits h owner (behind at 1) (subst (Sits source owner (behind at 1)) (first_same b.e f (sym b.one ∙ one)) b.sits)
 
   -- the node of a construct is there
-  node_below : (e : TypeExpr) (owner : ℕ) (at : Spot) → inside.IsConstruct e → Sits source owner at e → (part_at (names_of source) (definitions source) at e).node < length (all_nodes source)
+  node_below : (e : TypeExpr) (owner : ℕ) (at : Spot) → IsConstruct e → Sits source owner at e → (part_at (names_of source) (definitions source) at e).node < length (all_nodes source)
   node_below (Named name) owner at q s = absurd q
   node_below (Epsilon token) owner at q s = omega (arith, below_get (all_nodes source) (at.node + 0) _ (s.there 0 _ refl))
   node_below (Atom weight weight_at token) owner at q s = omega (arith, below_get (all_nodes source) (at.node + 0) _ (s.there 0 _ refl))
   node_below (Union' size parts) owner at q s = omega (arith, below_get (all_nodes source) (at.node + 0) _ (s.there 0 _ refl))
   node_below (Product' size parts token) owner at q s = omega (arith, below_get (all_nodes source) (at.node + 0) _ (s.there 0 _ refl))
   node_below (Coll' kind size part bound token) owner at q s = omega (arith, below_get (all_nodes source) (at.node + 0) _ (s.there 0 _ refl))
-
-  bare_at : (e : TypeExpr) (at : Spot) → inside.IsConstruct e → (part_at (names_of source) (definitions source) at e).node ≡ at.node
-  bare_at (Named name) at q = absurd q
-  bare_at (Epsilon token) at q = refl
-  bare_at (Atom weight weight_at token) at q = refl
-  bare_at (Union' size parts) at q = refl
-  bare_at (Product' size parts token) at q = refl
-  bare_at (Coll' kind size part bound token) at q = refl
 
 module _ (source : Source) (c : Clean source) where
   pub sits_kept : (e : TypeExpr) (owner : ℕ) (at : Spot) → Sits source owner at e → (t : Tree) → Member (core source) (part_at (names_of source) (definitions source) at e).node t ↔ IsOf source e t
@@ -125,7 +114,7 @@ module _ (source : Source) (c : Clean source) where
       let defs = definitions source in
       let a = at_node source.universe names defs c.all x node h in
       let r = node_sits source a.d.right a.j (start names defs (first_node defs a.j)) (definition_sits source c a.j a.d a.is_definition) a.m node a.is_node in
-      let at : (part_at names defs r.spot r.sub).node ≡ x = bare_at source r.sub r.spot r.is_construct ∙ (r.at ∙ sym a.number) in
+      let at : (part_at names defs r.spot r.sub).node ≡ x = bare_node source r.spot r.sub r.is_construct ∙ (r.at ∙ sym a.number) in
       let own = (c.all.each a.j a.d a.is_definition).own_name in (
         r.sub,
         (a.d.name.text, a.d.right, type_named source c a.d.name.text a.j a.d own a.is_definition, r.is_in, r.is_construct),

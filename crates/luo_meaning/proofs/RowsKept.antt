@@ -34,7 +34,7 @@ use Rattle.luo_meaning.specs.Structures.{IsOf}
 use Rattle.luo_meaning.specs.Charges.{ProcCharges}
 use Rattle.luo_meaning.specs.Rows.{IsStructureOf, IsRowOf}
 use Rattle.luo_meaning.proofs.Sits.{Sits}
-use Rattle.luo_meaning.proofs.MembersKept.{member_is_of, of_is_member}
+use Rattle.luo_meaning.proofs.StructuresKept.{member_is_of, of_is_member}
 use Rattle.luo_meaning.proofs.ProceduresKept.{charges_kept}
 use Rattle.luo_model.proofs.WorkLemmas.{sites_are_apart}
 use Rattle.luo_meaning.proofs.SiteNodes.{whole_node_of}

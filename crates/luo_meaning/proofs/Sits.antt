@@ -19,10 +19,15 @@ use Rattle.luo_rules.proofs.NodeLists.{nodes_length}
 use Rattle.luo_rules.proofs.ProperTypes.{ProperType, ProperTypes}
 use Rattle.luo_rules.proofs.CleanSource.{Clean}
 use Rattle.luo_rules.proofs.CoreNodes.{there_node}
+use Rattle.luo_meaning.specs.Constructs.{IsConstruct}
 use Rattle.luo_meaning.specs.Structures.{exprs_in}
 
 abbrev pub all_nodes : Source → List Node
 all_nodes source = nodes_from (names_of source) (definitions source) 0 0 (definitions source)
+
+-- what one box holds is one
+pub first_same : (x y : TypeExpr) → x ∷ [] ≡ y ∷ [] → x ≡ y
+first_same x y e = cc
 
 -- these nodes stand from this number on
 abbrev pub StandFrom : Source → ℕ → List Node → Type 0
@@ -69,10 +74,6 @@ module _ (source : Source) where
 
   first_here : (x : ℕ) (node : Node) (ns : List Node) → StandFrom source x (node ∷ ns) → (slice_index_or (all_nodes source) x no_node) ≡ node
   first_here x node ns h = index_get (all_nodes source) x node no_node (ap (slice_get (all_nodes source)) (omega arith) ∙ h zero node refl)
-
-  abbrev pub IsConstruct : TypeExpr → Type 0
-  IsConstruct (Named name) = ⊥
-  IsConstruct _ = Unit {0}
 
   -- the construct of the first node of a type expression at this spot
   abbrev pub shape_in : Spot → TypeExpr → Shape

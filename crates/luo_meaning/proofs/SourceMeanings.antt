@@ -1,13 +1,10 @@
 -- What small sources mean, computed on their core forms.
-use Rattle.std.proofs.Common.{◌≡◌, ◌↔◌, ◌≤◌, ℕ, List, [], ◌∷◌, true, Some, codes, refl, sym, ◌∙◌, subst, arith}
-use Rattle.luo_finite.specs.Listing.{Lists}
+use Rattle.std.proofs.Common.{◌≡◌, ◌↔◌, ℕ, List, [], ◌∷◌, true, Some, codes, refl, subst, arith}
 use Rattle.luo_finite.proofs.Listings.{Lists-iff}
 use Rattle.luo_model.specs.Order.{order_of}
-use Rattle.luo_model.specs.Tree.{Tree, Atom, Inj, Tup, Coll, none, more}
-use Rattle.luo_model.specs.Program.{Program}
+use Rattle.luo_model.specs.Tree.{Tree, Coll, none, more}
 use Rattle.luo_model.specs.Member.{Member}
 use Rattle.luo_model.specs.Structures.{IsStructure}
-use Rattle.luo_model.specs.Charges.{Charges}
 use Rattle.luo_model.proofs.Searched.{is_listing, listing_is}
 use Rattle.luo_model.proofs.Decided.{deep}
 use Rattle.luo_model.proofs.Computed.{charge_within, charge_is}
@@ -26,9 +23,8 @@ use Rattle.luo_rules.proofs.SourceFacts.{all_get}
 use Rattle.luo_rules.proofs.CleanSource.{Clean, clean}
 use Rattle.luo_meaning.specs.Structures.{IsOf}
 use Rattle.luo_meaning.specs.Rows.{IsStructureOf}
-use Rattle.luo_meaning.specs.Charges.{ProcCharges}
-use Rattle.luo_meaning.specs.Examples.{choices}
-use Rattle.luo_meaning.specs.Facts.{AreAllOf, ChargesJust, point, leaf, inner, zero_bit, one_bit, bits, first_kind, second_kind, CyclesAreCharged, ChoicesOfTwo, BinaryTreesOfTwo, PathLengths, PermutationsOfTwo, FewCyclesOfTwo, BothIsMade}
+use Rattle.luo_meaning.specs.Examples.{choices, spines}
+use Rattle.luo_meaning.specs.Facts.{AreAllOf, ChargesJust, point, leaf, inner, zero_bit, one_bit, bits, first_kind, second_kind, CyclesAreCharged, ChoicesOfTwo, BinaryTreesOfTwo, PathLengths, SpinesAreCharged, PermutationsOfTwo, FewCyclesOfTwo, BothIsMade}
 use Rattle.luo_meaning.specs.Makes.{Makes}
 use Rattle.luo_meaning.specs.Made.{ProcMakes}
 use Rattle.luo_meaning.proofs.RowsKept.{type_kept}
@@ -101,6 +97,18 @@ path_lengths = (
   just binary_source binary_clean refl (codes "path") 1 (inner (inner leaf leaf) leaf) 1 refl refl,
   just binary_source binary_clean refl (codes "path") 1 (inner leaf (inner leaf leaf)) 1 refl refl,
   just binary_source binary_clean refl (codes "path") 1 (inner (inner (inner leaf leaf) leaf) leaf) 3 refl refl,
+)
+
+spines_clean : Clean spines
+spines_clean =
+    clean spines
+    (record { right_sides = (tt, (tt, ((omega arith, (tt, ((omega arith, (tt, (tt, (tt, tt)))), tt))), tt))); values = (omega arith, tt); bodies = (((omega arith, (tt, ((tt, (tt, tt)), tt))), tt), tt) })
+    refl
+
+pub spines_are_charged : SpinesAreCharged
+spines_are_charged = (
+  just spines spines_clean refl (codes "spine") 0 (inner (inner leaf leaf) leaf) 2 refl refl,
+  just spines spines_clean refl (codes "spine") 0 (inner leaf (inner leaf leaf)) 1 refl refl,
 )
 
 pub permutations_of_two : PermutationsOfTwo

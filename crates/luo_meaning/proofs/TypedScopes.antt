@@ -21,7 +21,8 @@ use Rattle.luo_rules.proofs.CleanSource.{Clean}
 use Rattle.luo_rules.proofs.PatternFacts.{and_right}
 use Rattle.luo_meaning.specs.Structures.{exprs_in}
 use Rattle.luo_meaning.specs.Types.{LeadsTo, IsProductOf, product_of, Types, type_of, typed, BindsTypes}
-use Rattle.luo_meaning.proofs.Sits.{AllSit, IsConstruct, shape_at_node, head_sits, tail_sits, product_sits}
+use Rattle.luo_meaning.specs.Constructs.{IsConstruct}
+use Rattle.luo_meaning.proofs.Sits.{AllSit, shape_at_node, head_sits, tail_sits, product_sits}
 use Rattle.luo_meaning.proofs.Typing.{Holds, AgreeTypes, down, up, product_shape, shape_of_construct}
 
 -- one step of finding: the variable itself, or one behind it
@@ -66,7 +67,7 @@ module _ (source : Source) (c : Clean source) where
       (λ name v g. let r = typed_row k.owner (behind k.spot 1) parts (product_sits source k.owner k.spot size parts at k.sits) 0 names name.text v g in
       record { there = ap (slice_get _) (r.1 ∙ omega arith) ∙ r.2; e = r.3.0; type = r.3.1; holds = r.3.2 })
 
-  by_factors : (x n : ℕ) (e k : TypeExpr) → LeadsTo source k e → (h : Holds source x k) → IsConstruct source k → has_factors n (shape_at_node source x) ≡ true → (es : List TypeExpr) × IsProductOf source e es
+  by_factors : (x n : ℕ) (e k : TypeExpr) → LeadsTo source k e → (h : Holds source x k) → IsConstruct k → has_factors n (shape_at_node source x) ≡ true → (es : List TypeExpr) × IsProductOf source e es
   by_factors x n e (Named name) l h q t = absurd q
   by_factors x n e (Epsilon token) l h q t = let f : false ≡ true = sym (ap (has_factors n) (shape_of_construct source c (Epsilon token) x tt h refl)) ∙ t in absurd (cc)
   by_factors x n e (Atom weight weight_at token) l h q t = let f : false ≡ true = sym (ap (has_factors n) (shape_of_construct source c (Atom weight weight_at token) x tt h refl)) ∙ t in absurd (cc)

@@ -17,12 +17,10 @@ use Rattle.luo_rules.proofs.CleanSource.{Clean}
 use Rattle.luo_meaning.specs.Structures.{exprs_in}
 use Rattle.luo_meaning.specs.Types.{LeadsTo, IsUnionOf, union_of, IsProductOf, product_of, IsCollectionOf, collection_of, Types, type_of, typed, BindsTypes, AreStands}
 use Rattle.luo_meaning.specs.Types as sites
+use Rattle.luo_meaning.specs.Constructs.{IsConstruct}
 use Rattle.luo_meaning.proofs.Named.{named_type}
-use Rattle.luo_meaning.proofs.Sits.{Sits, AllSit, IsConstruct, shape_in, shape_at_node, shape_here, head_sits, tail_sits, union_sits, coll_sits, definition_sits}
+use Rattle.luo_meaning.proofs.Sits.{first_same, Sits, AllSit, shape_in, shape_at_node, shape_here, head_sits, tail_sits, union_sits, coll_sits, definition_sits}
 use Rattle.luo_meaning.proofs.Leads.{leads}
-
-first_same : (x y : TypeExpr) → x ∷ [] ≡ y ∷ [] → x ≡ y
-first_same x y e = cc
 
 -- node x stands for this type expression
 pub record Holds (source : Source) (x : ℕ) (e : TypeExpr) : Type 0 where
@@ -63,7 +61,7 @@ module _ (source : Source) (c : Clean source) where
       down l x (record { owner = n.i; spot = first; sits = subst (Sits source n.i first) n.right_side (definition_sits source c n.i n.d n.is); at = node ∙ h.at })
 
   -- the shape of the node of a construct
-  pub shape_of_construct : (k : TypeExpr) (x : ℕ) → IsConstruct source k → (h : Holds source x k) → (part_at (names_of source) (definitions source) h.spot k).node ≡ h.spot.node → shape_at_node source x ≡ shape_in source h.spot k
+  pub shape_of_construct : (k : TypeExpr) (x : ℕ) → IsConstruct k → (h : Holds source x k) → (part_at (names_of source) (definitions source) h.spot k).node ≡ h.spot.node → shape_at_node source x ≡ shape_in source h.spot k
   shape_of_construct k x q h e = ap (shape_at_node source) (sym (sym e ∙ h.at)) ∙ shape_here source h.owner h.spot k q h.sits
 
   pub union_shape : (size : _) (parts : _) (x : ℕ) (h : Holds source x (Union' size parts)) → shape_at_node source x ≡ shape.Union (parts_at (names_of source) (definitions source) (behind h.spot 1) parts)
@@ -94,7 +92,7 @@ module _ (source : Source) (c : Clean source) where
     pub es : List TypeExpr
     pub are : AreStands source e es
 
-  by_construct : (x : ℕ) (e k : TypeExpr) → LeadsTo source k e → Holds source x k → IsConstruct source k → 1 ≤ length (stands x (shape_at_node source x)) → Stood x e
+  by_construct : (x : ℕ) (e k : TypeExpr) → LeadsTo source k e → Holds source x k → IsConstruct k → 1 ≤ length (stands x (shape_at_node source x)) → Stood x e
   by_construct x e (Named name) l h q many = absurd q
   by_construct x e (Epsilon token) l h q many = let n : 1 ≤ 0 = subst (λ z. 1 ≤ length (stands x z)) (shape_of_construct (Epsilon token) x tt h refl) many in absurd (omega (arith, n))
   by_construct x e (Atom weight weight_at token) l h q many = let n : 1 ≤ 0 = subst (λ z. 1 ≤ length (stands x z)) (shape_of_construct (Atom weight weight_at token) x tt h refl) many in absurd (omega (arith, n))
@@ -105,7 +103,7 @@ module _ (source : Source) (c : Clean source) where
   -- the construct that a node's expression leads to
   pub record Up (x : ℕ) (e : TypeExpr) : Type 0 where
     pub k : TypeExpr
-    pub is_construct : IsConstruct source k
+    pub is_construct : IsConstruct k
     pub to : LeadsTo source k e
     pub holds : Holds source x k
 
@@ -127,7 +125,7 @@ module _ (source : Source) (c : Clean source) where
       let node : (part_at (names_of source) (definitions source) (behind k.spot 1) b.e).node ≡ component (shape_at_node source x) = ap (λ (q : Part). q.node) (sym b.part) ∙ sym (ap component form) in
       subst (Holds source (component (shape_at_node source x))) same (record { owner = k.owner; spot = behind k.spot 1; sits = b.sits; at = node })
 
-  by_collection : (x : ℕ) (e k : TypeExpr) → LeadsTo source k e → Holds source x k → IsConstruct source k → IsCollection (shape_at_node source x) → (f : TypeExpr) × IsCollectionOf source e f
+  by_collection : (x : ℕ) (e k : TypeExpr) → LeadsTo source k e → Holds source x k → IsConstruct k → IsCollection (shape_at_node source x) → (f : TypeExpr) × IsCollectionOf source e f
   by_collection x e (Named name) l h q is = absurd q
   by_collection x e (Epsilon token) l h q is = absurd (subst IsCollection (shape_of_construct (Epsilon token) x tt h refl) is)
   by_collection x e (Atom weight weight_at token) l h q is = absurd (subst IsCollection (shape_of_construct (Atom weight weight_at token) x tt h refl) is)

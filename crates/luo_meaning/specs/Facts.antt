@@ -2,10 +2,10 @@
 use Rattle.std.specs.Prelude.{◌≡◌, ℕ, List, [], ◌∷◌, codes}
 use Rattle.luo_finite.specs.Listing.{Lists}
 use Rattle.luo_model.specs.Tree.{Tree, Atom, Inj, Tup, Coll, none, more}
-use Rattle.luo_source.specs.declared.types.TypeExpr.{TypeExpr, Named}
+use Rattle.luo_source.specs.declared.types.TypeExpr.{Named}
 use Rattle.luo_source.specs.declared.source.Source.{Source}
 use Rattle.luo_rules.specs.Sources.{binary_source, permutations_source, few_cycles, copying}
-use Rattle.luo_meaning.specs.Examples.{choices}
+use Rattle.luo_meaning.specs.Examples.{choices, spines}
 use Rattle.luo_meaning.specs.Rows.{IsStructureOf}
 use Rattle.luo_meaning.specs.Charges.{ProcCharges}
 use Rattle.luo_meaning.specs.Made.{ProcMakes}
@@ -39,6 +39,10 @@ PathLengths =
     ChargesJust binary_source (codes "path") (inner (inner leaf leaf) leaf) 1
     × ChargesJust binary_source (codes "path") (inner leaf (inner leaf leaf)) 1
     × ChargesJust binary_source (codes "path") (inner (inner (inner leaf leaf) leaf) leaf) 3
+
+-- who goes on to the left alone finds two inner nodes in the one tree of two, and one in the other
+abbrev pub SpinesAreCharged : Type 0
+SpinesAreCharged = ChargesJust spines (codes "spine") (inner (inner leaf leaf) leaf) 2 × ChargesJust spines (codes "spine") (inner leaf (inner leaf leaf)) 1
 
 -- two points are permuted in one cycle or in two
 abbrev pub PermutationsOfTwo : Type 0

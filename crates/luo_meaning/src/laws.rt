@@ -1,7 +1,7 @@
 //! Laws: the core form of a source keeps what the source means; and what small sources mean.
 #![tactic(auto)]
 
-ghost use Rattle.luo_meaning.specs.Facts.{BinaryTreesOfTwo, PathLengths, PermutationsOfTwo, FewCyclesOfTwo, CyclesAreCharged, ChoicesOfTwo, BothIsMade};
+ghost use Rattle.luo_meaning.specs.Facts.{BinaryTreesOfTwo, PathLengths, SpinesAreCharged, PermutationsOfTwo, FewCyclesOfTwo, CyclesAreCharged, ChoicesOfTwo, BothIsMade};
 ghost use Rattle.luo_meaning.specs.Laws.{StructuresAreKept, ConstructsAreKept, ChargesAreKept, MadeIsKept, CountsAreKept, TotalsAreKept, RowsAreKept, TablesAreKept, OverIsKept, WalksAreKept};
 
 /// The members of a definition's node are the structures of its name.
@@ -62,6 +62,11 @@ pub fn binary_trees_of_two()
 /// The path lengths of three binary trees.
 pub fn path_lengths()
     ensures { PathLengths }
+{}
+
+/// Who goes on to the left alone finds the inner nodes of the left spine.
+pub fn spines_are_charged()
+    ensures { SpinesAreCharged }
 {}
 
 /// Two points have two permutations, as sets of cycles.

@@ -1,5 +1,5 @@
 -- The core form keeps structures: members of the node of a type expression are its structures as written.
-use Rattle.std.proofs.Common.{◌≡◌, ℕ, zero, suc, ◌↔◌, List, [], ◌∷◌, length, Option, Some, None, refl, sym, ap, ◌∙◌, subst, arith}
+use Rattle.std.proofs.Common.{◌≡◌, ℕ, zero, suc, ◌↔◌, List, length, Option, Some, None, refl, sym, ap, ◌∙◌, subst, arith}
 use Rattle.luo_model.specs.declared.program.Universe.{Universe}
 use Rattle.luo_model.specs.declared.program.Universe.TheVariants.{Unlabelled, Labelled}
 use Rattle.luo_model.specs.declared.program.Kind.{Kind}
@@ -26,12 +26,10 @@ use Rattle.luo_rules.proofs.DefinitionFacts.{whole_node}
 use Rattle.luo_rules.proofs.CleanSource.{Clean}
 use Rattle.luo_meaning.specs.Structures.{exprs_in, least_count, AllowsCount, by_name, empty, atom, branch, tuple, collection, no_parts, more_parts, no_components, more_components}
 use Rattle.luo_meaning.specs.Structures.{IsOf, AreOf, EachOf}
+use Rattle.luo_meaning.specs.Constructs.{IsConstruct}
 use Rattle.luo_meaning.proofs.Named.{named_type}
-use Rattle.luo_meaning.proofs.Sits.{Sits, AllSit, IsConstruct, shape_in, shape_at_node, shape_here, head_sits, tail_sits, union_sits, product_sits, coll_sits, row_get, row_back, definition_sits}
+use Rattle.luo_meaning.proofs.Sits.{first_same, Sits, AllSit, shape_in, shape_at_node, shape_here, head_sits, tail_sits, union_sits, product_sits, coll_sits, row_get, row_back, definition_sits}
 use Rattle.luo_meaning.proofs.Leads.{leads}
-
-first_same : (x y : TypeExpr) → x ∷ [] ≡ y ∷ [] → x ≡ y
-first_same x y e = cc
 
 no_label : (universe : Universe) (w l : ℕ) → w ≡ 0 → IsLabel universe w l → l ≡ 0
 no_label Unlabelled w l e h = h
@@ -113,7 +111,7 @@ module _ (source : Source) (c : Clean source) where
       l.back t (construct_of t l.owner l.spot l.construct l.sits (subst (λ z. Fits (core source) z t) shape there))
 
   -- at the shape of a construct
-  by_shape : (t : Tree) (owner : ℕ) (at : Spot) (e : TypeExpr) → IsConstruct source e → Sits source owner at e → Fits (core source) (shape_in source at e) t → Fits (core source) (shape_at_node source at.node) t
+  by_shape : (t : Tree) (owner : ℕ) (at : Spot) (e : TypeExpr) → IsConstruct e → Sits source owner at e → Fits (core source) (shape_in source at e) t → Fits (core source) (shape_at_node source at.node) t
   by_shape t owner at e q s f = subst (λ z. Fits (core source) z t) (sym (shape_here source owner at e q s)) f
 
   mutual
