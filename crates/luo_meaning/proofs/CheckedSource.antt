@@ -1,4 +1,4 @@
--- The core form of a checked source is a program.
+-- A checked source has a program.
 use Rattle.std.specs.Prelude.{◌≤◌}
 use Rattle.std.proofs.Common.{subst}
 use Rattle.luo_num.specs.declared.limits.TheConstants.{WALK_LIMIT}

@@ -1,4 +1,4 @@
--- The factors and the branches of a type expression, and their nodes.
+-- The factors and branches that a node stands for, one beside the other.
 use Rattle.std.proofs.Common.{◌≡◌, ◌↔◌, ℕ, zero, suc, List, [], ◌∷◌, map, Option, Some, None, slice_get, refl, sym, ap, ◌∙◌, subst}
 use Rattle.std.specs.Prelude.{true, is_some}
 use Rattle.luo_model.specs.declared.program.Part.{Part}

@@ -1,4 +1,4 @@
--- From a type expression to the construct that it leads to by names.
+-- Where a type expression leads: the construct at the end of its names, its node, and its structures.
 use Rattle.std.proofs.Common.{◌≡◌, ℕ, zero, suc, ◌<◌, ◌⊎◌, [], length, Some, None, slice_get, refl, sym, ap, ◌∙◌, subst, inl, inr}
 use Rattle.luo_model.specs.Tree.{Tree}
 use Rattle.luo_source.specs.declared.names.Name.{Name}

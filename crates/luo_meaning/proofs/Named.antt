@@ -1,4 +1,4 @@
--- Of a source without breach: a name means exactly what the source defines by it.
+-- In a source that breaks no rule, what a name means by number is what is written for it.
 use Rattle.std.proofs.Common.{◌≡◌, ℕ, zero, suc, ◌+◌, List, [], ◌∷◌, Some, None, Option, slice_get, sym, ap, ◌∙◌, subst, arith}
 use Rattle.std.specs.Prelude.{true}
 use Rattle.std.proofs.lemmas.Bool.{eqb-true}

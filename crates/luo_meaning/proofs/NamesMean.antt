@@ -1,4 +1,4 @@
--- What a name means is what the source defines by it, and the other way round.
+-- The meaning of a name is a definition, a measure or a procedure of this name, and each of these has a meaning.
 use Rattle.std.proofs.Common.{◌≡◌, ℕ, zero, suc, ◌+◌, List, [], ◌∷◌, ◌++◌, Some, None, slice_get, refl, sym, ap, ◌∙◌, subst, inl, inr, arith}
 use Rattle.std.specs.Prelude.{flat_map, Bool, true, false, if◌then◌else◌, is_some}
 use Rattle.std.specs.Str.{bytes_eq}

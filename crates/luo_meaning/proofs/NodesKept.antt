@@ -1,4 +1,4 @@
--- Each node of the core form is a construct of the source as written, and each construct has a node.
+-- Nodes and constructs of a source go together, with the same structures.
 use Rattle.std.proofs.Common.{◌≡◌, ℕ, zero, suc, ◌+◌, ◌<◌, ◌↔◌, List, [], ◌∷◌, length, Some, slice_get, refl, sym, ap, ◌∙◌, subst, inl, inr, arith}
 use Rattle.luo_model.specs.declared.program.Node.{Node}
 use Rattle.luo_model.specs.Tree.{Tree}

@@ -1,4 +1,4 @@
--- The core form keeps counts and totals, and so whether one is too large.
+-- Counts of nodes are counts of constructs, totals of sites are totals of sites, and so for those that are too large.
 use Rattle.std.proofs.Common.{◌≡◌, ◌⊎◌, ◌↔◌, ℕ, zero, suc, ◌+◌, ◌<◌, List, [], ◌∷◌, ◌++◌, length, Some, slice_get, refl, sym, ap, ◌∙◌, subst, inl, inr, arith}
 use Rattle.std.specs.Prelude.{flat_map}
 use Rattle.luo_finite.specs.Listing.{In, Totals}

@@ -1,4 +1,4 @@
--- The core form keeps what procedures charge.
+-- What procedures charge, by number and by name, at each depth of calls.
 use Rattle.std.proofs.Common.{◌≡◌, ℕ, zero, suc, ◌↔◌, List, [], ◌∷◌, ◌++◌, Some, slice_get, sym, ap, ◌∙◌, subst}
 use Rattle.std.specs.Prelude.{flat_map}
 use Rattle.luo_model.specs.Tree.{Tree}

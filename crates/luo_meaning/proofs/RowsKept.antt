@@ -1,4 +1,4 @@
--- The core form keeps the structures of names, and counts, totals and rows.
+-- Structures of names, and the rows of procedures.
 use Rattle.std.proofs.Common.{◌≡◌, ℕ, ◌+◌, ◌↔◌, List, [], ◌∷◌, ◌++◌, Some, slice_get, sym, ap, ◌∙◌, subst, arith}
 use Rattle.std.specs.List.{AllZip}
 use Rattle.luo_finite.specs.Listing.{Counts, Totals}

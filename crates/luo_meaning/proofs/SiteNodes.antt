@@ -1,4 +1,4 @@
--- Sites by their numbers, and the node of a procedure's whole.
+-- A site's number is its place, and the site of a whole has the node of the parameter.
 use Rattle.std.proofs.Common.{◌≡◌, ℕ, zero, suc, ◌+◌, List, [], ◌∷◌, ◌++◌, Some, slice_get, refl, sym, ap, ◌∙◌, subst, inl, inr, arith}
 use Rattle.luo_finite.specs.Listing.{In}
 use Rattle.luo_finite.proofs.Membership.{In-append_left, In-append_right}

@@ -1,4 +1,4 @@
--- A site of the core form is one of the source as written, on the same structures and with the same charges.
+-- Some site of statements in the core form is some site of the statements as written.
 use Rattle.std.proofs.Common.{◌≡◌, ◌⊎◌, ◌↔◌, ℕ, ◌+◌, List, [], ◌∷◌, length, Option, Some, None, refl, sym, ap, ◌∙◌, subst, inl, inr, arith}
 use Rattle.std.specs.Prelude.{flat_map}
 use Rattle.luo_model.specs.declared.program.Shape.{Shape}

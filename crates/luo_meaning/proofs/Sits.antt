@@ -1,4 +1,4 @@
--- Where the constructs of a source stand among the nodes of its core form.
+-- A type expression sits at a spot: it breaks nothing, and its nodes stand there.
 use Rattle.std.proofs.Common.{◌≡◌, ℕ, zero, suc, ◌+◌, List, [], ◌∷◌, ◌++◌, Option, Some, slice_get, refl, sym, ap, ◌∙◌, subst, arith}
 use Rattle.std.specs.Prelude.{slice_index_or}
 use Rattle.luo_model.specs.declared.program.Part.{Part}

@@ -1,4 +1,4 @@
--- What small sources mean, computed on their core forms.
+-- Meanings of small sources, computed on their core forms and brought back by the laws.
 use Rattle.std.proofs.Common.{◌≡◌, ◌↔◌, ℕ, List, [], ◌∷◌, true, Some, codes, refl, subst, arith}
 use Rattle.luo_finite.proofs.Listings.{Lists-iff}
 use Rattle.luo_model.specs.Order.{order_of}

@@ -1,4 +1,4 @@
--- The core form keeps structures: members of the node of a type expression are its structures as written.
+-- Members of the node of a type expression are its structures, in both directions.
 use Rattle.std.proofs.Common.{◌≡◌, ℕ, zero, suc, ◌↔◌, List, length, Option, Some, None, refl, sym, ap, ◌∙◌, subst, arith}
 use Rattle.luo_model.specs.declared.program.Universe.{Universe}
 use Rattle.luo_model.specs.declared.program.Universe.TheVariants.{Unlabelled, Labelled}

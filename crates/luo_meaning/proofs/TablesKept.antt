@@ -1,4 +1,4 @@
--- The tables of the analyze lines, and their headings.
+-- Tables of analyze lines.
 use Rattle.std.proofs.Common.{◌≡◌, ℕ, ◌+◌, ◌↔◌, List, [], ◌∷◌, map, Some, slice_get, sym, ap, ◌∙◌, subst}
 use Rattle.std.specs.Prelude.{flat_map}
 use Rattle.luo_model.specs.declared.program.Def.{Def}

@@ -1,4 +1,4 @@
--- Nodes and the type expressions that they stand for.
+-- A node stands for a type expression: what its branches, factors and components stand for.
 use Rattle.std.proofs.Common.{◌≡◌, ℕ, ◌≤◌, List, [], ◌∷◌, map, length, Some, slice_get, refl, sym, ap, ◌∙◌, subst, inl, inr, arith}
 use Rattle.luo_model.specs.declared.program.Part.{Part}
 use Rattle.luo_model.specs.declared.program.Shape.TheVariants as shape

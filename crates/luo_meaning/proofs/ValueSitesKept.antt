@@ -1,4 +1,4 @@
--- A site of a value's body is one of the value as written.
+-- Some site of a value's body is some site of the value as written.
 use Rattle.std.proofs.Common.{◌≡◌, ◌↔◌, ℕ, ◌+◌, List, [], ◌∷◌, length, Option, Some, None, sym, ap, ◌∙◌, subst, inl, inr, arith}
 use Rattle.luo_model.specs.Tree.{Tree}
 use Rattle.luo_model.specs.Program.{Arms}

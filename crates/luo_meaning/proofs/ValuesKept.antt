@@ -1,4 +1,4 @@
--- The body that the core form of a value without breach gives charges what the value does as written.
+-- What values charge: the body that their core form gives against the forms as written.
 use Rattle.std.proofs.Common.{◌≡◌, ℕ, zero, suc, ◌+◌, ◌↔◌, List, [], ◌∷◌, length, Option, Some, None, sym, ap, ◌∙◌, arith}
 use Rattle.luo_model.specs.declared.body.Bind.{Bind}
 use Rattle.luo_model.specs.Tree.{Tree, Trees, Inj, Tup, Coll}

@@ -1,4 +1,4 @@
--- The core form has as many walks over multisets and powersets as the source as written.
+-- The walks over multisets and powersets, counted in both forms.
 use Rattle.std.proofs.Common.{◌≡◌, ◌↔◌, ℕ, zero, suc, ◌+◌, List, [], ◌∷◌, length, sum_by, Option, Some, slice_get, refl, sym, ap, ◌∙◌, subst, arith}
 use Rattle.std.specs.Prelude.{flat_map}
 use Rattle.std.proofs.lemmas.List.Sums.{sum_by-cons}

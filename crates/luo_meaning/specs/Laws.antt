@@ -76,6 +76,12 @@ abbrev pub TablesAreKept : Type 0
 TablesAreKept =
     (source : Source) (p : Program) → IsSource source → IsChecked source p → (last : ℕ) (tables : List (List Row)) → AreTables p last p.analyses tables ↔ AreTablesOf source last source.analyses tables
 
+-- a procedure has the name that it has in the source, and its parameter's part names the definition of the type's name
+abbrev pub HeadingsAreKept : Type 0
+HeadingsAreKept =
+    (source : Source) (p : Program) → IsSource source → IsCore source p → (f : ℕ) (d : ProcDef) (P : Procedure) → slice_get source.procs f ≡ Some d → slice_get p.procs f ≡ Some P
+    → (P.name ≡ d.name.text) × ((i : ℕ) × (v : Def) × (P.on.name ≡ Some i) × (slice_get p.defs i ≡ Some v) × (v.name ≡ d.on.text))
+
 -- some count or total of a size up to `last` is above `most`
 abbrev pub IsOver : Program → ℕ → ℕ → Type 0
 IsOver p most last =

@@ -2,7 +2,7 @@
 #![tactic(auto)]
 
 ghost use Rattle.luo_meaning.specs.Facts.{BinaryTreesOfTwo, PathLengths, SpinesAreCharged, PermutationsOfTwo, FewCyclesOfTwo, CyclesAreCharged, ChoicesOfTwo, BothIsMade};
-ghost use Rattle.luo_meaning.specs.Laws.{StructuresAreKept, ConstructsAreKept, ChargesAreKept, MadeIsKept, CountsAreKept, TotalsAreKept, RowsAreKept, TablesAreKept, OverIsKept, WalksAreKept};
+ghost use Rattle.luo_meaning.specs.Laws.{StructuresAreKept, ConstructsAreKept, ChargesAreKept, MadeIsKept, CountsAreKept, TotalsAreKept, RowsAreKept, TablesAreKept, HeadingsAreKept, OverIsKept, WalksAreKept};
 
 /// The members of a definition's node are the structures of its name.
 pub fn structures_are_kept()
@@ -42,6 +42,11 @@ pub fn rows_are_kept()
 /// The tables of the analyze lines are those of the source.
 pub fn tables_are_kept()
     ensures { TablesAreKept }
+{}
+
+/// A procedure of the core form has its name, and names the type of its parameter.
+pub fn headings_are_kept()
+    ensures { HeadingsAreKept }
 {}
 
 /// A count or total of the core form is too large exactly where one of the source is.
