@@ -1,0 +1,5 @@
+use Rattle.luo_meaning.proofs.SourceMeanings as facts
+use Rattle.luo_meaning.proofs.laws.permutations_of_two.Goals as goal
+
+pub returns : goal.returns
+returns c = facts.permutations_of_two

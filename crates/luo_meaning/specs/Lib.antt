@@ -1,0 +1,15 @@
+pub mod Defined
+pub mod Structures
+pub mod Variables
+pub mod Charges
+pub mod Types
+pub mod Constructs
+pub mod Makes
+pub mod Made
+pub mod Rows
+pub mod Sites
+pub mod Over
+pub mod Walks
+pub mod Examples
+pub mod Facts
+pub mod Laws

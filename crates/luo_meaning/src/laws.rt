@@ -1,0 +1,100 @@
+//! Laws: the core form of a source keeps what the source means; and what small sources mean.
+#![tactic(auto)]
+
+ghost use Rattle.luo_meaning.specs.Facts.{BinaryTreesOfTwo, PathLengths, SpinesAreCharged, PermutationsOfTwo, FewCyclesOfTwo, CyclesAreCharged, ChoicesOfTwo, BothIsMade};
+ghost use Rattle.luo_meaning.specs.Laws.{StructuresAreKept, ConstructsAreKept, ChargesAreKept, MadeIsKept, CountsAreKept, TotalsAreKept, RowsAreKept, TablesAreKept, HeadingsAreKept, OverIsKept, WalksAreKept};
+
+/// The members of a definition's node are the structures of its name.
+pub fn structures_are_kept()
+    ensures { StructuresAreKept }
+{}
+
+/// The nodes of the core form are the constructs of the source, with the same structures.
+pub fn constructs_are_kept()
+    ensures { ConstructsAreKept }
+{}
+
+/// A procedure of the core form charges what the one of its name does.
+pub fn charges_are_kept()
+    ensures { ChargesAreKept }
+{}
+
+/// A procedure of the core form makes what the one of its name does.
+pub fn made_is_kept()
+    ensures { MadeIsKept }
+{}
+
+/// The counts of nodes are the counts of constructs.
+pub fn counts_are_kept()
+    ensures { CountsAreKept }
+{}
+
+/// The totals of sites are the totals of sites of the source.
+pub fn totals_are_kept()
+    ensures { TotalsAreKept }
+{}
+
+/// The rows of a procedure are those of the one in its place of the source.
+pub fn rows_are_kept()
+    ensures { RowsAreKept }
+{}
+
+/// The tables of the analyze lines are those of the source.
+pub fn tables_are_kept()
+    ensures { TablesAreKept }
+{}
+
+/// A procedure of the core form has its name, and names the type of its parameter.
+pub fn headings_are_kept()
+    ensures { HeadingsAreKept }
+{}
+
+/// A count or total of the core form is too large exactly where one of the source is.
+pub fn over_is_kept()
+    ensures { OverIsKept }
+{}
+
+/// The core form has as many walks over multisets and powersets as the source.
+pub fn walks_are_kept()
+    ensures { WalksAreKept }
+{}
+
+/// Of two inner nodes there are two binary trees.
+pub fn binary_trees_of_two()
+    ensures { BinaryTreesOfTwo }
+{}
+
+/// The path lengths of three binary trees.
+pub fn path_lengths()
+    ensures { PathLengths }
+{}
+
+/// Who goes on to the left alone finds the inner nodes of the left spine.
+pub fn spines_are_charged()
+    ensures { SpinesAreCharged }
+{}
+
+/// Two points have two permutations, as sets of cycles.
+pub fn permutations_of_two()
+    ensures { PermutationsOfTwo }
+{}
+
+/// One of them has two cycles.
+pub fn few_cycles_of_two()
+    ensures { FewCyclesOfTwo }
+{}
+
+/// What a procedure with a result makes of two pairs, and charges.
+pub fn both_is_made()
+    ensures { BothIsMade }
+{}
+
+/// A walk over the cycles of a permutation charges one for each.
+pub fn cycles_are_charged()
+    ensures { CyclesAreCharged }
+{}
+
+/// Sets and collections with copies of at most two points of two kinds.
+pub fn choices_of_two()
+    ensures { ChoicesOfTwo }
+{}
