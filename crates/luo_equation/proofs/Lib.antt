@@ -1,0 +1,13 @@
+pub mod Integers
+pub mod SeriesLemmas
+pub mod Shares
+pub mod Classes
+pub mod Copies
+pub mod BagLaws
+pub mod CountLaws
+pub mod Local
+pub mod Ring
+pub mod UpTo
+pub mod WrittenLemmas
+pub mod ViewLemmas
+pub mod TextLemmas
