@@ -13,6 +13,7 @@ mod partial;
 mod plan;
 mod planned;
 mod points;
+mod scopes;
 mod shared;
 mod sites;
 mod sizes;
