@@ -38,3 +38,5 @@ pub mod LaidLemmas
 pub mod JobRecipes
 pub mod LinkedLemmas
 pub mod SitesMade
+pub mod WalkTables
+pub mod TotalRuns

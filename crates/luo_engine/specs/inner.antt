@@ -18,3 +18,5 @@ pub mod Totals
 pub mod Starts
 pub mod Laying
 pub mod SiteLists
+pub mod WalkTables
+pub mod Totalling

@@ -1,15 +1,18 @@
 // The engine: all tables of a program, size by size.
-ghost use Rattle.std.specs.Prelude.{◌≡◌, ◌<◌, ◌≤◌, ◌+◌, length, IfOk, IfErr, true, false};
-ghost use Rattle.luo_model.specs.declared.table.Fill.TheVariants.{Counts};
-ghost use Rattle.luo_model.specs.Tables.{IsCount};
+ghost use Rattle.std.specs.Prelude.{◌≡◌, ◌<◌, ◌≤◌, ◌+◌, length, IfOk, IfErr, IsTrue, ◌↔◌, true, false};
+ghost use Rattle.luo_model.specs.declared.table.Fill.TheVariants.{All};
+ghost use Rattle.luo_model.specs.Tables.{IsCount, IsTotal};
 ghost use Rattle.luo_model.specs.View.{plain_of};
 ghost use Rattle.luo_engine.specs.Entries.{IsFirstOver, NoneOver};
 
 use crate::collecting::collections_of;
 use crate::collections::Collection;
 use crate::plan::Plan;
-use crate::sizes::extend_counts;
+use crate::sizes::{extend_counts, extend_totals};
 use crate::table::Table;
+use crate::tasks::Sites;
+use crate::total_tables::total_tables;
+use crate::walks::CollectionWalk;
 use luo_founded::Ranks;
 use luo_model::{Entry, Fill, Program};
 use luo_num::NoMemory;
@@ -29,9 +32,13 @@ pub struct Overflow {
 #[derive(Drop)]
 pub struct Engine<'p> {
     plan: Plan<'p>,
+    sites: Sites,
     counts: Table,
     collections: Vec<Option<Collection>>,
     partials: Table,
+    totals: Table,
+    walks: Vec<Option<CollectionWalk>>,
+    points: Table,
     last: u32,
     fill: Fill,
     filled: u32,
@@ -40,7 +47,7 @@ pub struct Engine<'p> {
 
 impl<'p> Model for Engine<'p> {
     ghost use Rattle.luo_engine.specs.Run.{Run};
-    ghost use Rattle.luo_engine.specs.inner.Running.{IsRun};
+    ghost use Rattle.luo_engine.specs.inner.Totalling.{IsRun};
     ghost use Rattle.luo_model.specs.contracts.body.Item as done;
     ghost use Rattle.luo_model.specs.contracts.value.Value as made;
     ghost use Rattle.std.specs.Coded.{codes};
@@ -51,7 +58,17 @@ impl<'p> Model for Engine<'p> {
 
     ghost view = { λ e. record { program = e.plan.program; last = e.last; fill = e.fill; filled = e.filled; stopped = e.stopped } };
 
-    ghost invariant = { λ e. IsRun e.plan e.counts e.collections.items e.partials e.last e.fill e.filled e.stopped };
+    ghost invariant = { λ e. IsRun e.plan e.sites e.counts e.collections.items e.partials e.totals e.walks.items e.points e.last e.fill e.filled e.stopped };
+}
+
+// Whether totals are filled in.
+fn has_totals(fill: Fill) -> bool
+    ensures { IsTrue result ↔ (fill ≡ All) }
+{
+    match fill {
+        Fill::Counts => false,
+        Fill::All => true,
+    }
 }
 
 impl<'p> Engine<'p> {
@@ -69,7 +86,6 @@ impl<'p> Engine<'p> {
     ) -> Result<Engine<'p>, NoMemory>
         requires same { ranks.now ≡ program.now }
         requires small { n_max ≤ SIZE_LIMIT }
-        requires only { fill ≡ Counts }
         ensures { IfOk result (λ engine. engine ≡ record { program = program.now; last = n_max; fill = fill; filled = 0; stopped = false }) }
     {
         let plan = Plan::new(alloc, program, ranks, n_max)?;
@@ -77,11 +93,16 @@ impl<'p> Engine<'p> {
         let counts = Table::zeros(alloc, plan.nodes(), sizes)?;
         let collections = collections_of(alloc, program, n_max)?;
         let partials = Table::zeros(alloc, plan.factors().len(), sizes)?;
+        let made = total_tables(alloc, &plan, ranks, collections.as_slice(), sizes, fill)?;
         Ok(Engine {
             plan,
+            sites: made.sites,
             counts,
             collections,
             partials,
+            totals: made.totals,
+            walks: made.walks,
+            points: made.points,
             last: n_max,
             fill,
             filled: 0,
@@ -112,6 +133,16 @@ impl<'p> Engine<'p> {
         self.counts.entry(node, n as usize)
     }
 
+    /// The sum of the site's charges over the structures of its node of size n.
+    pub fn total(&self, site: usize, n: u32) -> u128
+        requires site { site < length self.now.program.sites }
+        requires size { n < self.now.filled }
+        requires all { self.now.fill ≡ All }
+        ensures { IsTotal (plain_of self.now.program) site n result }
+    {
+        self.totals.entry(site, n as usize)
+    }
+
     /// Fills the next size. It takes no memory.
     ///
     /// # Errors
@@ -129,17 +160,38 @@ impl<'p> Engine<'p> {
             × (self.new ≡ record self.old { stopped = true })) }
     {
         let n = self.filled as usize;
-        match extend_counts(
+        if let Some(x) = extend_counts(
             &self.plan,
             &mut self.counts,
             &mut self.collections,
             &mut self.partials,
             n,
         ) {
-            Some(x) => {
+            self.stopped = true;
+            return Err(Overflow {
+                entry: Entry::Count(x),
+                n: self.filled,
+            });
+        }
+        if !has_totals(self.fill) {
+            self.filled += 1;
+            return Ok(());
+        }
+        match extend_totals(
+            &self.plan,
+            &self.sites,
+            &self.counts,
+            self.collections.as_slice(),
+            &self.partials,
+            &mut self.totals,
+            &mut self.walks,
+            &mut self.points,
+            n,
+        ) {
+            Some(i) => {
                 self.stopped = true;
                 Err(Overflow {
-                    entry: Entry::Count(x),
+                    entry: Entry::Total(i),
                     n: self.filled,
                 })
             }

@@ -19,7 +19,9 @@ mod sites;
 mod sizes;
 mod table;
 mod tasks;
+mod total_tables;
 mod totals;
+mod walk_tables;
 mod walking;
 mod walks;
 

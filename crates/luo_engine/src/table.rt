@@ -34,15 +34,16 @@ fn part(cells: &[u128], from: usize, sizes: usize) -> &[u128]
 }
 
 impl Table {
-    /// A table of zeros.
+    /// A table of zeros. There is no memory for more cells than a machine counts.
     pub fn zeros(alloc: Global, rows: usize, sizes: usize) -> Result<Table, NoMemory>
-        requires rows_small { rows < 2 ^ 20 }
-        requires sizes_small { sizes < 2 ^ 20 }
         ensures table { IfOk result (IsTable rows sizes) }
         ensures zeros { IfOk result AreZero }
     {
+        let Some(all) = rows.checked_mul(sizes) else {
+            return Err(NoMemory);
+        };
         let mut cells = Vec::new(alloc);
-        for _i in 0..rows * sizes {
+        for _i in 0..all {
             cells.push(0)?;
         }
         Ok(Table { cells, rows, sizes })

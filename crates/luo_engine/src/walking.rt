@@ -49,7 +49,7 @@ pub fn walk_of(
 }
 
 // The node of site i.
-fn node_of(plan: &Plan, i: usize) -> usize
+pub fn node_of(plan: &Plan, i: usize) -> usize
     requires { i < length plan.now.program.sites }
     ensures node { result ≡ site_node (plain_of plan.now.program) i }
     ensures plan { IsPlan plan.now }

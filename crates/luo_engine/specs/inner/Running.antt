@@ -1,7 +1,5 @@
 -- The tables of a run.
 use Rattle.std.specs.Prelude.{◌≡◌, ℕ, ◌+◌, ◌<◌, ◌≤◌, Bool, false, List, length, Option}
-use Rattle.luo_model.specs.declared.table.Fill.{Fill}
-use Rattle.luo_model.specs.declared.table.Fill.TheVariants.{All}
 use Rattle.luo_model.specs.View.{Held, plain_of}
 use Rattle.luo_engine.specs.inner.Grid.{Reaches, entry_of}
 use Rattle.luo_engine.specs.inner.Partial.{IsClosed}
@@ -28,8 +26,3 @@ pub record IsCounting (plan : Planned) (counts : List (List ℕ)) (collections :
   pub small : last ≤ 160
   pub right : (x m : ℕ) → x < length plan.program.nodes → m < filled → IsRight (plain_of plan.program) counts x m
   pub going : stopped ≡ false → IsGoing plan counts collections partials filled
-
--- the counts of a run; totals aren't filled in
-pub record IsRun (plan : Planned) (counts : List (List ℕ)) (collections : List (Option Asked)) (partials : List (List ℕ)) (last : ℕ) (fill : Fill) (filled : ℕ) (stopped : Bool) : Type 0 where
-  pub counting : IsCounting plan counts collections partials last filled stopped
-  pub only : fill ≡ All → ⊥
