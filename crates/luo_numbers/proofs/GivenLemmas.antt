@@ -1,5 +1,5 @@
 -- What calls may be given, and how the numbers that were given go on.
-use Rattle.std.proofs.Common.{◌≡◌, ℕ, zero, suc, ◌+◌, ◌≤◌, ◌<◌, ◌⊎◌, ⊎_elim, inl, inr, Bool, false, List, [], ◌∷◌, ◌++◌, Option, Some, None, length, take, slice_index, slice_set, refl, sym, ◌∙◌, ap, subst, arith, length-set}
+use Rattle.std.proofs.Common.{◌≡◌, ℕ, zero, suc, ◌+◌, ◌≤◌, ◌<◌, ◌⊎◌, inl, inr, false, List, [], ◌∷◌, ◌++◌, Option, Some, None, length, take, slice_index, slice_set, refl, sym, ◌∙◌, ap, subst, arith}
 use Rattle.std.proofs.lemmas.List.{get_or-take, get_or_append_left, get_or_at, get_or_past, get_or_default, get_or-set_same, get_or-set_other, length-append, length-take-le, same_lists}
 use Rattle.luo_num.specs.declared.TheConstants.{MAX}
 use Rattle.luo_model.specs.Member.{IsWithin}

@@ -1,4 +1,4 @@
-use Rattle.std.proofs.Common.{◌≡◌, false, Option, None}
+use Rattle.std.proofs.Common.{◌≡◌, false, None}
 use Rattle.luo_numbers.specs.Given.{AreGiven}
 use Rattle.luo_numbers.proofs.parts.ahead.Given as goal
 

@@ -1,5 +1,5 @@
 use Rattle.std.proofs.Common.{◌≡◌, ◌+◌, length, false}
-use Rattle.luo_numbers.specs.Given.{AreComponents, AreGiven, AreKept, AreAlike, AreSame}
+use Rattle.luo_numbers.specs.Given.{AreComponents, AreGiven}
 use Rattle.luo_numbers.proofs.parts.filled.Given as goal
 
 abbrev pub invariant-loop-n : goal.invariant-loop-n

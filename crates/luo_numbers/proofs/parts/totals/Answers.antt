@@ -1,4 +1,4 @@
-use Rattle.std.proofs.Common.{◌≡◌, ◌∙◌, ◌+◌, List, ℕ, length, slice_index, sym, ap, subst, arith, rules}
+use Rattle.std.proofs.Common.{◌∙◌, ◌+◌, List, ℕ, length, slice_index, sym, ap, subst, arith, rules}
 use Rattle.std.proofs.lemmas.List.{with_items_is}
 use Rattle.luo_numbers.specs.Given.{AreComponents, AreGiven, AreKept}
 use Rattle.luo_numbers.proofs.GivenLemmas.{given_kept, kept_kept, same_now}
