@@ -9,16 +9,11 @@ use Rattle.luo_model.specs.Program.{Program, site_node}
 use Rattle.luo_model.specs.Invariant.{IsProgram}
 use Rattle.luo_model.specs.Tables.{IsCount, IsTotal}
 use Rattle.luo_model.specs.Levels.{IsRank, IsLevel}
-use Rattle.luo_engine.specs.Entries.{AreRanked, IsThere, Has, IsNumber, Precedes, IsEarlier, IsFirstOver, NoneOver}
+use Rattle.luo_engine.specs.Entries.{IsThere, Has, IsNumber, Precedes, IsEarlier, IsFirstOver, NoneOver}
 use Rattle.luo_engine.specs.inner.Filled.{rank_of, AreRanks, IsBefore, IsFirstPast, IsFirstPastOf}
 use Rattle.luo_engine.specs.inner.Listed.{IsSiteBefore}
+use Rattle.luo_engine.proofs.RankFacts.{rank_one}
 use Rattle.luo_engine.proofs.LevelLemmas.{level_one}
-
-three_ways : (a b : ℕ) → (a < b) ⊎ ((a ≡ b) ⊎ (b < a))
-three_ways a b = grind arith
-
-pub rank_one : (p : Program) (x r s : ℕ) → IsRank p x r → IsRank p x s → r ≡ s
-rank_one p x r s a b = omega (arith, b.1 r a.0.0 a.0.1, a.1 s b.0.0 b.0.1)
 
 -- of two counts, which comes before the other
 pub count_before : (p : Program) (ranks : List ℕ) → AreRanks p ranks → (x y : ℕ) → x < length p.nodes → y < length p.nodes → Precedes p (Count x) (Count y) → IsBefore ranks x y
@@ -37,40 +32,6 @@ count_over p ranks ranked last filled fill x room totals f = record { there = f.
     earlier (Count y) m v h has (inr b) e = f.before y v h (count_before p ranks ranked y x h f.there b.1) (subst (λ k. IsCount p y k v) b.0 e)
     earlier (Total i) m v h has (inl l) e = totals has i m v h l e
     earlier (Total i) m v h has (inr b) e = absurd b.1
-
-module _ (p : Program) (ranked : AreRanked p) where
-  -- of two entries one comes first, or they are the same
-  compared : (d e : Entry) → IsThere p d → IsThere p e → Precedes p d e ⊎ ((d ≡ e) ⊎ Precedes p e d)
-  compared (Count x) (Count y) h k =
-      let r = ranked.nodes x h in
-      let q = ranked.nodes y k in
-      ⊎_elim (λ a. inl (r.0, q.0, r.1, q.1, inl a))
-      (λ a. ⊎_elim
-      (λ e. ⊎_elim (λ b. inl (r.0, q.0, r.1, q.1, inr (e, b))) (λ b. ⊎_elim (λ f. inr (inl (ap Count f))) (λ c. inr (inr (q.0, r.0, q.1, r.1, inr (sym e, c)))) b) (three_ways x y))
-      (λ b. inr (inr (q.0, r.0, q.1, r.1, inl b))) a) (three_ways r.0 q.0)
-  compared (Count x) (Total j) h k = inl tt
-  compared (Total i) (Count y) h k = inr (inr tt)
-  compared (Total i) (Total j) h k =
-      let r = ranked.sites i h in
-      let q = ranked.sites j k in
-      ⊎_elim (λ a. inl (r.0, q.0, r.1, q.1, r.2, q.2, r.3, q.3, inl a))
-      (λ a. ⊎_elim
-      (λ e. ⊎_elim
-      (λ b. inl (r.0, q.0, r.1, q.1, r.2, q.2, r.3, q.3, inr (e, inl b)))
-      (λ b. ⊎_elim
-      (λ f. ⊎_elim (λ c. inl (r.0, q.0, r.1, q.1, r.2, q.2, r.3, q.3, inr (e, inr (f, c)))) (λ c. ⊎_elim (λ g. inr (inl (ap Total g))) (λ g. inr (inr (q.0, r.0, q.1, r.1, q.2, r.2, q.3, r.3, inr (sym e, inr (sym f, g))))) c) (three_ways i j))
-      (λ c. inr (inr (q.0, r.0, q.1, r.1, q.2, r.2, q.3, r.3, inr (sym e, inl c)))) b) (three_ways r.1 q.1))
-      (λ b. inr (inr (q.0, r.0, q.1, r.1, q.2, r.2, q.3, r.3, inl b))) a) (three_ways r.0 q.0)
-
-  not_earlier : (last : ℕ) (fill : Fill) (d e : Entry) (m n : ℕ) → IsFirstOver p last fill d m → IsFirstOver p last fill e n → IsEarlier p d m e n → ⊥
-  not_earlier last fill d e m n a b i = let v = b.earlier d m a.over.0 a.there a.had i a.over.1 in absurd (omega (arith, v, a.over.2))
-
-  pub first_is_one : (last : ℕ) (fill : Fill) (d e : Entry) (m n : ℕ) → IsFirstOver p last fill d m → IsFirstOver p last fill e n → (d ≡ e) × (m ≡ n)
-  first_is_one last fill d e m n a b =
-      ⊎_elim (λ h. absurd (not_earlier last fill d e m n a b (inl h)))
-      (λ h. ⊎_elim
-      (λ f. ⊎_elim (λ c. absurd (not_earlier last fill d e m n a b (inr (f, c)))) (λ c. ⊎_elim (λ g. (g, f)) (λ g. absurd (not_earlier last fill e d n m b a (inr (sym f, g)))) c) (compared d e a.there b.there))
-      (λ g. absurd (not_earlier last fill e d n m b a (inl g))) h) (three_ways m n)
 
 pub no_first : (p : Program) (last : ℕ) (fill : Fill) → ((n : ℕ) → n ≤ last → NoneOver p fill n) → (e : Entry) (n : ℕ) → IsFirstOver p last fill e n → ⊥
 no_first p last fill none e n f = let v = none n f.within e f.over.0 f.there f.had f.over.1 in absurd (omega (arith, v, f.over.2))

@@ -40,3 +40,7 @@ pub mod LinkedLemmas
 pub mod SitesMade
 pub mod WalkTables
 pub mod TotalRuns
+pub mod RankFacts
+pub mod LevelFacts
+pub mod EntryOrder
+pub mod FirstOver

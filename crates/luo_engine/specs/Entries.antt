@@ -52,18 +52,3 @@ pub record IsFirstOver (p : Program) (last : ℕ) (fill : Fill) (entry : Entry) 
 -- no number of size n is past the last number
 abbrev pub NoneOver : Program → Fill → ℕ → Type 0
 NoneOver p fill n = (entry : Entry) (v : ℕ) → IsThere p entry → Has fill entry → IsNumber p entry n v → v ≤ MAX
-
--- each node has a rank; the node of each site has one, and the site a level
-pub record AreRanked (p : Program) : Type 0 where
-  pub nodes : (x : ℕ) → x < length p.nodes → (r : ℕ) × IsRank p x r
-  pub sites : (i : ℕ) → i < length p.sites → (r : ℕ) × (l : ℕ) × IsRank p (site_node p i) r × IsLevel p i l
-
--- in a program with ranks one entry at one size is the first past the last number
-abbrev pub FirstIsOne : Type 0
-FirstIsOne = (p : Program) → AreRanked p → (last : ℕ) (fill : Fill) (d e : Entry) (m n : ℕ)
-    → IsFirstOver p last fill d m → IsFirstOver p last fill e n → (d ≡ e) × (m ≡ n)
-
--- and where no entry of any size is past it, none is the first
-abbrev pub NoneIsFirst : Type 0
-NoneIsFirst = (p : Program) (last : ℕ) (fill : Fill) → ((n : ℕ) → n ≤ last → NoneOver p fill n)
-    → (e : Entry) (n : ℕ) → IsFirstOver p last fill e n → ⊥

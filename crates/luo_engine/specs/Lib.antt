@@ -1,4 +1,5 @@
 pub mod Entries
+pub mod FirstOver
 pub mod Relabelling
 pub mod Laws
 pub mod Run

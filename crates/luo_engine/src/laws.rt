@@ -1,7 +1,7 @@
 //! What holds of structures with other labels, of counts, and of the first entry past the last
 //! number. Nothing is computed here.
 
-ghost use Rattle.luo_engine.specs.Entries.{FirstIsOne, NoneIsFirst};
+ghost use Rattle.luo_engine.specs.FirstOver.{FirstOverIsOne, NoneIsFirst, NoneOrFirst};
 ghost use Rattle.luo_engine.specs.Laws.{OrderIsKept, MembersAreKept, ChargesAreKept, CountsOnAnyLabels};
 
 /// Labels sent to others so that they rise keep the order of structures.
@@ -24,12 +24,17 @@ pub fn counts_on_any_labels()
     ensures { CountsOnAnyLabels }
 {}
 
-/// In a program with ranks one entry at one size is the first past the last number.
-pub fn first_over_is_one()
-    ensures { FirstIsOne }
+/// At most one entry at one size is the first past the last number.
+pub fn first_overflow_is_one()
+    ensures { FirstOverIsOne }
 {}
 
 /// Where no entry of any size is past the last number, none is the first past it.
 pub fn none_over_has_no_first()
     ensures { NoneIsFirst }
+{}
+
+/// Where no entry is the first past the last number, none is past it.
+pub fn first_overflow_or_none()
+    ensures { NoneOrFirst }
 {}
