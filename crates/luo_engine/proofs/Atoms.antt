@@ -1,6 +1,5 @@
 -- Atoms: there is one of its weight, on any labels.
-use Rattle.std.proofs.Common.{◌≡◌, ℕ, zero, suc, ◌≤◌, ◌<◌, List, [], ◌∷◌, ◌⊎◌, inl, inr, ⊎_elim, length, refl, sym, ◌∙◌, ap, subst, arith}
-use Rattle.luo_finite.specs.Listing.{In}
+use Rattle.std.proofs.Common.{◌≡◌, ℕ, zero, suc, ◌≤◌, List, [], ◌∷◌, inl, ⊎_elim, refl, sym, ◌∙◌, subst, arith}
 use Rattle.luo_finite.proofs.Sums.{Sums-none, Sums-one}
 use Rattle.luo_model.specs.declared.program.Universe.{Universe}
 use Rattle.luo_model.specs.declared.program.Universe.TheVariants.{Unlabelled, Labelled}

@@ -1,10 +1,9 @@
 -- The counts of a founded program, as a function of nodes and sizes, satisfy the equations of its constructs.
-use Rattle.std.proofs.Common.{◌≡◌, ◌⊎◌, ℕ, zero, suc, ◌+◌, ◌≤◌, ◌<◌, ◌==◌, Bool, true, false, if◌then◌else◌, inl, inr, ⊎_elim, List, [], ◌∷◌, ◌++◌, map, length, get_or, sum_by, slice_get, Option, Some, refl, sym, ◌∙◌, ap, subst, arith}
+use Rattle.std.proofs.Common.{◌≡◌, ℕ, suc, ◌==◌, Bool, true, false, if◌then◌else◌, inl, ⊎_elim, List, [], ◌∷◌, ◌++◌, map, length, get_or, sum_by, Option, refl, sym, ◌∙◌, ap, subst}
 use Rattle.std.proofs.lemmas.Bool.{eq-eqb, eqb-true}
 use Rattle.std.proofs.lemmas.Option.{get_or_from_slice_get}
-use Rattle.luo_finite.specs.Listing.{In, Lists, Sums}
+use Rattle.luo_finite.specs.Listing.{In}
 use Rattle.luo_finite.specs.Range.{sum_below}
-use Rattle.luo_finite.specs.Walk.{Walk}
 use Rattle.luo_finite.proofs.Ranges.{sum_below-places}
 use Rattle.luo_finite.proofs.Membership.{In-append_left, In-append_right}
 use Rattle.luo_finite.proofs.Sums.{Sums-by, Sums-none, Sums-unique}
@@ -21,7 +20,6 @@ use Rattle.luo_model.specs.Member.{Member, IsWithin}
 use Rattle.luo_model.specs.Structures.{IsStructure, IsStructureOn, labels_from}
 use Rattle.luo_model.specs.Invariant.{IsProgram, IsAllowed, IsKind, IsLow}
 use Rattle.luo_model.specs.Founded.{IsFounded, HasZero, HasEmptyComponent, KeepsSize, SameSize}
-use Rattle.luo_model.specs.Levels.{IsRank}
 use Rattle.luo_counting.specs.Sharing.{products}
 use Rattle.luo_counting.specs.Items.{Suits}
 use Rattle.luo_counting.specs.Numbers.{coll_count}

@@ -1,24 +1,22 @@
 -- An entry of the counts, from those that come before it.
-use Rattle.std.proofs.Common.{◌≡◌, ◌⊎◌, ℕ, zero, suc, ◌+◌, ◌≤◌, ◌<◌, inl, inr, ⊎_elim, List, [], ◌∷◌, ◌++◌, length, map, sum_by, drop, get_or, slice_index, slice_get, refl, sym, ◌∙◌, ap, subst, arith, Some, None, Option, append_assoc}
+use Rattle.std.proofs.Common.{◌≡◌, ◌⊎◌, ℕ, ◌+◌, ◌≤◌, ◌<◌, inl, inr, ⊎_elim, List, [], ◌∷◌, ◌++◌, length, map, sum_by, drop, slice_index, slice_get, refl, sym, ◌∙◌, ap, subst, arith, Some, Option, append_assoc}
 use Rattle.std.proofs.lemmas.List.Sums.{sum_by-cons}
-use Rattle.std.proofs.lemmas.Option.{slice_get-get_or, get_or_from_slice_get}
 use Rattle.luo_num.specs.Mark.{capped}
 use Rattle.luo_finite.specs.Listing.{In}
 use Rattle.luo_counting.specs.Sharing.{products}
 use Rattle.luo_counting.proofs.TreeCollections.{count_of_all}
-use Rattle.luo_finite.proofs.Membership.{In-append_left, In-append_right, In-append_cases, In-at}
+use Rattle.luo_finite.proofs.Membership.{In-append_right, In-append_cases}
 use Rattle.luo_finite.proofs.Sums.{Counts-unique}
 use Rattle.luo_model.specs.declared.program.Part.{Part}
 use Rattle.luo_model.specs.declared.program.Shape.{Shape}
-use Rattle.luo_model.specs.declared.program.Shape.TheVariants.{Atom, Union, Product, Coll}
+use Rattle.luo_model.specs.declared.program.Shape.TheVariants.{Atom, Union, Product}
 use Rattle.luo_model.specs.Program.{Program, shape_of}
 use Rattle.luo_model.specs.Structures.{IsStructure}
-use Rattle.luo_model.specs.Tables.{IsCount}
 use Rattle.luo_model.specs.Invariant.{inner_parts}
-use Rattle.luo_engine.specs.inner.Grid.{entry_of, Reaches}
+use Rattle.luo_engine.specs.inner.Grid.{entry_of}
 use Rattle.luo_engine.specs.inner.Shares.{tail_of, HasNone, AreReady}
-use Rattle.luo_engine.specs.inner.Obeys.{Obeys, OtherHasNone, atom_count}
-use Rattle.luo_engine.specs.inner.Filled.{rank_of, AreRanks, IsBefore, IsOrder, IsLaid, IsRight, AreCounted, CountsTo}
+use Rattle.luo_engine.specs.inner.Obeys.{Obeys, atom_count}
+use Rattle.luo_engine.specs.inner.Filled.{rank_of, AreRanks, IsOrder, IsLaid, IsRight, AreCounted, CountsTo}
 use Rattle.luo_engine.proofs.ReadLemmas.{none_or_some, reads}
 use Rattle.luo_engine.proofs.RowLemmas.{tail-product}
 

@@ -1,29 +1,29 @@
 -- What a scope names comes before its site: by the ranks of nodes, and on one node by levels.
-use Rattle.std.proofs.Common.{◌≡◌, ◌⊎◌, ℕ, zero, suc, ◌+◌, ◌*◌, ◌≤◌, ◌<◌, ◌==◌, Bool, true, false, if◌then◌else◌, max, inl, inr, ⊎_elim, List, [], ◌∷◌, ◌++◌, length, map, get_or, slice_get, refl, sym, ◌∙◌, ap, subst, arith, Some, Option}
+use Rattle.std.proofs.Common.{◌≡◌, ◌⊎◌, ℕ, zero, suc, ◌+◌, ◌≤◌, ◌<◌, ◌==◌, Bool, true, false, if◌then◌else◌, max, inl, inr, ⊎_elim, List, [], ◌∷◌, ◌++◌, length, map, slice_get, refl, sym, ◌∙◌, ap, subst, arith, Some, Option}
 use Rattle.std.proofs.lemmas.Bool.{eqb-true}
 use Rattle.std.proofs.lemmas.Option.{get_or_from_slice_get}
 use Rattle.luo_finite.specs.Listing.{In}
 use Rattle.luo_finite.proofs.Membership.{In-append_left, In-append_right, In-append_cases, In-itself, around}
-use Rattle.luo_finite.proofs.Places.{some_same, none_some, get_map, at_place}
+use Rattle.luo_finite.proofs.Places.{some_same, get_map, at_place}
 use Rattle.luo_model.specs.declared.body.Bind.{Bind}
 use Rattle.luo_model.specs.declared.body.Bind.TheVariants.{Nothing, Whole, Parts}
 use Rattle.luo_model.specs.declared.program.Part.{Part}
 use Rattle.luo_model.specs.declared.program.Shape.{Shape}
 use Rattle.luo_model.specs.declared.program.Shape.TheVariants as shape
 use Rattle.luo_model.specs.Program.{Program, Procedure, Body, Does, Items, no_items, item, Item, Call, Case, Forall, Arms, no_arms, arm, shape_of, site_node}
-use Rattle.luo_model.specs.Charges.{Work, of_body, of_call, of_case, of_walk, works_of}
+use Rattle.luo_model.specs.Charges.{works_of}
 use Rattle.luo_model.specs.Levels.{IsRank, ItemLevel, ItemsLevel, BodyLevel, LevelWithin, WholeLevel, WorkLevel, IsLevel}
-use Rattle.luo_model.specs.Scopes.{FitsBody, FitsItems, FitsItem, FitsArms, Stand, stand_node, inside, itself, stands, factors, IsProductOf, MayBind, bound_nodes, node_at}
+use Rattle.luo_model.specs.Scopes.{FitsArms, inside, itself, stands, factors, MayBind, bound_nodes, node_at}
 use Rattle.luo_model.specs.Invariant.{IsProgram, inner_parts}
 use Rattle.luo_model.specs.Founded.{IsFounded}
 use Rattle.luo_model.proofs.NodeLemmas.{node_at_place}
 use Rattle.luo_model.proofs.WorkLemmas.{sites_are_apart}
-use Rattle.luo_engine.specs.inner.Obeys.{Falls, OtherHasNone, Obeys}
+use Rattle.luo_engine.specs.inner.Obeys.{Falls}
 use Rattle.luo_engine.specs.inner.Filled.{rank_of}
 use Rattle.luo_engine.specs.inner.Listed.{IsSiteBefore}
 use Rattle.luo_engine.specs.inner.Tasks.{Doing, does, calls, chooses, walks, work_of, Job, jobs_of_body, jobs_of_items, jobs_of_item, jobs_of_arms, jobs_of, FactorSites, Scope, var_in, site_in, sites_on, factors_from, scope_of, scopes_of, whole_sites, of_scopes, of_each, recipe_of}
 use Rattle.luo_engine.proofs.CountLemmas.{number, obeys}
-use Rattle.luo_engine.proofs.JobLemmas.{IsJob, job_is}
+use Rattle.luo_engine.proofs.JobLemmas.{job_is}
 use Rattle.luo_engine.proofs.ScopeLemmas.{second_one, BindFits, nodes_bound, bound_is, bind_fits, own_job, own_in, own_node, own_site, product_there}
 use Rattle.luo_engine.proofs.RecipeLemmas.{whole_among}
 use Rattle.luo_engine.proofs.ScopeReads.{OtherFactorHasNone, ScopeFalls}

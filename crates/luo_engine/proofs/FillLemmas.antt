@@ -1,18 +1,16 @@
 -- One more entry of the counts is filled in, or is the first past the last number.
-use Rattle.std.proofs.Common.{◌≡◌, ◌⊎◌, ℕ, zero, suc, ◌+◌, ◌≤◌, ◌<◌, inl, inr, ⊎_elim, List, [], ◌∷◌, length, drop, get_or, slice_index, slice_get, refl, sym, ◌∙◌, ap, subst, arith, Some, None, Option}
-use Rattle.std.proofs.lemmas.Option.{get_or_from_slice_get}
+use Rattle.std.proofs.Common.{◌≡◌, ◌⊎◌, ℕ, ◌+◌, ◌≤◌, ◌<◌, inl, inr, ⊎_elim, List, [], ◌∷◌, length, drop, slice_get, refl, sym, ◌∙◌, ap, subst, arith, Some, None, Option}
 use Rattle.luo_num.specs.declared.TheConstants.{MAX}
 use Rattle.luo_num.specs.Mark.{capped}
-use Rattle.luo_num.proofs.Capped.{capped-past, capped-small}
-use Rattle.luo_finite.specs.Range.{unit}
+use Rattle.luo_num.proofs.Capped.{capped-past}
 use Rattle.luo_finite.proofs.Sums.{Counts-unique}
 use Rattle.luo_model.specs.declared.program.Universe.{Universe}
 use Rattle.luo_model.specs.Program.{Program}
 use Rattle.luo_model.specs.Structures.{IsStructure}
 use Rattle.luo_model.specs.Tables.{IsCount}
-use Rattle.luo_engine.specs.inner.Grid.{row_of, entry_of, Reaches, IsSet, SameShape}
+use Rattle.luo_engine.specs.inner.Grid.{entry_of, Reaches, IsSet, SameShape}
 use Rattle.luo_engine.specs.inner.Shares.{tail_of, open_of}
-use Rattle.luo_engine.specs.inner.Partial.{AreLinks, AreClosedBelow, AreOpenBefore}
+use Rattle.luo_engine.specs.inner.Partial.{AreLinks, AreOpenBefore}
 use Rattle.luo_engine.specs.inner.Filled.{IsBefore, IsOrder, IsOrderOf, IsRightOf, AreFilled, NumbersTo, IsFirstPastOf, AreCounted, CountsTo, IsFirstPast}
 use Rattle.luo_engine.proofs.ShareLemmas.{shares-same, inner-same}
 

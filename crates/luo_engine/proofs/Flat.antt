@@ -1,7 +1,7 @@
 -- Cells that stand row by row.
-use Rattle.std.proofs.Common.{◌≡◌, ◌⊎◌, ℕ, zero, suc, ◌+◌, ◌*◌, ◌^◌, ◌-◌, ◌≤◌, ◌<◌, inl, inr, ⊎_elim, List, [], ◌∷◌, length, get_or, slice_index, slice_set, take, drop, refl, sym, ◌∙◌, ap, subst, arith}
+use Rattle.std.proofs.Common.{◌≡◌, ◌⊎◌, ℕ, zero, suc, ◌+◌, ◌*◌, ◌≤◌, ◌<◌, inl, inr, ⊎_elim, List, [], length, slice_index, slice_set, take, drop, refl, sym, ◌∙◌, ap, arith}
 use Rattle.std.proofs.Math.Nat.{suc-mul, zero-mul, mul-le-mul_right}
-use Rattle.std.proofs.lemmas.List.{drop-drop, get_or-take, get_or-drop, get_or_past, get_or-set_same, get_or-set_other, length-take, length-take-le, length-drop, length-set}
+use Rattle.std.proofs.lemmas.List.{drop-drop, get_or-take, get_or-drop, get_or_past, get_or-set_same, get_or-set_other, length-take-le, length-drop, length-set}
 use Rattle.luo_engine.specs.inner.Grid.{rows_of, row_of, entry_of, IsTable, IsSet, AreZero}
 
 pub length-rows : (rows sizes : ℕ) (cells : List ℕ) → length (rows_of rows sizes cells) ≡ rows

@@ -3,15 +3,15 @@ use Rattle.std.proofs.Common.{◌≡◌, ◌⊎◌, ℕ, zero, suc, ◌+◌, ◌
 use Rattle.std.proofs.lemmas.Option.{get_or_from_slice_get, slice_get_within}
 use Rattle.std.proofs.lemmas.List.{map-append}
 use Rattle.luo_finite.specs.Listing.{In}
-use Rattle.luo_finite.proofs.Membership.{In-append_left, In-append_right, In-append_cases, In-map}
-use Rattle.luo_finite.proofs.Places.{some_same, none_some, place_in, get_map, get_map_back}
+use Rattle.luo_finite.proofs.Membership.{In-append_left, In-append_right, In-append_cases}
+use Rattle.luo_finite.proofs.Places.{some_same, none_some, place_in, get_map}
 use Rattle.luo_model.specs.declared.program.Site.{Site}
 use Rattle.luo_model.specs.Program.{Program, Procedure, Body, Does, Items, no_items, item, Item, Call, Case, Forall, Arms, no_arms, arm, shape_of, site_node}
-use Rattle.luo_model.specs.Charges.{Work, of_body, of_call, of_case, of_walk, works_of_body, works_of_items, works_of_item, works_of_arms, works_of_procedure, works_of}
+use Rattle.luo_model.specs.Charges.{Work, of_body, of_walk, works_of_body, works_of_items, works_of_item, works_of_arms, works_of_procedure, works_of}
 use Rattle.luo_model.specs.Scopes.{FitsBody, FitsItems, FitsItem, FitsArms, Stand, stands, component, bound_nodes, node_at, IsCollection, body_sites, items_sites, item_sites, arms_sites}
 use Rattle.luo_model.specs.Invariant.{IsProgram, procedure_sites, placed, sites_from, numbered_from}
 use Rattle.luo_model.proofs.WorkLemmas.{WorkOn}
-use Rattle.luo_engine.specs.inner.Tasks.{Doing, does, calls, chooses, walks, work_of, Job, jobs_of_body, jobs_of_items, jobs_of_item, jobs_of_arms, jobs_of_procedure, jobs_of, inner_jobs}
+use Rattle.luo_engine.specs.inner.Tasks.{does, calls, chooses, walks, work_of, Job, jobs_of_body, jobs_of_items, jobs_of_item, jobs_of_arms, jobs_of_procedure, jobs_of, inner_jobs}
 
 abbrev Inside : {A : Type 0} → List A → List A → Type 0
 Inside {A} xs ys = (x : A) → In x xs → In x ys

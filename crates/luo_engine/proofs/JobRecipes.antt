@@ -1,5 +1,5 @@
 -- The recipes of a program are those of its jobs, and the rows of their factors are there.
-use Rattle.std.proofs.Common.{◌≡◌, ◌⊎◌, inl, inr, ⊎_elim, ℕ, zero, suc, ◌+◌, ◌≤◌, ◌<◌, List, [], ◌∷◌, ◌++◌, length, map, flat_map, drop, slice_get, slice_index, refl, sym, ◌∙◌, ap, subst, arith, None, Some, Option}
+use Rattle.std.proofs.Common.{◌≡◌, inl, inr, ⊎_elim, ℕ, suc, ◌<◌, List, [], ◌∷◌, ◌++◌, length, map, flat_map, slice_get, refl, sym, ◌∙◌, ap, subst, None, Some, Option}
 use Rattle.std.proofs.lemmas.List.{map-append}
 use Rattle.luo_finite.specs.Listing.{In}
 use Rattle.luo_finite.proofs.Places.{place_in, get_map, In_get}
@@ -16,8 +16,8 @@ use Rattle.luo_model.specs.Invariant.{IsProgram}
 use Rattle.luo_model.proofs.NodeLemmas.{node_at_place}
 use Rattle.luo_engine.specs.inner.Filled.{IsLaid}
 use Rattle.luo_engine.specs.inner.Laying.{recipes_of_body, recipes_of_items, recipes_of_item, recipes_of_arms, recipes_of_procedure, recipes_of}
-use Rattle.luo_engine.specs.inner.Tasks.{Doing, does, calls, chooses, walks, Job, jobs_of_body, jobs_of_items, jobs_of_item, jobs_of_arms, jobs_of_procedure, jobs_of, FactorSites, Scope, factors_from, scope_of, scopes_of, whole_sites, Recipe, of_scopes, of_each, recipe_of}
-use Rattle.luo_engine.proofs.JobLemmas.{IsJob, job_is}
+use Rattle.luo_engine.specs.inner.Tasks.{Doing, does, calls, chooses, walks, Job, jobs_of_body, jobs_of_items, jobs_of_item, jobs_of_arms, jobs_of_procedure, jobs_of, FactorSites, Scope, factors_from, scope_of, scopes_of, Recipe, recipe_of}
+use Rattle.luo_engine.proofs.JobLemmas.{job_is}
 use Rattle.luo_engine.proofs.LaidLemmas.{HasRows, RecipeRows}
 
 module _ (p : Program) where

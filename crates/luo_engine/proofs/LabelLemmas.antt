@@ -7,12 +7,12 @@ use Rattle.std.specs.Ordering.{nat_cmp, MatchOrdering, ordering_then}
 use Rattle.std.proofs.lemmas.Cmp.{ranked}
 use Rattle.std.proofs.lemmas.List.{map-append}
 use Rattle.std.proofs.lemmas.Bool.{leb-true, le-leb}
-use Rattle.std.specs.Bool.{Decides, one_answer}
+use Rattle.std.specs.Bool.{one_answer}
 use Rattle.luo_finite.specs.Listing.{In}
 use Rattle.luo_finite.specs.Each.{Each}
 use Rattle.luo_finite.proofs.Orders.{nat_less, nat_itself}
 use Rattle.luo_model.specs.Tree.{Tree, Trees, Atom, Inj, Tup, Coll, none, more, size_of, sizes_of, label_list, labels_of, all_labels_of, least_of}
-use Rattle.luo_model.specs.Order.{put, sorted, then_by, form_of, by_size_and_labels, by_form, by_parts, order_of}
+use Rattle.luo_model.specs.Order.{put, sorted, then_by, by_size_and_labels, by_form, by_parts, order_of}
 use Rattle.luo_engine.specs.Relabelling.{sent, relabelled, all_relabelled, Rises, IsAmong}
 
 three_ways : (a b : ℕ) → (a < b) ⊎ ((a ≡ b) ⊎ (b < a))

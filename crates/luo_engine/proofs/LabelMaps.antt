@@ -1,14 +1,14 @@
 -- The rising map from labels to as many others, and counts and sums on any labels.
-use Rattle.std.proofs.Common.{◌≡◌, ◌⊎◌, ℕ, zero, suc, ◌+◌, ◌≤◌, ◌<◌, ◌==◌, Bool, true, false, if◌then◌else◌, inl, inr, ⊎_elim, List, [], ◌∷◌, ◌++◌, map, length, refl, sym, ◌∙◌, ap, subst, arith}
+use Rattle.std.proofs.Common.{◌≡◌, ℕ, zero, suc, ◌+◌, ◌≤◌, ◌<◌, ◌==◌, Bool, true, false, if◌then◌else◌, inl, inr, List, [], ◌∷◌, map, length, refl, sym, ◌∙◌, ap, subst, arith}
 use Rattle.std.proofs.lemmas.Bool.{eq-eqb, eqb-true}
-use Rattle.luo_finite.specs.Listing.{In, NoDouble, Pairwise, Counts, Sums}
+use Rattle.luo_finite.specs.Listing.{In, Sums}
 use Rattle.luo_finite.specs.Each.{Each}
 use Rattle.luo_finite.proofs.Membership.{In-map, In-map_back}
 use Rattle.luo_finite.proofs.Doubles.{NoDouble-map}
 use Rattle.luo_finite.proofs.Sums.{Sums-map, Sums-iff, Sums-same, Counts-to}
 use Rattle.luo_model.specs.declared.program.Universe.{Universe}
 use Rattle.luo_model.specs.declared.program.Universe.TheVariants.{Unlabelled, Labelled}
-use Rattle.luo_model.specs.Tree.{Tree, Trees, Atom, Inj, Tup, Coll, none, more, size_of, label_list, labels_of, all_labels_of}
+use Rattle.luo_model.specs.Tree.{Tree, Trees, Atom, Inj, Tup, Coll, none, more, label_list, labels_of, all_labels_of}
 use Rattle.luo_model.specs.Program.{Program}
 use Rattle.luo_model.specs.Member.{Member}
 use Rattle.luo_model.specs.Structures.{Rising, Holds, Carries, IsStructure, IsStructureOn, labels_from}

@@ -1,26 +1,16 @@
 -- The layout of a program's recipes gives the tasks of its sites.
-use Rattle.std.proofs.Common.{◌≡◌, ◌⊎◌, inl, inr, ⊎_elim, ℕ, zero, suc, ◌+◌, ◌≤◌, ◌<◌, List, [], ◌∷◌, ◌++◌, length, map, flat_map, drop, slice_get, slice_index, refl, sym, ◌∙◌, ap, subst, arith, None, Some, Option, append_assoc}
-use Rattle.std.proofs.lemmas.List.{append-nil, length-append, map-append}
-use Rattle.std.proofs.lemmas.Option.{slice_get_within}
+use Rattle.std.proofs.Common.{◌≡◌, ◌⊎◌, inl, inr, ℕ, zero, suc, List, [], ◌∷◌, ◌++◌, length, map, drop, slice_get, slice_index, refl, sym, ◌∙◌, ap, subst, arith, None, Some, Option, append_assoc}
+use Rattle.std.proofs.lemmas.List.{append-nil}
 use Rattle.luo_finite.specs.Listing.{In}
-use Rattle.luo_finite.proofs.Places.{some_same, none_some, get_map}
-use Rattle.luo_model.specs.declared.program.Part.{Part}
-use Rattle.luo_model.specs.declared.program.Shape.{Shape}
-use Rattle.luo_model.specs.declared.program.Shape.TheVariants as shape
-use Rattle.luo_model.specs.Program.{Program, Procedure, Body, Does, Items, no_items, item, Item, Call, Case, Forall, Arms, no_arms, arm, shape_of, site_node}
-use Rattle.luo_model.specs.Scopes.{FitsBody, FitsItems, FitsItem, FitsArms, Stand, stands, component, bound_nodes, node_at}
-use Rattle.luo_model.specs.Invariant.{IsProgram}
+use Rattle.luo_finite.proofs.Places.{some_same, none_some}
 use Rattle.luo_engine.specs.declared.points.Link.{Link}
-use Rattle.luo_engine.specs.declared.tasks.Scope.{Scope}
 use Rattle.luo_engine.specs.declared.tasks.Task.{Task}
 use Rattle.luo_engine.specs.declared.tasks.Task.TheVariants.{Scopes, Walk}
 use Rattle.luo_engine.specs.declared.sites.Laid.{Laid}
-use Rattle.luo_engine.specs.inner.Filled.{IsLaid}
 use Rattle.luo_engine.specs.inner.Laid.{factor_of, IsScope, AreScopes, IsTask}
-use Rattle.luo_engine.specs.inner.Laying.{links_from, rows_of_scope, rows_of_scopes, placed_scope, placed_scopes, lay, lay_all, recipes_of_body, recipes_of_items, recipes_of_item, recipes_of_arms, recipes_of_procedure, recipes_of}
+use Rattle.luo_engine.specs.inner.Laying.{links_from, rows_of_scope, rows_of_scopes, placed_scope, placed_scopes, lay, lay_all}
 use Rattle.luo_engine.specs.inner.Tasks.{Doing, does, calls, chooses, walks, Job, jobs_of_body, jobs_of_items, jobs_of_item, jobs_of_arms, jobs_of_procedure, jobs_of, FactorSites, Recipe, of_scopes, of_each, recipe_of}
 use Rattle.luo_engine.specs.inner.Tasks as plain
-use Rattle.luo_engine.proofs.JobLemmas.{IsJob, job_is}
 
 -- what stands behind so many
 drop_front : {A : Type 0} (xs ys : List A) → drop (length xs) (xs ++ ys) ≡ ys

@@ -1,18 +1,18 @@
 -- Loops over items, arms and procedures of the code, whose sites come one behind another.
-use Rattle.std.proofs.Common.{◌≡◌, ℕ, ◌+◌, ◌<◌, ◌≤◌, List, [], ◌∷◌, ◌++◌, map, flat_map, length, drop, get_or, refl, sym, ◌∙◌, ap, append_assoc, arith}
-use Rattle.std.proofs.lemmas.List.{append-nil, drop_all, drop_more}
+use Rattle.std.proofs.Common.{◌≡◌, ℕ, ◌+◌, ◌<◌, ◌≤◌, List, [], ◌∷◌, ◌++◌, map, flat_map, length, drop, get_or, refl, sym, ◌∙◌, ap}
+use Rattle.std.proofs.lemmas.List.{drop_all, drop_more}
 use Rattle.luo_model.specs.declared.body.Arm.{Arm}
 use Rattle.luo_model.specs.declared.body.Body.{Body}
-use Rattle.luo_model.specs.declared.body.Item.{Item, Call, Case, Forall}
+use Rattle.luo_model.specs.declared.body.Item.{Item, Case, Forall}
 use Rattle.luo_model.specs.declared.program.Proc.{Proc}
 use Rattle.luo_model.specs.Program.{Program, site_node}
 use Rattle.luo_model.specs.Program as plain
 use Rattle.luo_model.specs.Lists.{arm_list}
-use Rattle.luo_model.specs.View.{Held, plain_of, procedure_of, item_of, item_list, body_of}
+use Rattle.luo_model.specs.View.{procedure_of, item_of, item_list, body_of}
 use Rattle.luo_model.proofs.ViewLemmas.{case_item, walk_item}
 use Rattle.luo_engine.specs.declared.sites.Laid.{Laid}
-use Rattle.luo_engine.specs.inner.Tasks.{does, calls, chooses, walks, Recipe, recipe_of}
-use Rattle.luo_engine.specs.inner.Laying.{lay, lay_all, recipes_of_body, recipes_of_items, recipes_of_item, recipes_of_arms, recipes_of_procedure, recipes_of}
+use Rattle.luo_engine.specs.inner.Tasks.{does, chooses, walks, Recipe, recipe_of}
+use Rattle.luo_engine.specs.inner.Laying.{lay, lay_all, recipes_of_body, recipes_of_items, recipes_of_item, recipes_of_arms, recipes_of_procedure}
 
 at_element : {A : Type 0} (xs : List A) (i : ℕ) (x : A) → i < length xs → x ≡ get_or xs i x → drop i xs ≡ x ∷ drop (i + 1) xs
 at_element xs i x h e = drop_more xs i x h ∙ ap (λ y. y ∷ drop (i + 1) xs) (sym e)

@@ -1,6 +1,5 @@
 -- A site has one level.
-use Rattle.std.proofs.Common.{◌≡◌, ℕ, zero, suc, ◌<◌, List, length, slice_get, max, Some, sym, ◌∙◌, ap, subst, arith}
-use Rattle.luo_finite.specs.Listing.{In}
+use Rattle.std.proofs.Common.{◌≡◌, ℕ, zero, suc, List, slice_get, max, Some, sym, ◌∙◌, ap, subst}
 use Rattle.luo_finite.proofs.Places.{place_in}
 use Rattle.luo_model.specs.Program.{Program, Procedure, Body, Does, Items, no_items, item, Item, Call, Case, Forall}
 use Rattle.luo_model.specs.Charges.{Work, of_body, of_call, of_case, of_walk, works_of}

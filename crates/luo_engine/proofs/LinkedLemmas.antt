@@ -1,22 +1,18 @@
 -- What the links of a layout name is there.
-use Rattle.std.proofs.Common.{◌≡◌, ◌⊎◌, inl, inr, ⊎_elim, ℕ, zero, suc, ◌+◌, ◌*◌, ◌^◌, ◌≤◌, ◌<◌, List, [], ◌∷◌, ◌++◌, length, map, drop, slice_get, slice_index, refl, sym, ◌∙◌, ap, subst, arith, None, Some, Option}
+use Rattle.std.proofs.Common.{◌≡◌, ◌⊎◌, inl, inr, ⊎_elim, ℕ, zero, suc, ◌+◌, ◌<◌, List, [], ◌∷◌, ◌++◌, length, map, drop, slice_get, slice_index, refl, sym, ◌∙◌, ap, subst, arith, None, Some, Option}
 use Rattle.std.proofs.lemmas.List.{length-append}
-use Rattle.luo_num.specs.declared.limits.TheConstants.{PART_LIMIT, NODE_LIMIT}
 use Rattle.luo_finite.specs.Listing.{In}
 use Rattle.luo_finite.proofs.Membership.{In-map_back}
-use Rattle.luo_finite.proofs.Places.{some_same, none_some, get_within, In_get, place_in}
+use Rattle.luo_finite.proofs.Places.{none_some}
 use Rattle.luo_model.specs.declared.program.Part.{Part}
-use Rattle.luo_model.specs.declared.program.Shape.TheVariants as shape
-use Rattle.luo_model.specs.Program.{Program, shape_of, site_node}
+use Rattle.luo_model.specs.Program.{Program, site_node}
 use Rattle.luo_model.specs.Levels.{IsRank, IsLevel}
 use Rattle.luo_model.specs.View.{plain_of}
 use Rattle.luo_engine.specs.declared.points.Link.{Link}
-use Rattle.luo_engine.specs.declared.tasks.Sites.{Sites}
-use Rattle.luo_engine.specs.declared.tasks.Task.{Task}
 use Rattle.luo_engine.specs.declared.sites.Laid.{Laid}
-use Rattle.luo_engine.specs.inner.Filled.{rank_of, IsOrderOf, IsLaid}
+use Rattle.luo_engine.specs.inner.Filled.{rank_of, IsOrderOf}
 use Rattle.luo_engine.specs.inner.Listed.{IsSiteBefore}
-use Rattle.luo_engine.specs.inner.Laid.{IsLinked, IsTask, AreSites}
+use Rattle.luo_engine.specs.inner.Laid.{IsLinked}
 use Rattle.luo_engine.specs.inner.Laying.{links_from, rows_of_scope, rows_of_scopes, lay_all, recipes_of}
 use Rattle.luo_engine.specs.inner.Plan.{Planned, IsPlan}
 use Rattle.luo_engine.specs.inner.Starts.{HaveRoom}
@@ -24,7 +20,7 @@ use Rattle.luo_engine.specs.inner.Tasks.{Job, jobs_of, FactorSites, Scope, Recip
 use Rattle.luo_engine.specs.inner.Totals.{ArePlanned}
 use Rattle.luo_engine.proofs.CountLemmas.{number}
 use Rattle.luo_engine.proofs.RowLemmas.{room-there}
-use Rattle.luo_engine.proofs.JobLemmas.{IsJob, job_is, job_site, jobs_length}
+use Rattle.luo_engine.proofs.JobLemmas.{job_is, jobs_length}
 use Rattle.luo_engine.proofs.ScopeReads.{ScopeFalls}
 use Rattle.luo_engine.proofs.FallLemmas.{job_falls}
 use Rattle.luo_engine.proofs.NodesThere.{job_node_there}

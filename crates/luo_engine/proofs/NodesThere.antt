@@ -1,5 +1,5 @@
 -- The nodes of jobs are there.
-use Rattle.std.proofs.Common.{◌≡◌, ◌⊎◌, ℕ, zero, suc, ◌+◌, ◌≤◌, ◌<◌, inl, inr, ⊎_elim, List, [], ◌∷◌, ◌++◌, length, map, flat_map, slice_get, refl, sym, ◌∙◌, ap, subst, arith, Some}
+use Rattle.std.proofs.Common.{◌≡◌, ℕ, ◌<◌, inl, inr, ⊎_elim, List, [], ◌∷◌, ◌++◌, length, flat_map, slice_get, refl, sym, subst, Some}
 use Rattle.std.proofs.lemmas.Option.{get_or_from_slice_get}
 use Rattle.luo_finite.specs.Listing.{In}
 use Rattle.luo_finite.proofs.Membership.{In-append_cases, In-map_back}
@@ -10,10 +10,10 @@ use Rattle.luo_model.specs.declared.program.Part.{Part}
 use Rattle.luo_model.specs.declared.program.Shape.{Shape}
 use Rattle.luo_model.specs.declared.program.Shape.TheVariants as shape
 use Rattle.luo_model.specs.Program.{Program, Procedure, Body, Does, Items, no_items, item, Item, Call, Case, Forall, Arms, no_arms, arm, shape_of}
-use Rattle.luo_model.specs.Scopes.{FitsBody, FitsItems, FitsItem, FitsArms, Stand, stand_node, inside, itself, stands, factors, component, IsCollection, bound_nodes, node_at}
+use Rattle.luo_model.specs.Scopes.{FitsBody, FitsItems, FitsItem, FitsArms, Stand, stand_node, inside, stands, factors, component, IsCollection, bound_nodes, node_at}
 use Rattle.luo_model.specs.Invariant.{IsProgram, inner_parts}
 use Rattle.luo_model.proofs.NodeLemmas.{node_at_place}
-use Rattle.luo_engine.specs.inner.Tasks.{Doing, does, calls, chooses, walks, Job, jobs_of_body, jobs_of_items, jobs_of_item, jobs_of_arms, jobs_of_procedure, jobs_of}
+use Rattle.luo_engine.specs.inner.Tasks.{does, calls, chooses, walks, Job, jobs_of_body, jobs_of_items, jobs_of_item, jobs_of_arms, jobs_of_procedure, jobs_of}
 
 module _ (p : Program) (q : IsProgram p) where
   abbrev pub AreThere : List ℕ → Type 0

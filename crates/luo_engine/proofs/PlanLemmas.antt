@@ -1,12 +1,12 @@
 -- The entries of a plan's nodes.
-use Rattle.std.proofs.Common.{◌≡◌, ◌⊎◌, ⊎_elim, ℕ, ◌+◌, ◌≤◌, ◌<◌, List, [], ◌∷◌, ◌++◌, length, map, sum_by, drop, slice_index, slice_get, sym, ◌∙◌, ap, subst, arith, Some, None, Option}
+use Rattle.std.proofs.Common.{◌≡◌, ⊎_elim, ℕ, ◌+◌, ◌<◌, List, [], length, sum_by, drop, slice_index, slice_get, sym, ◌∙◌, ap, subst, arith, Some, None, Option}
 use Rattle.std.proofs.lemmas.Option.{get_or_from_slice_get}
 use Rattle.std.proofs.lemmas.Bool.Decides.{nat_tests}
 use Rattle.luo_num.specs.Mark.{capped}
 use Rattle.luo_finite.specs.Listing.{In}
 use Rattle.luo_model.specs.declared.program.Part.{Part}
 use Rattle.luo_model.specs.declared.program.Shape.{Shape}
-use Rattle.luo_model.specs.declared.program.Shape.TheVariants.{Atom, Union, Product, Coll}
+use Rattle.luo_model.specs.declared.program.Shape.TheVariants.{Atom, Union, Product}
 use Rattle.luo_model.specs.Program.{Program, shape_of}
 use Rattle.luo_model.specs.Invariant.{IsProgram, inner_parts}
 use Rattle.luo_model.specs.View.{plain_of}

@@ -1,6 +1,5 @@
 -- Rows of charged products.
-use Rattle.std.proofs.Common.{◌≡◌, ◌⊎◌, ℕ, zero, suc, ◌+◌, ◌*◌, ◌≤◌, ◌<◌, inl, inr, List, [], ◌∷◌, ◌++◌, length, get_or, slice_get, slice_index, drop, map, sum_by, refl, sym, ◌∙◌, ap, subst, arith, Some, None, Option}
-use Rattle.std.proofs.Math.Nat.{add-mul}
+use Rattle.std.proofs.Common.{◌≡◌, ◌⊎◌, ℕ, zero, suc, ◌+◌, ◌*◌, ◌<◌, inl, inr, List, [], ◌∷◌, length, get_or, slice_get, slice_index, drop, sum_by, refl, sym, ◌∙◌, ap, subst, arith, Some, None, Option}
 use Rattle.std.proofs.lemmas.List.Sums.{sum_by-cons}
 use Rattle.std.proofs.lemmas.Option.{slice_get-get_or, get_or_from_slice_get, slice_get_within}
 use Rattle.luo_num.specs.Mark.{capped}
@@ -11,7 +10,7 @@ use Rattle.luo_engine.specs.declared.points.Link.{Link}
 use Rattle.luo_engine.specs.inner.Shares.{inner, tail_of}
 use Rattle.luo_engine.specs.inner.Grid.{row_of, entry_of}
 use Rattle.luo_engine.specs.inner.Partial.{closing}
-use Rattle.luo_engine.specs.inner.Points.{point_of, open_point, IsLink, ArePointsBelow, ArePointsOpen}
+use Rattle.luo_engine.specs.inner.Points.{point_of, open_point, IsLink, ArePointsBelow}
 use Rattle.luo_engine.proofs.ShareLemmas.{shares-first, shares-inner}
 use Rattle.luo_engine.proofs.MarkLemmas.{capped-capped, alike-times, alike-plus, alike-inner}
 use Rattle.luo_engine.proofs.RowLemmas.{drop-at}

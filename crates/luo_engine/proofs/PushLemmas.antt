@@ -1,5 +1,5 @@
 -- A scope put behind others.
-use Rattle.std.proofs.Common.{◌≡◌, ◌⊎◌, inl, inr, ⊎_elim, min, get_or, ℕ, zero, suc, ◌+◌, ◌≤◌, ◌<◌, List, [], ◌∷◌, ◌++◌, length, map, slice_index, refl, sym, ◌∙◌, ap, subst, arith, None, Some, Option, append_assoc}
+use Rattle.std.proofs.Common.{◌≡◌, ◌⊎◌, inl, inr, ⊎_elim, min, get_or, ℕ, zero, suc, ◌+◌, ◌≤◌, ◌<◌, List, [], ◌∷◌, ◌++◌, length, map, slice_index, refl, sym, ◌∙◌, ap, subst, arith, None, Option, append_assoc}
 use Rattle.std.proofs.lemmas.List.{append-nil}
 use Rattle.luo_model.specs.declared.body.Bind.{Bind}
 use Rattle.luo_model.specs.declared.body.Bind.TheVariants.{Nothing, Whole, Parts}
@@ -9,7 +9,7 @@ use Rattle.luo_model.specs.declared.program.Part.{Part}
 use Rattle.luo_model.specs.declared.program.Shape.{Shape}
 use Rattle.luo_model.specs.declared.program.Shape.TheVariants as shape
 use Rattle.luo_model.specs.Program.{Program, Items, shape_of}
-use Rattle.luo_model.specs.Scopes.{factors, inside, itself, stands}
+use Rattle.luo_model.specs.Scopes.{factors, inside}
 use Rattle.luo_model.specs.Lists.{arm_list}
 use Rattle.luo_model.specs.declared.body.Arm.{Arm}
 use Rattle.luo_model.specs.View.{body_of, item_list}
@@ -17,7 +17,7 @@ use Rattle.luo_engine.specs.declared.points.Link.{Link}
 use Rattle.luo_engine.specs.declared.tasks.Scope.{Scope}
 use Rattle.luo_engine.specs.inner.Tasks.{FactorSites, sites_on, factors_from, scope_of, scopes_of}
 use Rattle.luo_engine.specs.inner.Tasks as plain
-use Rattle.luo_engine.specs.inner.Laying.{links_from, rows_of_scope, rows_of_scopes, placed_scope, placed_scopes, product_parts, union_parts, IsProductShape, IsPushed, ArePushed}
+use Rattle.luo_engine.specs.inner.Laying.{links_from, rows_of_scope, rows_of_scopes, placed_scope, placed_scopes, product_parts, IsPushed, ArePushed}
 
 same_scope : (own y start arity : ℕ) (sites : List ℕ) (a b c d : ℕ) (l : List ℕ) → own ≡ a → y ≡ b → sites ≡ l → start ≡ c → arity ≡ d
     → ◌≡◌ {A = Scope} (record { own = own; node = y; sites = sites; start = start; arity = arity }) (record { own = a; node = b; sites = l; start = c; arity = d })

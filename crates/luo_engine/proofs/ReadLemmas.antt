@@ -1,5 +1,5 @@
 -- A product at size n reads only what is filled: the entries of smaller sizes, and those of size n to which a same-size step leads.
-use Rattle.std.proofs.Common.{◌≡◌, ◌⊎◌, ℕ, zero, suc, ◌+◌, ◌*◌, ◌≤◌, ◌<◌, inl, inr, ⊎_elim, List, [], ◌∷◌, map, refl, sym, ◌∙◌, ap, subst, arith}
+use Rattle.std.proofs.Common.{◌≡◌, ◌⊎◌, ℕ, zero, suc, ◌+◌, ◌*◌, ◌≤◌, ◌<◌, inl, inr, List, [], ◌∷◌, map, refl, sym, ◌∙◌, ap, arith}
 use Rattle.luo_finite.specs.Listing.{In}
 use Rattle.luo_model.specs.declared.program.Universe.{Universe}
 use Rattle.luo_counting.specs.Sharing.{shares, products}

@@ -1,5 +1,5 @@
 -- The total of each site is the number of its recipe.
-use Rattle.std.proofs.Common.{◌≡◌, ℕ, zero, suc, ◌+◌, ◌*◌, ◌≤◌, ◌<◌, List, [], ◌∷◌, ◌++◌, inl, inr, length, map, get_or, sum_by, refl, sym, ◌∙◌, ap, subst, arith, Some, Option, slice_get, flat_map}
+use Rattle.std.proofs.Common.{◌≡◌, ℕ, zero, suc, ◌+◌, ◌*◌, ◌≤◌, List, [], ◌∷◌, inl, length, map, get_or, sum_by, refl, sym, ◌∙◌, ap, subst, arith, Some, Option, slice_get, flat_map}
 use Rattle.std.proofs.lemmas.List.Sums.{sum_by-cons}
 use Rattle.std.proofs.lemmas.Option.{get_or_from_slice_get}
 use Rattle.luo_finite.specs.Listing.{In}
@@ -9,17 +9,17 @@ use Rattle.luo_finite.proofs.Membership.{In-append_left, In-append_right}
 use Rattle.luo_finite.proofs.Places.{some_same, none_some}
 use Rattle.luo_finite.proofs.Sums.{Sums-none, Sums-unique}
 use Rattle.luo_model.specs.declared.body.Bind.{Bind}
-use Rattle.luo_model.specs.declared.body.Bind.TheVariants.{Nothing, Whole, Parts}
+use Rattle.luo_model.specs.declared.body.Bind.TheVariants.{Whole}
 use Rattle.luo_model.specs.declared.program.Kind.{Kind}
 use Rattle.luo_model.specs.declared.program.Part.{Part}
 use Rattle.luo_model.specs.declared.program.Shape.{Shape}
 use Rattle.luo_model.specs.declared.program.Shape.TheVariants as shape
-use Rattle.luo_model.specs.Tree.{Tree, Trees, Atom, Inj, Tup, Coll}
-use Rattle.luo_model.specs.Program.{Program, Procedure, Body, Does, Arms, no_arms, arm, shape_of, site_node}
+use Rattle.luo_model.specs.Tree.{Tree, Atom, Inj, Tup, Coll}
+use Rattle.luo_model.specs.Program.{Program, Procedure, Body, Arms, no_arms, arm, shape_of}
 use Rattle.luo_model.specs.Member.{Fits, Member}
 use Rattle.luo_model.specs.Structures.{IsStructureOn, labels_from}
-use Rattle.luo_model.specs.Charges.{Work, of_body, of_call, of_case, of_walk, bound, BodyCharges, CaseCharges, Charges, works_of, WorkCharges, SiteCharges}
-use Rattle.luo_model.specs.Scopes.{FitsBody, FitsArms, Stand, stand_node, inside, itself, stands, component, IsCollection, MayBind, bound_nodes}
+use Rattle.luo_model.specs.Charges.{bound, BodyCharges, CaseCharges, Charges, WorkCharges}
+use Rattle.luo_model.specs.Scopes.{FitsBody, FitsArms, Stand, inside, itself, stands, component, IsCollection, bound_nodes}
 use Rattle.luo_model.specs.Tables.{IsTotal}
 use Rattle.luo_model.specs.Invariant.{IsProgram}
 use Rattle.luo_model.specs.Founded.{IsFounded}
@@ -29,10 +29,10 @@ use Rattle.luo_model.proofs.WorkLemmas.{sites_are_apart}
 use Rattle.luo_counting.specs.Counted.{SumsAt}
 use Rattle.luo_counting.proofs.Numbered.{room_of}
 use Rattle.luo_counting.proofs.TreeCharges.{total_of_site, arm_at, case_total, walk_total}
-use Rattle.luo_engine.specs.inner.Tasks.{Doing, does, calls, chooses, walks, work_of, Job, jobs_of_body, jobs_of_arms, jobs_of_procedure, jobs_of, inner_jobs, Scope, scope_of, scopes_of, whole_sites, Recipe, of_scopes, of_each, recipe_of, scope_number, walk_number, recipe_number}
+use Rattle.luo_engine.specs.inner.Tasks.{Doing, does, calls, chooses, walks, work_of, Job, jobs_of_body, jobs_of_arms, jobs_of_procedure, jobs_of, Scope, scope_of, scopes_of, whole_sites, recipe_of, scope_number, walk_number, recipe_number}
 use Rattle.luo_engine.proofs.CountLemmas.{number, number_known, light, suits, solid, component_none}
-use Rattle.luo_engine.proofs.TotalLemmas.{weight, total, total_known, total_is}
-use Rattle.luo_engine.proofs.JobLemmas.{IsJob, job_is}
+use Rattle.luo_engine.proofs.TotalLemmas.{weight, total, total_is}
+use Rattle.luo_engine.proofs.JobLemmas.{job_is}
 use Rattle.luo_engine.proofs.ScopeLemmas.{bound_is, bind_fits, BindFits, nodes_bound, bound_stands, job_charges, job_total, body_weight, scope_charged, scope_total}
 
 no_part : Part

@@ -1,6 +1,5 @@
 -- Structures with other labels: members stay members, and charges stay.
-use Rattle.std.proofs.Common.{◌≡◌, ◌⊎◌, ℕ, zero, suc, ◌+◌, ◌≤◌, ◌<◌, inl, inr, ⊎_elim, List, [], ◌∷◌, ◌++◌, map, length, slice_get, Some, refl, sym, ◌∙◌, ap, subst, arith}
-use Rattle.luo_finite.specs.Listing.{In, Pairwise}
+use Rattle.std.proofs.Common.{◌≡◌, ℕ, zero, suc, ◌≤◌, ◌<◌, inl, inr, List, [], ◌∷◌, map, length, refl, sym, ◌∙◌, ap, subst, arith}
 use Rattle.luo_finite.specs.Each.{Each}
 use Rattle.luo_finite.proofs.Membership.{In-map_back}
 use Rattle.luo_finite.proofs.Pairwise.{Pairwise-into, Pairwise-map}
@@ -16,10 +15,10 @@ use Rattle.luo_model.specs.declared.body.Bind.{Bind}
 use Rattle.luo_model.specs.declared.body.Bind.TheVariants.{Nothing, Whole, Parts}
 use Rattle.luo_model.specs.Tree.{Tree, Trees, Atom, Inj, Tup, Coll, none, more, to_list, labels_of, all_labels_of, least_of, least_label}
 use Rattle.luo_model.specs.Order.{IsBefore}
-use Rattle.luo_model.specs.Standing.{IsLed, StandAs}
+use Rattle.luo_model.specs.Standing.{StandAs}
 use Rattle.luo_model.specs.Program.{Program, Procedure, Body, Does, Items, no_items, item, Item, Call, Case, Forall, Arms, no_arms, arm, shape_of}
 use Rattle.luo_model.specs.Member.{Fits, FitAll, FitEach, Member, IsLabel, IsWithin, ComponentsStand}
-use Rattle.luo_model.specs.Charges.{parts_of, bound, EachCharges, BodyCharges, ItemsCharge, ItemCharges, CaseCharges, ChargesWithin, Charges, Work, of_body, of_call, of_case, of_walk, works_of, WorkCharges, SiteCharges}
+use Rattle.luo_model.specs.Charges.{parts_of, bound, EachCharges, BodyCharges, ItemsCharge, ItemCharges, CaseCharges, ChargesWithin, Charges, Work, of_body, of_call, of_case, of_walk, WorkCharges, SiteCharges}
 use Rattle.luo_engine.specs.Relabelling.{sent, relabelled, all_relabelled, Rises, IsAmong}
 use Rattle.luo_engine.proofs.LabelLemmas.{Each-left, Each-right, Each-at, sent_rises, sent_le, least_among, least_sent, label_among, labels_sent, order_sent}
 

@@ -1,12 +1,12 @@
 -- One more size of a run.
-use Rattle.std.proofs.Common.{◌≡◌, ◌⊎◌, ℕ, ◌+◌, ◌≤◌, ◌<◌, inl, inr, ⊎_elim, Bool, true, false, Option, List, [], length, slice_get, refl, sym, ◌∙◌, ap, subst, arith, Some}
+use Rattle.std.proofs.Common.{◌≡◌, ◌⊎◌, ℕ, ◌+◌, ◌≤◌, ◌<◌, ⊎_elim, Bool, true, false, Option, List, length, sym, ◌∙◌, subst, arith}
 use Rattle.std.proofs.lemmas.Option.{slice_get_within}
 use Rattle.luo_num.specs.declared.TheConstants.{MAX}
 use Rattle.luo_finite.proofs.Sums.{Counts-unique}
 use Rattle.luo_model.specs.Structures.{IsStructure}
 use Rattle.luo_model.specs.View.{plain_of}
 use Rattle.luo_model.specs.Tables.{IsCount}
-use Rattle.luo_engine.specs.inner.Grid.{row_of, entry_of, Reaches, SameShape, SameOthers, IsTable, AreZero}
+use Rattle.luo_engine.specs.inner.Grid.{entry_of, Reaches, SameShape, IsTable, AreZero}
 use Rattle.luo_engine.specs.inner.Partial.{IsClosed, AreClosedBelow, AreClosedFrom}
 use Rattle.luo_engine.specs.inner.Filled.{IsRight, AreCounted, AreKept}
 use Rattle.luo_engine.specs.inner.Plan.{Planned, IsPlan}

@@ -1,10 +1,10 @@
 -- What a scope of items charges: over the structures of its node, the number of the scope.
-use Rattle.std.proofs.Common.{◌≡◌, ℕ, zero, suc, ◌+◌, ◌*◌, ◌≤◌, ◌<◌, List, [], ◌∷◌, ◌++◌, inl, inr, ⊎_elim, length, map, sum_by, refl, sym, ◌∙◌, ap, subst, arith, Some, slice_get}
+use Rattle.std.proofs.Common.{◌≡◌, ℕ, zero, suc, ◌+◌, ◌*◌, List, [], ◌∷◌, inl, inr, map, sum_by, refl, sym, ◌∙◌, ap, subst, arith, Some, slice_get}
 use Rattle.std.proofs.lemmas.List.Sums.{sum_by-cons}
 use Rattle.std.proofs.lemmas.Option.{get_or_from_slice_get, slice_get_within}
 use Rattle.luo_finite.specs.Listing.{In, NoDouble, Sums}
 use Rattle.luo_finite.proofs.Membership.{In-append_left, In-append_right}
-use Rattle.luo_finite.proofs.Places.{some_same, none_some, get_map_back, length_map}
+use Rattle.luo_finite.proofs.Places.{some_same, none_some, length_map}
 use Rattle.luo_model.specs.declared.body.Bind.{Bind}
 use Rattle.luo_model.specs.declared.body.Bind.TheVariants.{Nothing, Whole, Parts}
 use Rattle.luo_model.specs.declared.program.Part.{Part}
@@ -14,7 +14,7 @@ use Rattle.luo_model.specs.Tree.{Tree, Trees, Atom, Inj, Tup, Coll, none, more, 
 use Rattle.luo_model.specs.Program.{Program, Body, Does, Items, no_items, item, Item, Call, Case, Forall, shape_of}
 use Rattle.luo_model.specs.Member.{Fits, FitAll, Member}
 use Rattle.luo_model.specs.Structures.{IsStructureOn}
-use Rattle.luo_model.specs.Charges.{Work, bound, parts_of, BodyCharges, ItemCharges, CaseCharges, EachCharges, Charges, works_of, WorkCharges}
+use Rattle.luo_model.specs.Charges.{bound, parts_of, BodyCharges, ItemCharges, CaseCharges, EachCharges, Charges, works_of, WorkCharges}
 use Rattle.luo_model.specs.Scopes.{FitsBody, FitsItems, FitsItem, Stand, stand_node, inside, itself, stands, factors, component, IsProductOf, MayBind, bound_nodes, node_at}
 use Rattle.luo_model.specs.Invariant.{IsProgram}
 use Rattle.luo_model.specs.Founded.{IsFounded}
@@ -23,10 +23,10 @@ use Rattle.luo_counting.specs.Sharing.{IsRoom, products}
 use Rattle.luo_counting.specs.Counted.{SumsAt, CountsAt}
 use Rattle.luo_counting.proofs.TreeParts.{sums_in, AreBelow, AreAt}
 use Rattle.luo_counting.proofs.TreeCharges.{sum_in, HaveCharges, body_charges, HaveTotals, all_of, body_total, plain, place, at_part, SumsAt-part}
-use Rattle.luo_engine.specs.inner.Tasks.{does, calls, chooses, walks, work_of, Job, jobs_of_body, jobs_of_items, jobs_of_item, jobs_of_arms, jobs_of, var_in, site_in, sites_on, factors_from, Scope, scope_of, factor_counts, factor_totals, scope_number}
+use Rattle.luo_engine.specs.inner.Tasks.{does, calls, chooses, walks, work_of, Job, jobs_of_body, jobs_of_items, jobs_of_item, jobs_of_arms, jobs_of, var_in, site_in, sites_on, factors_from, scope_of, scope_number}
 use Rattle.luo_engine.proofs.CountLemmas.{number, number_known, light}
 use Rattle.luo_engine.proofs.TotalLemmas.{weight, weight_charged, total, total_known}
-use Rattle.luo_engine.proofs.JobLemmas.{IsJob, job_is}
+use Rattle.luo_engine.proofs.JobLemmas.{job_is}
 use Rattle.luo_engine.proofs.PointSums.{sites_here, column, pointed, point_more, point_none}
 
 -- where no two first parts are equal, a first part has one second

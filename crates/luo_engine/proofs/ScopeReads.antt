@@ -1,9 +1,8 @@
 -- What the tables give to a scope is its number, where all that it names comes before its site.
-use Rattle.std.proofs.Common.{◌≡◌, ◌⊎◌, ℕ, zero, suc, ◌+◌, ◌*◌, ◌≤◌, ◌<◌, inl, inr, ⊎_elim, List, [], ◌∷◌, ◌++◌, length, map, sum_by, drop, slice_get, refl, sym, ◌∙◌, ap, subst, arith, Some, None, Option, append_assoc}
+use Rattle.std.proofs.Common.{◌≡◌, ◌⊎◌, ℕ, ◌+◌, ◌*◌, ◌<◌, inl, inr, ⊎_elim, List, [], ◌∷◌, ◌++◌, length, map, sum_by, drop, slice_get, refl, sym, ◌∙◌, ap, subst, arith, Some, None, Option, append_assoc}
 use Rattle.std.proofs.lemmas.List.Sums.{sum_by-cons}
-use Rattle.luo_num.specs.Mark.{capped}
 use Rattle.luo_finite.specs.Listing.{In}
-use Rattle.luo_finite.proofs.Membership.{In-append_left, In-append_right, In-append_cases}
+use Rattle.luo_finite.proofs.Membership.{In-append_right, In-append_cases}
 use Rattle.luo_model.specs.declared.program.Universe.{Universe}
 use Rattle.luo_model.specs.Program.{Program}
 use Rattle.luo_model.specs.Tables.{IsTotal}
@@ -14,7 +13,6 @@ use Rattle.luo_engine.specs.inner.Grid.{entry_of}
 use Rattle.luo_engine.specs.inner.Shares.{tail_of, point_all, HasNone, AreCharged}
 use Rattle.luo_engine.specs.inner.Points.{point_of}
 use Rattle.luo_engine.specs.inner.Filled.{IsOrderOf, AreFilled}
-use Rattle.luo_engine.specs.inner.Listed.{IsSiteBefore}
 use Rattle.luo_engine.specs.inner.Laid.{laid_number, factor_of, IsScope, AreScopes}
 use Rattle.luo_engine.specs.inner.Tasks.{FactorSites, factor_counts, factor_totals, scope_number}
 use Rattle.luo_engine.specs.inner.Tasks as plain

@@ -1,9 +1,8 @@
 -- Sharing a size between two, and among several, in both universes.
-use Rattle.std.proofs.Common.{◌≡◌, ℕ, zero, suc, ◌+◌, ◌*◌, ◌-◌, ◌≤◌, ◌<◌, inl, inr, List, [], ◌∷◌, map, refl, sym, ◌∙◌, ap, subst, arith}
+use Rattle.std.proofs.Common.{◌≡◌, ℕ, suc, ◌+◌, ◌*◌, ◌-◌, ◌≤◌, ◌<◌, inl, inr, List, [], ◌∷◌, map, refl, sym, ◌∙◌, ap, arith}
 use Rattle.std.proofs.Math.Nat.{mul-zero, zero-mul}
 use Rattle.luo_finite.specs.Listing.{In}
 use Rattle.luo_finite.specs.Range.{sum_below}
-use Rattle.luo_finite.specs.Binomial.{choose}
 use Rattle.luo_finite.proofs.Ranges.{sum_below-same, sum_below-shift}
 use Rattle.luo_finite.proofs.Binomials.{choose-self}
 use Rattle.luo_model.specs.declared.program.Universe.{Universe}

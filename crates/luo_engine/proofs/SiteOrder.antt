@@ -1,9 +1,9 @@
 -- Sites listed by rank, then by level, then by number.
-use Rattle.std.proofs.Common.{◌≡◌, ◌⊎◌, ℕ, zero, suc, ◌+◌, ◌≤◌, ◌<◌, inl, inr, ⊎_elim, List, [], ◌∷◌, ◌++◌, length, slice_get, refl, sym, ◌∙◌, ap, subst, arith, Some}
+use Rattle.std.proofs.Common.{◌≡◌, ◌⊎◌, ℕ, ◌+◌, ◌≤◌, ◌<◌, inl, inr, ⊎_elim, List, [], ◌∷◌, ◌++◌, length, sym, ◌∙◌, ap, subst, arith, Some}
 use Rattle.std.proofs.lemmas.Option.{slice_get_within}
 use Rattle.luo_finite.proofs.Places.{none_some, get_last, get_old, get_new}
-use Rattle.luo_engine.specs.inner.Filled.{rank_of, IsBefore, IsOrderOf}
-use Rattle.luo_engine.specs.inner.Listed.{IsEarly, IsSiteBefore, IsSiteEarly, AreListed, AreSitesListed}
+use Rattle.luo_engine.specs.inner.Filled.{rank_of, IsOrderOf}
+use Rattle.luo_engine.specs.inner.Listed.{IsSiteBefore, IsSiteEarly, AreListed, AreSitesListed}
 
 less_or_eq : (a b : ℕ) → a < b + 1 → (a < b) ⊎ (a ≡ b)
 less_or_eq a b h = grind arith

@@ -1,5 +1,5 @@
 -- The sites of a plan, made list by list.
-use Rattle.std.proofs.Common.{◌≡◌, ◌⊎◌, inl, inr, ⊎_elim, ℕ, ◌+◌, ◌≤◌, ◌<◌, List, [], ◌∷◌, ◌++◌, length, slice_get, slice_index, refl, sym, ◌∙◌, ap, subst, arith, Some}
+use Rattle.std.proofs.Common.{◌≡◌, ◌⊎◌, ⊎_elim, ℕ, ◌+◌, ◌<◌, List, [], ◌∷◌, ◌++◌, length, slice_get, slice_index, sym, ◌∙◌, ap, subst, arith}
 use Rattle.std.proofs.lemmas.List.{length-append}
 use Rattle.std.proofs.lemmas.Option.{get_or_from_slice_get, slice_get-get_or}
 use Rattle.luo_finite.proofs.Places.{get_old, get_new, get_within, In_get}
@@ -8,15 +8,15 @@ use Rattle.luo_model.specs.Levels.{IsRank, IsLevel}
 use Rattle.luo_model.specs.Invariant.{IsProgram}
 use Rattle.luo_model.specs.View.{Held, plain_of}
 use Rattle.luo_engine.specs.declared.sites.Laid.{Laid}
-use Rattle.luo_engine.specs.inner.Filled.{rank_of, IsOrderOf}
+use Rattle.luo_engine.specs.inner.Filled.{IsOrderOf}
 use Rattle.luo_engine.specs.inner.Listed.{IsSiteBefore}
 use Rattle.luo_engine.specs.inner.Laying.{lay_all, recipes_of}
 use Rattle.luo_engine.specs.inner.Plan.{Planned, IsPlan}
 use Rattle.luo_engine.specs.inner.SiteLists.{AreSiteRanks, AreSiteLevels}
 use Rattle.luo_engine.specs.inner.Starts.{HaveRoom}
-use Rattle.luo_engine.specs.inner.Tasks.{Job, jobs_of}
+use Rattle.luo_engine.specs.inner.Tasks.{jobs_of}
 use Rattle.luo_engine.specs.inner.Totals.{ArePlanned}
-use Rattle.luo_engine.proofs.JobLemmas.{IsJob, job_is, job_site, jobs_length}
+use Rattle.luo_engine.proofs.JobLemmas.{job_is, job_site, jobs_length}
 use Rattle.luo_engine.proofs.NodesThere.{job_node_there}
 use Rattle.luo_engine.proofs.LinkedLemmas.{room_of_plan, sites_planned}
 

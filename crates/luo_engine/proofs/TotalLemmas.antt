@@ -1,6 +1,5 @@
 -- The totals of a founded program as a function of sites and sizes, on any labels.
-use Rattle.std.proofs.Common.{◌≡◌, ◌⊎◌, ℕ, ◌≤◌, ◌<◌, inl, inr, List, length, sum_by, refl, sym, ◌∙◌, ap, subst, arith}
-use Rattle.luo_finite.specs.Listing.{Lists}
+use Rattle.std.proofs.Common.{◌≡◌, ◌⊎◌, ℕ, ◌≤◌, ◌<◌, inl, inr, length, sum_by, sym, ◌∙◌, arith}
 use Rattle.luo_finite.proofs.Decided.{Decided}
 use Rattle.luo_finite.proofs.Sums.{Sums-by}
 use Rattle.luo_finite.proofs.Totals.{Totals-of}

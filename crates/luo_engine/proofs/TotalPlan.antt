@@ -1,11 +1,11 @@
 -- The totals of a plan's sites, from what comes before them.
-use Rattle.std.proofs.Common.{◌≡◌, ◌⊎◌, ℕ, zero, suc, ◌+◌, ◌*◌, ◌≤◌, ◌<◌, inl, inr, ⊎_elim, List, [], ◌∷◌, ◌++◌, length, map, sum_by, drop, slice_get, slice_index, slice_index_or, refl, sym, ◌∙◌, ap, subst, arith, Some, None, Option}
+use Rattle.std.proofs.Common.{◌≡◌, ◌⊎◌, ℕ, ◌+◌, ◌≤◌, ◌<◌, inl, inr, ⊎_elim, List, [], ◌∷◌, length, sum_by, drop, slice_get, slice_index, refl, sym, ◌∙◌, ap, subst, arith, Some, None, Option}
 use Rattle.std.proofs.lemmas.Option.{get_or_from_slice_get, slice_get_within}
 use Rattle.luo_num.specs.declared.TheConstants.{MAX}
 use Rattle.luo_num.specs.Mark.{capped}
 use Rattle.luo_finite.specs.Listing.{In}
 use Rattle.luo_finite.proofs.Sums.{Counts-unique}
-use Rattle.luo_finite.proofs.Places.{some_same, none_some, In_get, get_within, less_or_same}
+use Rattle.luo_finite.proofs.Places.{some_same, In_get, get_within, less_or_same}
 use Rattle.luo_finite.proofs.Membership.{In-append_right}
 use Rattle.luo_counting.specs.Sharing.{shares}
 use Rattle.luo_model.specs.declared.program.Universe.{Universe}
@@ -13,7 +13,7 @@ use Rattle.luo_model.specs.declared.program.Kind.{Kind}
 use Rattle.luo_model.specs.declared.program.Part.{Part}
 use Rattle.luo_model.specs.declared.program.Shape.{Shape}
 use Rattle.luo_model.specs.declared.program.Shape.TheVariants as shape
-use Rattle.luo_model.specs.Program.{Program, Body, shape_of, site_node}
+use Rattle.luo_model.specs.Program.{Program, shape_of, site_node}
 use Rattle.luo_model.specs.Structures.{IsStructure}
 use Rattle.luo_model.specs.Member.{IsWithin}
 use Rattle.luo_model.specs.Scopes.{component, IsCollection}
@@ -21,7 +21,6 @@ use Rattle.luo_model.specs.Charges.{of_body, of_walk, works_of}
 use Rattle.luo_model.specs.Levels.{IsRank}
 use Rattle.luo_model.specs.Tables.{IsCount, IsTotal}
 use Rattle.luo_model.specs.View.{plain_of}
-use Rattle.luo_model.proofs.NodeLemmas.{node_at_place}
 use Rattle.luo_model.proofs.TableLemmas.{totals_are_single}
 use Rattle.luo_model.proofs.WorkLemmas.{sites_are_apart}
 use Rattle.luo_counting.proofs.TreeCollections.{count_of_all}
@@ -30,16 +29,15 @@ use Rattle.luo_engine.specs.declared.tasks.Scope.{Scope}
 use Rattle.luo_engine.specs.declared.tasks.Task.{Task}
 use Rattle.luo_engine.specs.declared.tasks.Task.TheVariants.{Scopes, Walk}
 use Rattle.luo_engine.specs.declared.tasks.Sites.{Sites}
-use Rattle.luo_engine.specs.inner.Grid.{row_of, entry_of, Reaches, IsSet}
+use Rattle.luo_engine.specs.inner.Grid.{entry_of, IsSet}
 use Rattle.luo_engine.specs.inner.Shares.{inner, tail_of}
-use Rattle.luo_engine.specs.inner.Points.{point_of, open_point, IsLink, ArePointsBelow, ArePointsOpen}
-use Rattle.luo_engine.specs.inner.Obeys.{Obeys}
-use Rattle.luo_engine.specs.inner.Filled.{rank_of, IsBefore, IsRightOf, AreCounted, NumbersTo, IsFirstPastOf}
+use Rattle.luo_engine.specs.inner.Points.{point_of, open_point, ArePointsOpen}
+use Rattle.luo_engine.specs.inner.Filled.{rank_of, IsRightOf, AreCounted, NumbersTo, IsFirstPastOf}
 use Rattle.luo_engine.specs.inner.Listed.{IsSiteBefore}
-use Rattle.luo_engine.specs.inner.Laid.{laid_number, IsScopeThere, IsScope, AreScopes, IsTask, AreSites, AreTotalled}
-use Rattle.luo_engine.specs.inner.Plan.{Planned, IsPlan}
+use Rattle.luo_engine.specs.inner.Laid.{laid_number, IsScopeThere, IsScope, AreScopes, IsTask, AreTotalled}
+use Rattle.luo_engine.specs.inner.Plan.{Planned}
 use Rattle.luo_engine.specs.inner.Asked.{AskedWalk}
-use Rattle.luo_engine.specs.inner.Walks.{IsWalk, walk_or, walk_at, HasWalk, IsAskedWalk, HasAskedWalk, IsWalkAsked, AllowsOne, HasTotals}
+use Rattle.luo_engine.specs.inner.Walks.{IsWalk, walk_or, walk_at, IsAskedWalk, IsWalkAsked, AllowsOne, HasTotals}
 use Rattle.luo_engine.specs.inner.Totals.{ArePlanned, AreWalked}
 use Rattle.luo_engine.specs.inner.Tasks.{Doing, does, calls, chooses, walks, work_of, Job, jobs_of_body, jobs_of, Recipe, of_scopes, of_each, recipe_of, recipe_number, scope_number}
 use Rattle.luo_engine.specs.inner.Tasks as plain
@@ -49,9 +47,9 @@ use Rattle.luo_engine.proofs.RowLemmas.{end-there}
 use Rattle.luo_engine.proofs.CountLemmas.{number, obeys}
 use Rattle.luo_engine.proofs.TotalLemmas.{total, total_is}
 use Rattle.luo_engine.proofs.FillLemmas.{one_way_nodes, filled_more, past_first, placed_before}
-use Rattle.luo_engine.proofs.JobLemmas.{IsJob, job_is, job_site, jobs_length}
+use Rattle.luo_engine.proofs.JobLemmas.{job_is, job_site, jobs_length}
 use Rattle.luo_engine.proofs.RecipeLemmas.{equation}
-use Rattle.luo_engine.proofs.ScopeReads.{ScopeFalls, scopes_read, filled_is}
+use Rattle.luo_engine.proofs.ScopeReads.{ScopeFalls, scopes_read}
 use Rattle.luo_engine.proofs.FallLemmas.{job_falls}
 use Rattle.luo_engine.proofs.NodesThere.{job_node_there}
 

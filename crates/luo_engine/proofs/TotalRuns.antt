@@ -1,5 +1,5 @@
 -- One more size of the totals of a run.
-use Rattle.std.proofs.Common.{◌≡◌, ◌⊎◌, ℕ, ◌+◌, ◌≤◌, ◌<◌, inl, inr, ⊎_elim, Bool, true, false, Option, List, [], ◌∷◌, length, drop, sum_by, slice_get, refl, sym, ◌∙◌, ap, subst, arith, Some, None}
+use Rattle.std.proofs.Common.{◌≡◌, ◌⊎◌, ℕ, ◌+◌, ◌≤◌, ◌<◌, ⊎_elim, Bool, true, false, Option, List, [], ◌∷◌, length, drop, sum_by, refl, sym, ◌∙◌, ap, subst, arith, Some, None}
 use Rattle.std.proofs.lemmas.Option.{slice_get_within}
 use Rattle.luo_num.specs.declared.TheConstants.{MAX}
 use Rattle.luo_num.specs.Mark.{capped}
@@ -13,7 +13,7 @@ use Rattle.luo_model.proofs.WorkLemmas.{sites_are_apart}
 use Rattle.luo_counting.specs.Sharing.{shares}
 use Rattle.luo_engine.specs.declared.points.Link.{Link}
 use Rattle.luo_engine.specs.declared.tasks.Sites.{Sites}
-use Rattle.luo_engine.specs.inner.Grid.{row_of, entry_of, Reaches, SameShape, SameOthers, IsTable, AreZero}
+use Rattle.luo_engine.specs.inner.Grid.{entry_of, SameShape, SameOthers, IsTable, AreZero}
 use Rattle.luo_engine.specs.inner.Shares.{tail_of}
 use Rattle.luo_engine.specs.inner.Partial.{AreClosedFrom}
 use Rattle.luo_engine.specs.inner.Points.{point_of, IsClosedPoint, ArePointsBelow, ArePointsClosed}
@@ -22,7 +22,7 @@ use Rattle.luo_engine.specs.inner.Plan.{Planned}
 use Rattle.luo_engine.specs.inner.Asked.{AskedWalk}
 use Rattle.luo_engine.specs.inner.Laid.{AreSites, AreTotalled}
 use Rattle.luo_engine.specs.inner.Totals.{AreWalked}
-use Rattle.luo_engine.specs.inner.Totalling.{IsTotalling, IsTotalGoing}
+use Rattle.luo_engine.specs.inner.Totalling.{IsTotalling}
 use Rattle.luo_engine.proofs.ShareLemmas.{shares-same}
 use Rattle.luo_engine.proofs.EntryLemmas.{sum_by-same}
 use Rattle.luo_engine.proofs.FillLemmas.{tail-same}

@@ -1,7 +1,7 @@
 -- The tables of all walks before the first size.
 use Rattle.std.proofs.Common.{◌≡◌, ◌⊎◌, ⊎_elim, ℕ, ◌+◌, ◌≤◌, ◌<◌, List, [], ◌∷◌, ◌++◌, length, slice_get, refl, sym, ◌∙◌, ap, subst, arith, Some, Option}
 use Rattle.std.proofs.lemmas.Option.{slice_get_within}
-use Rattle.luo_finite.proofs.Places.{get_last, get_old, get_new}
+use Rattle.luo_finite.proofs.Places.{get_old, get_new}
 use Rattle.luo_model.specs.Program.{Program, site_node}
 use Rattle.luo_model.specs.View.{plain_of}
 use Rattle.luo_engine.specs.declared.tasks.Task.{Task}

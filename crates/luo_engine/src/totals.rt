@@ -4,7 +4,7 @@ ghost use Rattle.luo_num.specs.declared.TheConstants.{MAX};
 ghost use Rattle.luo_model.specs.View.{plain_of};
 ghost use Rattle.luo_model.specs.Tables.{IsTotal};
 ghost use Rattle.luo_engine.specs.inner.Grid.{SameShape};
-ghost use Rattle.luo_engine.specs.inner.Points.{ArePointsBelow, ArePointsOpen, ArePointsClosed};
+ghost use Rattle.luo_engine.specs.inner.Points.{ArePointsOpen};
 ghost use Rattle.luo_engine.specs.inner.Filled.{AreCounted, IsRightOf, NumbersTo, IsFirstPastOf};
 ghost use Rattle.luo_engine.specs.inner.Listed.{IsSiteBefore};
 ghost use Rattle.luo_engine.specs.inner.Laid.{AreTotalled};
@@ -13,7 +13,6 @@ ghost use Rattle.luo_engine.specs.inner.Totals.{ArePlanned, AreWalked};
 
 use crate::collections::Collection;
 use crate::plan::Plan;
-use crate::points::{close_points, open_points};
 use crate::table::Table;
 use crate::tasks::{Sites, Task, scopes_sum};
 use crate::walking::walk_total;
@@ -133,66 +132,4 @@ pub fn fill_totals(
         totals.set(i, n, value);
     }
     None
-}
-
-/// The totals of size n and the charged products, or the first site past the last number.
-pub fn extend_totals(
-    plan: &Plan,
-    sites: &Sites,
-    counts: &Table,
-    partials: &Table,
-    totals: &mut Table,
-    points: &mut Table,
-    tables: &[Option<Collection>],
-    walks: &mut Vec<Option<CollectionWalk>>,
-    n: usize,
-) -> Option<usize>
-    requires small { n ≤ 160 }
-    requires fixed { ArePlanned plan.now sites.now }
-    requires reached { n ≤ plan.now.reach }
-    requires counted { AreCounted (plain_of plan.now.program) plan.now.order counts.now n
-        (length plan.now.order) }
-    requires totalled { AreTotalled (plain_of plan.now.program) sites.now.order totals.old n 0 }
-    requires below { ArePointsBelow plan.now.program.universe counts.now totals.old
-        plan.now.factors partials.now sites.now.links points.old n }
-    requires tables { AreCollections (plain_of plan.now.program) plan.now.reach plan.now.order
-        tables.now n (length plan.now.order) }
-    requires walks { AreWalked (plain_of plan.now.program) plan.now.reach sites.now
-        walks.old.items n 0 }
-    ensures totalled { IsNone result → AreTotalled (plain_of plan.now.program) sites.now.order
-        totals.new n (length sites.now.order) }
-    ensures closed { IsNone result → ArePointsClosed plan.now.program.universe counts.now
-        totals.new plan.now.factors partials.now sites.now.links points.new n 0 }
-    ensures walks { IsNone result → AreWalked (plain_of plan.now.program) plan.now.reach sites.now
-        walks.new.items n (length sites.now.order) }
-    ensures kept { (i m : ℕ) → i < length plan.now.program.sites → m < n
-        → IsRightOf (IsTotal (plain_of plan.now.program)) totals.new i m }
-    ensures totals_shape { SameShape totals.old totals.new }
-    ensures points_shape { SameShape points.old points.new }
-    ensures past { IfSome result (IsFirstPastOf (IsTotal (plain_of plan.now.program))
-        (length plan.now.program.sites) (IsSiteBefore sites.now.ranks sites.now.levels) n) }
-{
-    let universe = plan.universe();
-    let factors = plan.factors();
-    let links = sites.links.as_slice();
-    open_points(
-        universe,
-        plan.pascal(),
-        counts,
-        totals,
-        factors,
-        partials,
-        links,
-        points,
-        n,
-    );
-    let past = fill_totals(
-        plan, sites, counts, partials, totals, points, tables, walks, n,
-    );
-    if past.is_none() {
-        close_points(
-            universe, counts, totals, factors, partials, links, points, n,
-        );
-    }
-    past
 }

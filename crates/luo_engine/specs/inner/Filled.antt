@@ -5,7 +5,7 @@ use Rattle.luo_num.specs.declared.TheConstants.{MAX}
 use Rattle.luo_model.specs.declared.program.Part.{Part}
 use Rattle.luo_model.specs.declared.program.Shape.TheVariants.{Product}
 use Rattle.luo_model.specs.Program.{Program, shape_of}
-use Rattle.luo_model.specs.Tables.{IsCount, IsTotal}
+use Rattle.luo_model.specs.Tables.{IsCount}
 use Rattle.luo_model.specs.Levels.{IsRank}
 use Rattle.luo_engine.specs.inner.Grid.{Reaches, entry_of}
 use Rattle.luo_engine.specs.inner.Partial.{AreLinks}

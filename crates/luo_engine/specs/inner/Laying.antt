@@ -6,7 +6,6 @@ use Rattle.luo_model.specs.declared.program.Shape.TheVariants as shape
 use Rattle.luo_model.specs.Program.{Program, Procedure, Body, Does, Items, no_items, item, Item, Call, Case, Forall, Arms, no_arms, arm, site_node}
 use Rattle.luo_engine.specs.declared.points.Link.{Link}
 use Rattle.luo_engine.specs.declared.tasks.Scope.{Scope}
-use Rattle.luo_engine.specs.declared.tasks.Task.{Task}
 use Rattle.luo_engine.specs.declared.tasks.Task.TheVariants.{Scopes, Walk}
 use Rattle.luo_engine.specs.declared.sites.Laid.{Laid}
 use Rattle.luo_engine.specs.inner.Tasks.{does, calls, chooses, walks, FactorSites, Recipe, of_scopes, of_each, recipe_of}

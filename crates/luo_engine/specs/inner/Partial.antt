@@ -1,5 +1,5 @@
 -- Rows of partial products, before and after the entries of a size are known.
-use Rattle.std.specs.Prelude.{◌≡◌, ℕ, zero, suc, ◌+◌, ◌*◌, ◌<◌, ◌≤◌, List, length, drop, slice_get, Option, Some, None}
+use Rattle.std.specs.Prelude.{◌≡◌, ℕ, zero, suc, ◌+◌, ◌*◌, ◌<◌, ◌≤◌, List, length, drop, slice_get, Option, Some}
 use Rattle.luo_num.specs.Mark.{capped}
 use Rattle.luo_model.specs.declared.program.Universe.{Universe}
 use Rattle.luo_engine.specs.inner.Shares.{tail_of, open_of}

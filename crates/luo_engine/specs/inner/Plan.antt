@@ -1,5 +1,5 @@
 -- What is fixed in a run of the engine.
-use Rattle.std.specs.Prelude.{◌≡◌, ℕ, ◌+◌, ◌*◌, ◌≤◌, List, Option, length}
+use Rattle.std.specs.Prelude.{ℕ, ◌+◌, ◌*◌, ◌≤◌, List, Option, length}
 use Rattle.luo_num.specs.declared.limits.TheConstants.{PART_LIMIT, NODE_LIMIT}
 use Rattle.luo_model.specs.View.{Held, plain_of}
 use Rattle.luo_model.specs.Invariant.{IsProgram}

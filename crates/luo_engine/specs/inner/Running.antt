@@ -1,6 +1,6 @@
 -- The tables of a run.
 use Rattle.std.specs.Prelude.{◌≡◌, ℕ, ◌+◌, ◌<◌, ◌≤◌, Bool, false, List, length, Option}
-use Rattle.luo_model.specs.View.{Held, plain_of}
+use Rattle.luo_model.specs.View.{plain_of}
 use Rattle.luo_engine.specs.inner.Grid.{Reaches, entry_of}
 use Rattle.luo_engine.specs.inner.Partial.{IsClosed}
 use Rattle.luo_engine.specs.inner.Filled.{IsRight}

@@ -1,5 +1,5 @@
 -- The ways to share a size among the factors of a product, and what rows of partial products hold.
-use Rattle.std.specs.Prelude.{◌≡◌, ◌⊎◌, ℕ, zero, suc, ◌+◌, ◌*◌, ◌-◌, List, [], ◌∷◌, map, Option, Some, None}
+use Rattle.std.specs.Prelude.{◌≡◌, ◌⊎◌, ℕ, suc, ◌+◌, ◌*◌, ◌-◌, List, [], ◌∷◌, map, Option, Some, None}
 use Rattle.luo_finite.specs.Listing.{In}
 use Rattle.luo_finite.specs.Range.{sum_below, unit}
 use Rattle.luo_finite.specs.Binomial.{choose}

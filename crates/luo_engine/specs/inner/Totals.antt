@@ -1,8 +1,7 @@
 -- What holds in the pass of totals.
-use Rattle.std.specs.Prelude.{◌≡◌, ℕ, ◌+◌, ◌≤◌, ◌<◌, List, length, slice_get, Option, Some}
+use Rattle.std.specs.Prelude.{◌≡◌, ℕ, ◌+◌, ◌≤◌, ◌<◌, List, slice_get, Option, Some}
 use Rattle.luo_model.specs.Program.{Program}
 use Rattle.luo_model.specs.View.{plain_of}
-use Rattle.luo_engine.specs.declared.tasks.Task.{Task}
 use Rattle.luo_engine.specs.declared.tasks.Task.TheVariants.{Walk}
 use Rattle.luo_engine.specs.declared.tasks.Sites.{Sites}
 use Rattle.luo_engine.specs.inner.Plan.{Planned, IsPlan}

@@ -1,4 +1,4 @@
-use Rattle.std.proofs.Common.{◌≡◌, ◌∙◌, sym, ap, length, arith}
+use Rattle.std.proofs.Common.{◌∙◌, ap, length, arith}
 use Rattle.luo_model.specs.View.{Held, plain_of}
 use Rattle.luo_engine.proofs.LayoutLemmas.{ranks_more, ranks_all}
 use Rattle.luo_engine.proofs.layout.ranks_of.Goals as goal

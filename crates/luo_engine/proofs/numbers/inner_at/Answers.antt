@@ -1,4 +1,4 @@
-use Rattle.std.proofs.Common.{suc, ◌-◌, ◌∙◌, ap, arith, slice_index}
+use Rattle.std.proofs.Common.{suc, ◌∙◌, ap, arith, slice_index}
 use Rattle.luo_num.specs.Mark.{capped}
 use Rattle.luo_finite.specs.Range.{sum_below}
 use Rattle.luo_engine.specs.inner.Shares.{paired, inner}

@@ -1,4 +1,4 @@
-use Rattle.std.proofs.Common.{◌∙◌, sym, arith}
+use Rattle.std.proofs.Common.{arith}
 use Rattle.luo_engine.proofs.SitesMade.{ranks_more, node_within}
 use Rattle.luo_engine.proofs.planned.ranks_of_sites.Goals as goal
 

@@ -1,4 +1,4 @@
-use Rattle.std.proofs.Common.{◌∙◌, sym, refl}
+use Rattle.std.proofs.Common.{◌∙◌, refl}
 use Rattle.luo_model.specs.View.{plain_of}
 use Rattle.luo_engine.proofs.PushLemmas.{push_nothing, push_whole, push_some, push_none}
 use Rattle.luo_engine.proofs.scopes.push_scope.Goals.{in-Nothing, in-Whole+in_ok-sites-in-Whole, in-Parts+then-arity-gt0+in_ok-push_factors-in-Parts, in-Parts+else-arity-gt0}

@@ -1,4 +1,4 @@
-use Rattle.std.proofs.Common.{◌≡◌, ◌∙◌, ap, sym, subst, arith}
+use Rattle.std.proofs.Common.{arith}
 use Rattle.luo_model.specs.View.{plain_of}
 use Rattle.luo_engine.proofs.PushLemmas.{union_more, union_end}
 use Rattle.luo_engine.proofs.scopes.push_union.Goals as goal

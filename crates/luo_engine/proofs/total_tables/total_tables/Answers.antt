@@ -1,4 +1,4 @@
-use Rattle.std.proofs.Common.{◌≡◌, ◌∙◌, refl, ap, length, ◌+◌}
+use Rattle.std.proofs.Common.{◌∙◌}
 use Rattle.luo_engine.proofs.TotalRuns.{totalling_starts}
 use Rattle.luo_engine.proofs.total_tables.total_tables.Goals as goal
 

@@ -1,4 +1,4 @@
-use Rattle.std.proofs.Common.{◌∙◌, sym, ap, subst, Some, refl}
+use Rattle.std.proofs.Common.{◌∙◌, sym, ap, subst, Some}
 use Rattle.luo_model.specs.View.{plain_of}
 use Rattle.luo_model.specs.Tables.{IsTotal}
 use Rattle.luo_engine.specs.inner.Filled.{NumbersTo}

@@ -1,8 +1,7 @@
-use Rattle.std.proofs.Common.{refl, arith, ap, ◌∙◌, sym, subst, ◌<◌, ◌≤◌, ◌≡◌, ◌+◌, List, ℕ, Bool, true, false, IsTrue, length}
-use Rattle.luo_model.specs.declared.table.Fill.{Fill}
+use Rattle.std.proofs.Common.{refl, arith, ap, ◌∙◌, sym, subst, ◌≤◌, ◌≡◌, ◌+◌, Bool, true, false, IsTrue}
 use Rattle.luo_model.specs.declared.table.Fill.TheVariants.{All}
 use Rattle.luo_model.specs.declared.table.Entry.TheVariants.{Count, Total}
-use Rattle.luo_model.specs.View.{plain_of, Held}
+use Rattle.luo_model.specs.View.{plain_of}
 use Rattle.luo_engine.specs.Run.{Run}
 use Rattle.luo_engine.specs.Entries.{IsFirstOver, NoneOver}
 use Rattle.luo_engine.proofs.RunLemmas.{counting_more, count_within}

@@ -1,4 +1,4 @@
-use Rattle.std.proofs.Common.{◌≡◌, ◌∙◌, sym, refl, ap, subst, length, ◌+◌, ℕ, List, Option, false}
+use Rattle.std.proofs.Common.{◌≡◌, sym, refl, ap, subst, length, ◌+◌, ℕ, List, Option, false}
 use Rattle.luo_model.specs.View.{Held, plain_of}
 use Rattle.luo_engine.specs.inner.Asked.{Asked}
 use Rattle.luo_engine.specs.inner.Collections.{AreUnasked}
