@@ -1,5 +1,6 @@
 -- One more size of a run.
 use Rattle.std.proofs.Common.{◌≡◌, ◌⊎◌, ℕ, ◌+◌, ◌≤◌, ◌<◌, ⊎_elim, Bool, true, false, Option, List, length, sym, ◌∙◌, subst, arith}
+use Rattle.luo_num.specs.declared.limits.TheConstants.{SIZE_LIMIT}
 use Rattle.std.proofs.lemmas.Option.{slice_get_within}
 use Rattle.luo_num.specs.declared.TheConstants.{MAX}
 use Rattle.luo_finite.proofs.Sums.{Counts-unique}
@@ -97,7 +98,7 @@ pub reach_all : (last sizes rows : ℕ) (table : List (List ℕ)) → sizes ≡ 
 reach_all last sizes rows table e t x h = omega (arith, e, t.long x (omega (arith, h, t.wide)))
 
 -- a run begins with tables of zeros
-pub counting_starts : (plan : Planned) (counts : List (List ℕ)) (tables : List (Option Asked)) (partials : List (List ℕ)) (last sizes nodes rows : ℕ) → IsPlan plan → plan.reach ≡ last → last ≤ 160 → sizes ≡ last + 1
+pub counting_starts : (plan : Planned) (counts : List (List ℕ)) (tables : List (Option Asked)) (partials : List (List ℕ)) (last sizes nodes rows : ℕ) → IsPlan plan → plan.reach ≡ last → last ≤ SIZE_LIMIT → sizes ≡ last + 1
     → nodes ≡ length plan.program.nodes → rows ≡ length plan.factors → IsTable nodes sizes counts → AreZero counts → IsTable rows sizes partials
     → AreUnasked (plain_of plan.program) plan.reach tables (length plan.program.nodes) → IsCounting plan counts tables partials last 0 false
 counting_starts plan counts tables partials last sizes nodes rows is reach small s a b c cz q u = record {

@@ -1,5 +1,6 @@
 // Marked sums over the ways to share a size between two.
 ghost use Rattle.std.specs.Prelude.{◌≡◌, ◌<◌, ◌≤◌, ◌+◌, ◌*◌, ℕ, List, length, slice_index};
+ghost use Rattle.luo_num.specs.declared.limits.TheConstants.{SIZE_LIMIT};
 ghost use Rattle.luo_num.specs.Mark.{capped};
 ghost use Rattle.luo_finite.specs.Range.{unit};
 ghost use Rattle.luo_engine.specs.inner.Shares.{ways, inner};
@@ -18,7 +19,7 @@ pub fn unit_at(n: usize) -> u128
 
 // The ways to choose the labels of the first of two, where it has k of n; without labels there is one.
 fn ways_at(universe: Universe, pascal: &Pascal, n: usize, k: usize) -> u128
-    requires small { n ≤ 160 }
+    requires small { n ≤ SIZE_LIMIT }
     requires reached { n ≤ pascal.now }
     requires within { k ≤ n }
     ensures { result ≡ capped (ways universe n k) }
@@ -37,7 +38,7 @@ pub fn inner_at(
     right: &[u128],
     n: usize,
 ) -> u128
-    requires small { n ≤ 160 }
+    requires small { n ≤ SIZE_LIMIT }
     requires reached { n ≤ pascal.now }
     requires left { n < length left.now }
     requires right { n < length right.now }

@@ -1,5 +1,6 @@
 // Partial products of all products, by factors.
 ghost use Rattle.std.specs.Prelude.{◌≡◌, ◌<◌, ◌≤◌, ◌+◌, ◌*◌, ℕ, List, length, drop, slice_get, Some, None};
+ghost use Rattle.luo_num.specs.declared.limits.TheConstants.{SIZE_LIMIT};
 ghost use Rattle.luo_num.specs.Mark.{capped};
 ghost use Rattle.luo_engine.specs.inner.Grid.{entry_of, SameShape};
 ghost use Rattle.luo_engine.specs.inner.Shares.{tail_of, open_of};
@@ -20,7 +21,7 @@ fn open_at(
     r: usize,
     n: usize,
 ) -> u128
-    requires small { n ≤ 160 }
+    requires small { n ≤ SIZE_LIMIT }
     requires reached { n ≤ pascal.now }
     requires below { AreClosedBelow universe counts.now factors.now partials.now n }
     requires row { r < length factors.now }
@@ -41,7 +42,7 @@ pub fn open_size(
     partials: &mut Table,
     n: usize,
 )
-    requires small { n ≤ 160 }
+    requires small { n ≤ SIZE_LIMIT }
     requires reached { n ≤ pascal.now }
     requires below { AreClosedBelow universe counts.now factors.now partials.old n }
     ensures open_rows { AreOpenBefore universe counts.now factors.now partials.new n

@@ -1,5 +1,6 @@
 // Charged products of all cases over products, by factors.
 ghost use Rattle.std.specs.Prelude.{◌≡◌, ◌<◌, ◌≤◌, ◌+◌, ℕ, List, length, drop, sum_by, slice_index, slice_get, Some, None};
+ghost use Rattle.luo_num.specs.declared.limits.TheConstants.{SIZE_LIMIT};
 ghost use Rattle.luo_finite.specs.Listing.{In};
 ghost use Rattle.luo_num.specs.Mark.{capped};
 ghost use Rattle.luo_engine.specs.inner.Grid.{entry_of, Reaches, SameShape};
@@ -30,7 +31,7 @@ fn inner_sum(
     rest: &[u128],
     n: usize,
 ) -> u128
-    requires small { n ≤ 160 }
+    requires small { n ≤ SIZE_LIMIT }
     requires reached { n ≤ pascal.now }
     requires there { (s : ℕ) → In s sites.now → s < length totals.now }
     requires reach { Reaches n totals.now }
@@ -69,7 +70,7 @@ fn open_point_at(
     next: &[u128],
     n: usize,
 ) -> u128
-    requires small { n ≤ 160 }
+    requires small { n ≤ SIZE_LIMIT }
     requires reached { n ≤ pascal.now }
     requires node { link.now.node < length counts.now }
     requires behind { link.now.behind < length partials.now }
@@ -130,7 +131,7 @@ fn open_at(
     r: usize,
     n: usize,
 ) -> u128
-    requires small { n ≤ 160 }
+    requires small { n ≤ SIZE_LIMIT }
     requires reached { n ≤ pascal.now }
     requires below { ArePointsBelow universe counts.now totals.now factors.now partials.now links.now points.now n }
     requires row { r < length links.now }
@@ -163,7 +164,7 @@ pub fn open_points(
     points: &mut Table,
     n: usize,
 )
-    requires small { n ≤ 160 }
+    requires small { n ≤ SIZE_LIMIT }
     requires reached { n ≤ pascal.now }
     requires below { ArePointsBelow universe counts.now totals.now factors.now partials.now links.now points.old n }
     ensures open_rows { ArePointsOpen universe counts.now totals.now factors.now partials.now links.now points.new n (length links.now) }

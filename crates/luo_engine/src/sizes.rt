@@ -1,5 +1,6 @@
 // One more size of all tables.
 ghost use Rattle.std.specs.Prelude.{◌≡◌, ◌<◌, ◌≤◌, ℕ, length, IsNone, IfSome};
+ghost use Rattle.luo_num.specs.declared.limits.TheConstants.{SIZE_LIMIT};
 ghost use Rattle.luo_model.specs.View.{plain_of};
 ghost use Rattle.luo_model.specs.Tables.{IsTotal};
 ghost use Rattle.luo_engine.specs.inner.Grid.{SameShape, SameOthers};
@@ -29,7 +30,7 @@ pub fn extend_counts(
     partials: &mut Table,
     n: usize,
 ) -> Option<usize>
-    requires small { n ≤ 160 }
+    requires small { n ≤ SIZE_LIMIT }
     requires reached { n ≤ plan.now.reach }
     requires counted { AreCounted (plain_of plan.now.program) plan.now.order counts.old n 0 }
     requires collections { AreCollections (plain_of plan.now.program) plan.now.reach plan.now.order
@@ -70,7 +71,7 @@ pub fn extend_totals(
     points: &mut Table,
     n: usize,
 ) -> Option<usize>
-    requires small { n ≤ 160 }
+    requires small { n ≤ SIZE_LIMIT }
     requires reached { n ≤ plan.now.reach }
     requires fixed { ArePlanned plan.now sites.now }
     requires counted { AreCounted (plain_of plan.now.program) plan.now.order counts.now n

@@ -1,5 +1,6 @@
 -- The tables of a run.
 use Rattle.std.specs.Prelude.{◌≡◌, ℕ, ◌+◌, ◌<◌, ◌≤◌, Bool, false, List, length, Option}
+use Rattle.luo_num.specs.declared.limits.TheConstants.{SIZE_LIMIT}
 use Rattle.luo_model.specs.View.{plain_of}
 use Rattle.luo_engine.specs.inner.Grid.{Reaches, entry_of}
 use Rattle.luo_engine.specs.inner.Partial.{IsClosed}
@@ -23,6 +24,6 @@ pub record IsCounting (plan : Planned) (counts : List (List ℕ)) (collections :
   pub counts_reach : Reaches last counts
   pub partials_reach : Reaches last partials
   pub within : filled ≤ last + 1
-  pub small : last ≤ 160
+  pub small : last ≤ SIZE_LIMIT
   pub right : (x m : ℕ) → x < length plan.program.nodes → m < filled → IsRight (plain_of plan.program) counts x m
   pub going : stopped ≡ false → IsGoing plan counts collections partials filled
