@@ -1,0 +1,2 @@
+pub mod AverageLemmas
+pub mod Sections

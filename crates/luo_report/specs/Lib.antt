@@ -1,0 +1,3 @@
+pub mod Average
+pub mod Report
+pub mod Laws

@@ -1,0 +1,9 @@
+//! The report of a program.
+#![tactic(auto)]
+
+pub mod laws;
+mod table;
+mod text;
+
+pub use table::Table;
+pub use text::report;
