@@ -44,3 +44,4 @@ pub mod RankFacts
 pub mod LevelFacts
 pub mod EntryOrder
 pub mod FirstOver
+pub mod KeptLemmas

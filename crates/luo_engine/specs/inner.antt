@@ -20,3 +20,4 @@ pub mod Laying
 pub mod SiteLists
 pub mod WalkTables
 pub mod Totalling
+pub mod Kept

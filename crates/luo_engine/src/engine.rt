@@ -1,5 +1,6 @@
 // The engine: all tables of a program, size by size.
-ghost use Rattle.std.specs.Prelude.{◌≡◌, ◌<◌, ◌≤◌, ◌+◌, length, IfOk, IfErr, IsTrue, ◌↔◌, true, false};
+ghost use Rattle.std.specs.Prelude.{◌≡◌, ◌<◌, ◌≤◌, ◌+◌, ◌-◌, length, IfOk, IfErr, IsTrue, ◌↔◌, true, false};
+ghost use Rattle.luo_num.specs.declared.TheConstants.{MAX};
 ghost use Rattle.luo_model.specs.declared.table.Fill.TheVariants.{All};
 ghost use Rattle.luo_model.specs.Tables.{IsCount, IsTotal};
 ghost use Rattle.luo_model.specs.View.{plain_of};
@@ -7,6 +8,7 @@ ghost use Rattle.luo_engine.specs.Entries.{IsFirstOver, NoneOver};
 
 use crate::collecting::collections_of;
 use crate::collections::Collection;
+use crate::kept::rows_of;
 use crate::plan::Plan;
 use crate::sizes::{extend_counts, extend_totals};
 use crate::table::Table;
@@ -14,7 +16,7 @@ use crate::tasks::Sites;
 use crate::total_tables::total_tables;
 use crate::walks::CollectionWalk;
 use luo_founded::Ranks;
-use luo_model::{Entry, Fill, Program};
+use luo_model::{Counts, Entry, Fill, Program};
 use luo_num::NoMemory;
 use luo_num::limits::SIZE_LIMIT;
 use std::alloc::Global;
@@ -122,6 +124,30 @@ impl<'p> Engine<'p> {
         ensures { result ≡ self.now.stopped }
     {
         self.stopped
+    }
+
+    /// The counts of the filled sizes, of which there is one at least.
+    ///
+    /// # Errors
+    ///
+    /// `NoMemory` where memory is refused.
+    pub fn counts(&self, alloc: Global) -> Result<Counts<'p>, NoMemory>
+        requires any { 1 ≤ self.now.filled }
+        ensures { IfOk result (λ counts.
+            counts ≡ record { program = self.now.program; last = self.now.filled - 1 }) }
+    {
+        let rows = rows_of(alloc, self, self.plan.nodes())?;
+        Ok(Counts::new(self.plan.program, rows))
+    }
+
+    // The number of structures of the node of size n, as it stands in the table.
+    pub(crate) fn small_count(&self, node: usize, n: u32) -> u128
+        requires node { node < length self.now.program.nodes }
+        requires size { n < self.now.filled }
+        ensures count { IsCount (plain_of self.now.program) node n result }
+        ensures small { result ≤ MAX }
+    {
+        self.counts.entry(node, n as usize)
     }
 
     /// The number of structures of the node of size n.

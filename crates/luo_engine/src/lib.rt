@@ -5,6 +5,7 @@ mod collecting;
 mod collections;
 mod counts;
 mod engine;
+mod kept;
 pub mod laws;
 mod layout;
 mod numbers;
