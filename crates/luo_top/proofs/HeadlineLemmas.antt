@@ -9,6 +9,7 @@ use Rattle.luo_top.specs.declared.refusal.Refusal.TheVariants as why
 use Rattle.luo_top.specs.declared.status.Status.{Status}
 use Rattle.luo_top.specs.declared.status.Status.TheVariants.{Done, Usage, Refused, Limit, Overflow, ReadFault, WriteFault, NoMemory}
 use Rattle.luo_top.specs.Answer as answer
+use Rattle.luo_top.specs.AsWritten.Outcome.{OutcomeAsWritten}
 use Rattle.luo_top.specs.Headline.{Run, Sinking, IsRight, Answers, IsUntouched, Took, TookPart, TookLine, FileFailed, IsRefusal, WordsRefuse}
 use Rattle.luo_top.specs.Outcome.{Outcome, steps_of}
 use Rattle.luo_top.specs.Refusals.{line, usage_line}
@@ -17,7 +18,9 @@ use Rattle.luo_top.specs.Told.{Told, without}
 use Rattle.luo_top.specs.Words.{Command, command_of, files_of, HasNoForm, LimitOfWords, WordsRefusal}
 use Rattle.luo_top.specs.inner.Passes.{Seen, StopsOver, Tells, bytes_of, status_of, line_of}
 use Rattle.luo_top.specs.inner.Requests.{IsAnswer, RefusedByWords}
-use Rattle.luo_top.proofs.OneOutcome.{outcome_single, words-single}
+use Rattle.luo_top.proofs.OneOutcome.{words-single}
+use Rattle.luo_top.proofs.OutcomeKept.{outcome_kept}
+use Rattle.luo_top.proofs.WrittenOutcome.{written_single}
 
 -- a sink took a line, or its count rose and it took a front of it
 pub took : {S T W : Type 0} (sink : Sinking S) (bytes : List ℕ) (r : Result T W) → OnOk r (Appends sink.taken_old sink.taken_new bytes) → OnErr r (TookFront sink.taken_old sink.taken_new bytes)
@@ -67,16 +70,22 @@ module _ (told : Told) (words : List (List ℕ)) (c : Command) (form : command_o
   nothing : HasNone (WordsRefuse words)
   nothing a w = none a (subst (λ o. WordsRefusal o a) form w)
 
-  refusal_of_steps : (a : answer.Answer) → (steps_of c told).refuses a → Outcome told words a
+  refused_by_steps : (a : answer.Answer) → (steps_of c told).refuses a → Outcome told words a
   unfolding Outcome ◌and_then◌
-  refusal_of_steps a r = inl (inr (c, (nothing, form), r))
+  refused_by_steps a r = inl (inr (c, (nothing, form), r))
 
-  output_of_steps : (bytes : List ℕ) → (steps_of c told).hands bytes → Outcome told words (answer.Output bytes)
+  put_out_by_steps : (bytes : List ℕ) → (steps_of c told).hands bytes → Outcome told words (answer.Output bytes)
   unfolding Outcome ◌and_then◌
-  output_of_steps bytes h = inr (bytes, (c, (nothing, form), h), refl)
+  put_out_by_steps bytes h = inr (bytes, (c, (nothing, form), h), refl)
 
-refusal_of_words : (told : Told) (words : List (List ℕ)) (a : answer.Answer) → WordsRefuse words a → Outcome told words a
-unfolding Outcome ◌and_then◌
+  refusal_of_steps : (a : answer.Answer) → (steps_of c told).refuses a → OutcomeAsWritten told words a
+  refusal_of_steps a r = (outcome_kept told words a).0 (refused_by_steps a r)
+
+  output_of_steps : (bytes : List ℕ) → (steps_of c told).hands bytes → OutcomeAsWritten told words (answer.Output bytes)
+  output_of_steps bytes h = (outcome_kept told words (answer.Output bytes)).0 (put_out_by_steps bytes h)
+
+refusal_of_words : (told : Told) (words : List (List ℕ)) (a : answer.Answer) → WordsRefuse words a → OutcomeAsWritten told words a
+unfolding OutcomeAsWritten ◌and_then◌
 refusal_of_words told words a w = inl (inl w)
 
 module _ {O E : Type 0} (run : Run O E) (told_new : Told) where
@@ -105,12 +114,12 @@ module _ {O E : Type 0} (run : Run O E) (told_new : Told) where
     no_words : HasNone (WordsRefuse run.words)
     no_words = nothing run.told run.words in_form.0 in_form.1 in_form.2
 
-    no_refusal : (s : Status) (other : List ℕ) → Outcome run.told run.words (answer.Refusal s other) → ⊥
+    no_refusal : (s : Status) (other : List ℕ) → OutcomeAsWritten run.told run.words (answer.Refusal s other) → ⊥
     no_refusal s other r = by in_form.3
       where
         by : Answers run (answer.Output bytes) → ⊥
-        by (inl o) = no_output s bytes other (outcome_single run.told run.words _ _ o r)
-        by (inr u) = untold_refusal s other (outcome_single run.told run.words _ _ u r)
+        by (inl o) = no_output s bytes other (written_single run.told run.words _ _ o r)
+        by (inr u) = untold_refusal s other (written_single run.told run.words _ _ u r)
 
     pub done : IsUntouched run.err → Took run.out bytes → IsRight run Done
     done same whole = record {
@@ -154,13 +163,13 @@ module _ {O E : Type 0} (run : Run O E) (told_new : Told) where
       refusal_comes = λ s b r _. inl (one s b r a);
     }
       where
-        other_output : (b : List ℕ) → Outcome run.told run.words (answer.Output b) → Answers run (answer.Refusal t bytes) → ⊥
-        other_output b o (inl r) = no_output t b bytes (outcome_single run.told run.words _ _ o r)
-        other_output b o (inr u) = untold_output b (outcome_single run.told run.words _ _ u o)
+        other_output : (b : List ℕ) → OutcomeAsWritten run.told run.words (answer.Output b) → Answers run (answer.Refusal t bytes) → ⊥
+        other_output b o (inl r) = no_output t b bytes (written_single run.told run.words _ _ o r)
+        other_output b o (inr u) = untold_output b (written_single run.told run.words _ _ u o)
 
-        one : (s : Status) (b : List ℕ) → Outcome run.told run.words (answer.Refusal s b) → Answers run (answer.Refusal t bytes) → t ≡ s
-        one s b r (inl q) = same_status t s bytes b (outcome_single run.told run.words _ _ q r)
-        one s b r (inr u) = absurd (untold_refusal s b (outcome_single run.told run.words _ _ u r))
+        one : (s : Status) (b : List ℕ) → OutcomeAsWritten run.told run.words (answer.Refusal s b) → Answers run (answer.Refusal t bytes) → t ≡ s
+        one s b r (inl q) = same_status t s bytes b (written_single run.told run.words _ _ q r)
+        one s b r (inr u) = absurd (untold_refusal s b (written_single run.told run.words _ _ u r))
 
     -- by the words alone
     by_words : (t : Status) (bytes : List ℕ) → IsRefusal t → WordsRefuse run.words (answer.Refusal t bytes) → ((t ≡ Usage) ↔ HasNoForm run.words) → TookLine run.err bytes → IsRight run t

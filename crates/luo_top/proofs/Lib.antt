@@ -8,11 +8,15 @@ pub mod NumberWords
 pub mod OneOutcome
 pub mod OneReport
 pub mod OutcomeComes
+pub mod OutcomeKept
 pub mod OutcomeTells
 pub mod ProgramFacts
 pub mod ReportComes
+pub mod ReportKept
 pub mod RowLemmas
+pub mod SameSteps
 pub mod Sections
 pub mod SoleSteps
 pub mod StepLemmas
 pub mod TokenBytes
+pub mod WrittenOutcome

@@ -7,7 +7,7 @@ use Rattle.luo_outside.specs.Causes.{Rose}
 use Rattle.luo_top.specs.declared.status.Status.{Status}
 use Rattle.luo_top.specs.declared.status.Status.TheVariants.{Done, Usage, Refused, Limit, Overflow, ReadFault, WriteFault, NoMemory}
 use Rattle.luo_top.specs.Answer.{Answer, Output, Refusal, Untold}
-use Rattle.luo_top.specs.Outcome.{Outcome}
+use Rattle.luo_top.specs.AsWritten.Outcome.{OutcomeAsWritten}
 use Rattle.luo_top.specs.Refusals.{line}
 use Rattle.luo_top.specs.Step.{HasNone}
 use Rattle.luo_top.specs.Told.{Told, without}
@@ -53,13 +53,13 @@ TookLine sink bytes = Took sink bytes ⊎ TookPart sink bytes
 
 -- the answer is the outcome, or the outcome isn't told
 abbrev pub Answers : {O E : Type 0} → Run O E → Answer → Type 0
-Answers run answer = Outcome run.told run.words answer ⊎ Outcome run.told run.words Untold
+Answers run answer = OutcomeAsWritten run.told run.words answer ⊎ OutcomeAsWritten run.told run.words Untold
 
 -- the count of a file of the words rose, without which the outcome isn't told
 abbrev pub FileFailed : {O E : Type 0} → Run O E → Type 0
 FileFailed run =
     (command : Command) × (command_of run.words ≡ Some command) × (file : List ℕ) × In file (files_of command)
-    × Outcome (without file run.told) run.words Untold × Rose (run.faults_old file) (run.faults_new file)
+    × OutcomeAsWritten (without file run.told) run.words Untold × Rose (run.faults_old file) (run.faults_new file)
 
 abbrev pub SinkFailed : {S : Type 0} → Sinking S → Type 0
 SinkFailed sink = Rose sink.faults_old sink.faults_new
@@ -97,8 +97,8 @@ pub record IsRight {O E : Type 0} (run : Run O E) (status : Status) : Type 0 whe
   -- what the words alone refuse is answered, whatever the source tells
   pub words_alone : (s : Status) (bytes : List ℕ) → WordsRefuse run.words (Refusal s bytes) → (status ≡ s) × TookLine run.err bytes
   -- an output comes where nothing outside fails, but for want of memory
-  pub output_comes : (bytes : List ℕ) → Outcome run.told run.words (Output bytes)
+  pub output_comes : (bytes : List ℕ) → OutcomeAsWritten run.told run.words (Output bytes)
       → (FileFailed run → ⊥) → (SinkFailed run.out → ⊥) → (status ≡ Done) ⊎ (status ≡ NoMemory)
   -- and so does a refusal where no file fails
-  pub refusal_comes : (s : Status) (bytes : List ℕ) → Outcome run.told run.words (Refusal s bytes)
+  pub refusal_comes : (s : Status) (bytes : List ℕ) → OutcomeAsWritten run.told run.words (Refusal s bytes)
       → (FileFailed run → ⊥) → (status ≡ s) ⊎ (status ≡ NoMemory)

@@ -5,7 +5,8 @@ use Rattle.luo_finite.specs.Listing.{In}
 use Rattle.luo_finite.specs.Steps.{IsSingle}
 use Rattle.luo_scan.specs.Bytes.{IsDigit}
 use Rattle.luo_scan.specs.Spellings.{value_after}
-use Rattle.luo_top.specs.Answer.{Untold}
+use Rattle.luo_top.specs.Answer.{Answer, Untold}
+use Rattle.luo_top.specs.AsWritten.Outcome.{OutcomeAsWritten}
 use Rattle.luo_top.specs.Outcome.{Outcome}
 use Rattle.luo_top.specs.Step.{HasNone}
 use Rattle.luo_top.specs.Told.{Told}
@@ -13,11 +14,11 @@ use Rattle.luo_top.specs.Words.{Command, Analyse, Format, command_of, files_of, 
 
 -- at most one answer is the outcome
 abbrev pub OutcomeIsOne : Type 0
-OutcomeIsOne = (told : Told) (words : List (List ℕ)) → IsSingle (Outcome told words)
+OutcomeIsOne = (told : Told) (words : List (List ℕ)) → IsSingle (OutcomeAsWritten told words)
 
 -- it can't be that none is
 abbrev pub OutcomeComes : Type 0
-OutcomeComes = (told : Told) (words : List (List ℕ)) → HasNone (Outcome told words) → ⊥
+OutcomeComes = (told : Told) (words : List (List ℕ)) → HasNone (OutcomeAsWritten told words) → ⊥
 
 -- each file of the words is told
 abbrev pub FilesAreTold : Told → List (List ℕ) → Type 0
@@ -27,7 +28,11 @@ FilesAreTold told words =
 
 -- where each file of the words is told, so is the outcome
 abbrev pub OutcomeIsTold : Type 0
-OutcomeIsTold = (told : Told) (words : List (List ℕ)) → FilesAreTold told words → Outcome told words Untold → ⊥
+OutcomeIsTold = (told : Told) (words : List (List ℕ)) → FilesAreTold told words → OutcomeAsWritten told words Untold → ⊥
+
+-- the outcome over the core form of a source is the one by what the source means as it is written
+abbrev pub OutcomeIsAsWritten : Type 0
+OutcomeIsAsWritten = (told : Told) (words : List (List ℕ)) (answer : Answer) → Outcome told words answer ↔ OutcomeAsWritten told words answer
 
 -- `0`, or a digit from 1 to 9 followed by digits, and the number that they give
 abbrev pub IsNumberWord : List ℕ → ℕ → Type 0

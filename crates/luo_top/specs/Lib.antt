@@ -1,4 +1,5 @@
 pub mod Answer
+pub mod AsWritten
 pub mod Commands
 pub mod Exit
 pub mod FoundedRefusals

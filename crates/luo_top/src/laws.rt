@@ -1,5 +1,5 @@
 // Laws of the outcome.
-ghost use Rattle.luo_top.specs.Laws.{OutcomeIsOne, OutcomeComes, OutcomeIsTold, NumbersAreSpelled, AnalyseIsSpelled, FormatIsSpelled};
+ghost use Rattle.luo_top.specs.Laws.{OutcomeIsOne, OutcomeComes, OutcomeIsTold, OutcomeIsAsWritten, NumbersAreSpelled, AnalyseIsSpelled, FormatIsSpelled};
 
 /// Over what a source tells, and for all words, at most one answer is the outcome.
 pub fn outcome_is_one()
@@ -14,6 +14,11 @@ pub fn outcome_comes()
 /// Where each file of the words is told, so is the outcome.
 pub fn outcome_is_told()
     ensures { OutcomeIsTold }
+{}
+
+/// The outcome over the core form of a source is the one by what the source means as it is written.
+pub fn outcome_is_as_written()
+    ensures { OutcomeIsAsWritten }
 {}
 
 /// Each command is asked for by the words of its form, and by no others. A number word is `0`, or a digit from 1 to 9

@@ -1,5 +1,5 @@
-use Rattle.luo_top.proofs.OutcomeComes.{outcome_comes}
+use Rattle.luo_top.proofs.WrittenOutcome.{written_comes}
 use Rattle.luo_top.proofs.laws.outcome_comes.Goals as goal
 
 pub returns : goal.returns
-returns c = outcome_comes
+returns c = written_comes

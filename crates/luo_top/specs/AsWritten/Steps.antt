@@ -1,0 +1,60 @@
+-- The steps from a source on, by what it means as it is written. Two things are told by its core form alone: which rule of
+-- well-foundedness is broken first, and which of the numbers that are too large comes first.
+use Rattle.std.specs.Prelude.{◌≡◌, ◌<◌, ⊤, ℕ, List, []}
+use Rattle.luo_finite.specs.Steps.{◌or_else◌}
+use Rattle.luo_num.specs.declared.TheConstants.{MAX}
+use Rattle.luo_num.specs.declared.limits.TheConstants.{WALK_LIMIT}
+use Rattle.luo_model.specs.declared.table.Fill.TheVariants.{All}
+use Rattle.luo_scan.specs.declared.token.Token.{Token}
+use Rattle.luo_source.specs.declared.source.Source.{Source}
+use Rattle.luo_rules.specs.declared.error.CountLimit.TheVariants.{Walks}
+use Rattle.luo_rules.specs.Whole.{breaches, core}
+use Rattle.luo_meaning.specs.Over.{HasOver}
+use Rattle.luo_meaning.specs.Walks.{ProcsWalk}
+use Rattle.luo_top.specs.declared.status.Status.TheVariants.{Limit}
+use Rattle.luo_top.specs.Answer.{Answer, Refusal}
+use Rattle.luo_top.specs.AsWritten.Report.{IsReportOf}
+use Rattle.luo_top.specs.Overflows.{OverflowRefusal}
+use Rattle.luo_top.specs.Refusals.{LimitRefusal, RuleRefusal, limit_line}
+use Rattle.luo_top.specs.Step.{Step, ◌or_makes◌, ◌and_then◌, makes}
+use Rattle.luo_top.specs.Steps.{text_of, tokens_of, source_of, founded, sized}
+use Rattle.luo_top.specs.Told.{Told}
+
+-- more walks over multisets and powersets than the limit, where no rule is broken
+abbrev pub WalksRefusalOf : Source → Answer → Type 0
+WalksRefusalOf source answer =
+    (breaches source ≡ []) × ((n : ℕ) × ProcsWalk source source.procs n × (WALK_LIMIT < n)) × (answer ≡ Refusal Limit (limit_line Walks))
+
+-- in this order: the first limit that is passed, the first breach of a rule, the limit on walks
+abbrev pub SourceRefusal : List ℕ → List Token → Source → Answer → Type 0
+SourceRefusal text tokens source = LimitRefusal source or_else RuleRefusal text tokens source or_else WalksRefusalOf source
+
+-- a limit or a breach, and else the source itself
+abbrev pub sound : List ℕ → List Token → Source → Step Source
+sound text tokens source = SourceRefusal text tokens source or_makes λ it. it ≡ source
+
+-- the source of a file, where it passes no limit and breaks no rule
+abbrev pub sound_source : List ℕ → Told → Step Source
+sound_source file told =
+    text_of file told and_then λ text. tokens_of text and_then λ tokens. source_of text tokens and_then sound text tokens
+
+-- the first rule of well-foundedness that is broken, and else the source is founded: both of its core form
+abbrev pub founded_source : Source → Step ⊤
+founded_source source = founded (core source)
+
+-- some count or total up to size n is too large; the first one is named in the order of the core form
+abbrev pub OverflowOf : Source → ℕ → Answer → Type 0
+OverflowOf source n answer = HasOver source MAX n × OverflowRefusal (core source) All n answer
+
+-- a number that is too large, and else no count or total up to size n is
+abbrev pub numbers : Source → ℕ → Step ⊤
+numbers source n = OverflowOf source n or_makes λ _. HasOver source MAX n → ⊥
+
+-- the rows of the analyze lines
+abbrev pub report_of : Source → ℕ → Step (List ℕ)
+report_of source n = makes (IsReportOf source n)
+
+-- the report of the source of a file for the sizes up to n
+abbrev pub analyse_source : List ℕ → ℕ → Told → Step (List ℕ)
+analyse_source file n told =
+    sound_source file told and_then λ source. founded_source source and_then λ _. sized n and_then λ size. numbers source size and_then λ _. report_of source size
