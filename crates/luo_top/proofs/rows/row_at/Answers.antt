@@ -6,14 +6,14 @@ use Rattle.luo_engine.specs.Run.{Run}
 use Rattle.luo_top.proofs.RowLemmas.{node_within, site_within, row_right}
 use Rattle.luo_top.proofs.rows.row_at.Goals as goal
 
-pub count-requires-clause-there : goal.count-requires-clause-there
-count-requires-clause-there c =
+pub count-requires-clause-node : goal.count-requires-clause-node
+count-requires-clause-node c =
     let proc = c.procedure_at-procedure.result.now in
     subst (λ (r : Run). proc.on.node < length r.program.nodes) (sym c.requires.full)
     (node_within c.args.program.now (subst (λ (h : Held). IsProgram (plain_of h)) c.program.view_is c.program.invariant) c.as_slice.result.now (c.as_slice.ensures ∙ ap (λ (h : Held). h.procs) c.program.view_is) c.args.f proc c.procedure_at-procedure.ensures)
 
-pub total-requires-clause-there : goal.total-requires-clause-there
-total-requires-clause-there c =
+pub total-requires-clause-site : goal.total-requires-clause-site
+total-requires-clause-site c =
     let proc = c.procedure_at-procedure.result.now in
     subst (λ (r : Run). proc.site < length r.program.sites) (sym c.requires.full)
     (site_within c.args.program.now (subst (λ (h : Held). IsProgram (plain_of h)) c.program.view_is c.program.invariant) c.as_slice.result.now (c.as_slice.ensures ∙ ap (λ (h : Held). h.procs) c.program.view_is) c.args.f proc c.procedure_at-procedure.ensures)
