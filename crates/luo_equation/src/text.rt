@@ -3,7 +3,9 @@ ghost use Rattle.std.specs.Prelude.{◌≡◌, ◌++◌, codes, decimal, IfOk, O
 ghost use Rattle.std.specs.List.{join_by};
 ghost use Rattle.luo_model.specs.View.{plain_of};
 ghost use Rattle.luo_equation.specs.View.{expr_of, equation_of};
-ghost use Rattle.luo_equation.specs.Text.{definition_name, procedure_name, series_text, tau_text, left_text, kind_word, power_text, free_low, least_text, between_text, bounds_text, opening, closing, coll_text, marked_text, expr_text, factor_text, equation_text};
+ghost use Rattle.luo_equation.specs.Text.{definition_name, procedure_name, series_text, tau_text, left_text, equation_text};
+ghost use Rattle.luo_equation.specs.Text.{kind_word, power_text, free_low, least_text, between_text, bounds_text};
+ghost use Rattle.luo_equation.specs.Text.{opening, closing, coll_text, marked_text, expr_text, factor_text};
 
 use crate::{Equation, Expr, Left};
 use itoa::Buffer;

@@ -2,7 +2,6 @@
 ghost use Rattle.std.specs.Prelude.{◌≡◌, ◌≤◌, ◌<◌, ℕ, MatchResult};
 ghost use Rattle.luo_num.specs.declared.TheConstants.{MAX};
 ghost use Rattle.luo_model.specs.Charges.{bound, BodyCharges, ItemsCharge, ItemCharges, CaseCharges, Charges, of_walk, WorkCharges};
-ghost use Rattle.luo_model.specs.Founded.{IsFounded};
 ghost use Rattle.luo_model.specs.Lists.{arm_list};
 ghost use Rattle.luo_model.specs.Tree.{to_list};
 ghost use Rattle.luo_model.specs.View.{plain_of, item_of, item_list, body_of};
@@ -161,17 +160,15 @@ fn walk_charge(program: &Program, body: &Body, s: &Structure) -> u128
 
 /// What the procedure charges on the structure. `Over` comes exactly where that is above `MAX`. It takes no memory.
 ///
-/// The ranks are those of the program, which is well-founded, and the structure belongs to the node of the procedure's
-/// parameter.
+/// The ranks are those of the program, and the structure belongs to the node of the procedure's parameter.
 pub fn charge(program: &Program, ranks: &Ranks, callee: usize, s: &Structure) -> Result<u128, Over>
     requires same { ranks.now ≡ program.now }
-    requires founded { IsFounded (plain_of program.now) }
     requires there { Takes (plain_of program.now) callee (tree_of s.now) }
     ensures { MatchResult result
         (λ q. Charges (plain_of program.now) callee (tree_of s.now) q × (q ≤ MAX))
         (λ _. (q : ℕ) × Charges (plain_of program.now) callee (tree_of s.now) q × (MAX < q)) }
 {
-    let _ = ranks;
+    let program = ranks.program();
     let charge = procedure_charge(program, program.procs.len() + 1, callee, s);
     if charge <= MAX { Ok(charge) } else { Err(Over) }
 }

@@ -1,6 +1,5 @@
 // What procedures with a result make of structures.
 ghost use Rattle.std.specs.Prelude.{◌≡◌, ◌≤◌, IfOk};
-ghost use Rattle.luo_model.specs.Founded.{IsFounded};
 ghost use Rattle.luo_model.specs.Tree.{Tree, Trees, to_list};
 ghost use Rattle.luo_model.specs.View.{plain_of, value_of};
 ghost use Rattle.luo_struct.specs.View.{tree_of, tree_list};
@@ -176,8 +175,8 @@ fn arm_makes(
 
 /// What the procedure makes of the structure, or `NoMemory`.
 ///
-/// The ranks are those of the program, which is well-founded, the procedure has a result, and the structure belongs to
-/// the node of its parameter.
+/// The ranks are those of the program, the procedure has a result, and the structure belongs to the node of its
+/// parameter.
 pub fn make(
     alloc: Global,
     program: &Program,
@@ -186,11 +185,10 @@ pub fn make(
     s: &Structure,
 ) -> Result<Structure, NoMemory>
     requires same { ranks.now ≡ program.now }
-    requires founded { IsFounded (plain_of program.now) }
     requires there { TakesForResult (plain_of program.now) callee (tree_of s.now) }
     ensures { IfOk result (λ made. Makes (plain_of program.now) callee (tree_of s.now)
         (tree_of made)) }
 {
-    let _ = ranks;
+    let program = ranks.program();
     procedure_makes(alloc, program, program.procs.len() + 1, callee, s)
 }
