@@ -1,0 +1,9 @@
+use Rattle.std.proofs.Common.{◌≡◌, take}
+use Rattle.luo_model.specs.View.{plain_of}
+use Rattle.luo_equation.specs.View.{expr_list}
+use Rattle.luo_system.specs.Plain.{join_exprs, factors_of, opened}
+use Rattle.luo_system.specs.System.{exprs_of, part_expr, others}
+use Rattle.luo_compile.proofs.parts.add_others.Given as goal
+
+abbrev pub invariant-loop-i : goal.invariant-loop-i
+invariant-loop-i l = expr_list l.factors ≡ join_exprs (expr_list l.fn.factors) (opened factors_of (exprs_of (part_expr (plain_of l.program)) (others l.but (take l.i l.parts))))

@@ -1,0 +1,4 @@
+pub mod Plain
+pub mod System
+pub mod Laws
+pub mod Facts
