@@ -1,6 +1,7 @@
-//! Laws of plain form, and the equations of two small programs.
+//! Laws of plain form, and the equations of three small programs.
 ghost use Rattle.luo_system.specs.Laws.{SumsKeepCoefficients, ProductsKeepCoefficients, WalksKeepCoefficients};
 ghost use Rattle.luo_system.specs.Facts.{SystemOfTrees, SystemOfRooted};
+ghost use Rattle.luo_system.specs.FactsCases.{SystemOfCases};
 
 /// A sum in plain form has the coefficients of the sum.
 pub fn sums_keep_coefficients()
@@ -25,4 +26,9 @@ pub fn system_of_trees()
 /// The equations of rooted labelled trees.
 pub fn system_of_rooted()
     ensures { SystemOfRooted }
+{}
+
+/// The equations of a program with cases on tuples, arms that bind the whole, and a walk within bounds.
+pub fn system_of_cases()
+    ensures { SystemOfCases }
 {}
