@@ -1,4 +1,7 @@
 pub mod Plain
 pub mod System
+pub mod Holding
 pub mod Laws
+pub mod Truth
 pub mod Facts
+pub mod Evaluated
