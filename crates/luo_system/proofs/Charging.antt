@@ -110,7 +110,8 @@ module _ (p : Program) (q : IsProgram p) (f : IsFounded p) where
       by_shape (shape.Product parts) (Tup ts) m e = scope_factors parts ts m j y e
       by_shape (shape.Product parts) (Coll ts) m e = absurd m
 
-  walk_right : (s : Shape) → IsCollection s → (C : Tree → ℕ → Type 0) (w : Tree → ℕ) → (t : Tree) → Fits p s t → ((u : Tree) → Member p (component s) u → C u (w u)) → (ts : Trees) × (t ≡ Coll ts) × EachCharges C ts (over_components w t)
+  walk_right : (s : Shape) → IsCollection s → (C : Tree → ℕ → Type 0) (w : Tree → ℕ) → (t : Tree) → Fits p s t → ((u : Tree) → Member p (component s) u → C u (w u)) → (ts : Trees) ×
+      (t ≡ Coll ts) × EachCharges C ts (over_components w t)
   walk_right (shape.Atom weight) i C w t m h = absurd i
   walk_right (shape.Union parts) i C w t m h = absurd i
   walk_right (shape.Product parts) i C w t m h = absurd i
@@ -124,7 +125,8 @@ module _ (p : Program) (q : IsProgram p) (f : IsFounded p) where
   ArmsRight arms s t = CaseCharges (Charges p) arms t (arms_charge charge_of arms t)
 
   case_right : (arms : Arms) (x : ℕ) (s : Shape) → shape_of p x ≡ s → 1 ≤ length (stands x s) → FitsArms p (stands x s) arms → (t : Tree) → Fits p s t
-      → ((parts : List Part) → FitsArms p (map (λ (part : Part). inside part.node) parts) arms → (i : ℕ) (u : Tree) (part : Part) → slice_get parts i ≡ Some part → Member p part.node u → CaseCharges (Charges p) arms (Inj (suc i) u) (arms_charge charge_of arms (Inj (suc i) u)))
+      → ((parts : List Part) → FitsArms p (map (λ (part : Part). inside part.node) parts) arms → (i : ℕ) (u : Tree) (part : Part) → slice_get parts i ≡ Some part → Member p part.node u
+      → CaseCharges (Charges p) arms (Inj (suc i) u) (arms_charge charge_of arms (Inj (suc i) u)))
       → (FitsArms p (itself x ∷ []) arms → (ts : Trees) → Member p x (Tup ts) → CaseCharges (Charges p) arms (Tup ts) (arms_charge charge_of arms (Tup ts)))
       → CaseCharges (Charges p) arms t (arms_charge charge_of arms t)
   case_right arms x (shape.Atom weight) is l w t m union product = absurd (omega arith)
@@ -151,20 +153,29 @@ module _ (p : Program) (q : IsProgram p) (f : IsFounded p) where
     item_right (Call var callee site) nodes vars w s =
         let r = s var w.0.on.node w.2 in (r.0, r.1, subst (λ t. Charges p callee r.0 (charge_of callee t)) (sym (tree_get vars var r.0 r.1)) (charge_is callee w.0 w.1 r.0 r.2))
     item_right (Case var arms site) nodes vars w s =
-        let r = s var w.0 w.1 in
-        (r.0, r.1, subst (λ t. CaseCharges (Charges p) arms r.0 (arms_charge charge_of arms t)) (sym (tree_get vars var r.0 r.1)) (case_right arms w.0 (shape_of p w.0) refl w.2 w.3 r.0 r.2 (λ parts v j u part e m. branch_right arms parts v j u part e m) (λ v ts m. product_right arms w.0 v ts m)))
+        let r = s var w.0 w.1 in (
+          r.0,
+          r.1,
+          subst (λ t. CaseCharges (Charges p) arms r.0 (arms_charge charge_of arms t)) (sym (tree_get vars var r.0 r.1))
+              (case_right arms w.0 (shape_of p w.0) refl w.2 w.3 r.0 r.2 (λ parts v j u part e m. branch_right arms parts v j u part e m) (λ v ts m. product_right arms w.0 v ts m)),
+        )
     item_right (Forall var body body_site site) nodes vars w s =
         let r = s var w.0 w.1 in
         let k = walk_right (shape_of p w.0) w.2 (λ u. BodyCharges (Charges p) body (u ∷ [])) (λ u. body_charge charge_of body (u ∷ [])) r.0 r.2
-        (λ u m. body_right body (component (shape_of p w.0) ∷ []) (u ∷ []) w.3 (scope_lone (component (shape_of p w.0)) u m)) in
-        (k.0, r.1 ∙ ap Some k.1, subst (λ t. EachCharges (λ u. BodyCharges (Charges p) body (u ∷ [])) k.0 (over_components (λ u. body_charge charge_of body (u ∷ [])) t)) (sym (tree_get vars var r.0 r.1)) k.2)
+        (λ u m. body_right body (component (shape_of p w.0) ∷ []) (u ∷ []) w.3 (scope_lone (component (shape_of p w.0)) u m)) in (
+          k.0,
+          r.1 ∙ ap Some k.1,
+          subst (λ t. EachCharges (λ u. BodyCharges (Charges p) body (u ∷ [])) k.0 (over_components (λ u. body_charge charge_of body (u ∷ [])) t))
+              (sym (tree_get vars var r.0 r.1)) k.2,
+        )
 
     product_right : (arms : Arms) (x : ℕ) → FitsArms p (itself x ∷ []) arms → (ts : Trees) → Member p x (Tup ts) → CaseCharges (Charges p) arms (Tup ts) (arms_charge charge_of arms (Tup ts))
     product_right no_arms x w ts m = absurd w
     product_right (arm bind body no_arms) x w ts m = body_right body (bound_nodes p (itself x) bind) (bound bind (Tup ts)) w.1 (scope_bound (itself x) bind (Tup ts) w.0 m)
     product_right (arm bind body (arm b c arms)) x w ts m = absurd w.2
 
-    branch_right : (arms : Arms) (parts : List Part) → FitsArms p (map (λ (part : Part). inside part.node) parts) arms → (i : ℕ) (t : Tree) (part : Part) → slice_get parts i ≡ Some part → Member p part.node t
+    branch_right : (arms : Arms) (parts : List Part) → FitsArms p (map (λ (part : Part). inside part.node) parts) arms → (i : ℕ) (t : Tree) (part : Part) → slice_get parts i ≡ Some part
+        → Member p part.node t
         → CaseCharges (Charges p) arms (Inj (suc i) t) (arms_charge charge_of arms (Inj (suc i) t))
     branch_right arms [] w i t part e m = absurd (none_some part e)
     branch_right no_arms (v ∷ parts) w i t part e m = absurd w

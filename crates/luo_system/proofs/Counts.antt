@@ -99,7 +99,8 @@ module _ (p : Program) (q : IsProgram p) (f : IsFounded p) where
       by_list [] h = inr ((λ t m e. h.complete t (m, e, no_labels p.universe x t (members_sized p light x) m e)), refl)
       by_list (t ∷ l) h = let s = h.sound t (inl refl) in inl (zero_of_member p x t s.0 s.1)
 
-  pub solid_part : (x : ℕ) (kind : Kind) (part : Part) (low : ℕ) (high : Option ℕ) → shape_of p x ≡ shape.Coll kind part low high → ((t : Tree) → Member p part.node t → size_of t ≡ 0 → ⊥) × (count_of part.node 0 ≡ 0)
+  pub solid_part : (x : ℕ) (kind : Kind) (part : Part) (low : ℕ) (high : Option ℕ) → shape_of p x ≡ shape.Coll kind part low high → ((t : Tree) → Member p part.node t → size_of t ≡ 0 → ⊥) ×
+      (count_of part.node 0 ≡ 0)
   solid_part x kind part low high is = ⊎_elim (λ z. absurd (f.solid x (subst (HasEmptyComponent p) (sym is) z))) (λ n. n) (zero_or_none part.node)
 
   -- ---- the number of a construct, over the counts of its parts
@@ -129,7 +130,8 @@ module _ (p : Program) (q : IsProgram p) (f : IsFounded p) where
     all_at : (before parts : List Part) → shape_of p x ≡ shape.Product (before ++ parts) → AllZero before → AreAt p (plain C parts) n
     all_at before [] is b = tt
     all_at before (part ∷ parts) is b = (
-      ⊎_elim (λ z. inl (same part.node (subst (λ s. KeepsSize (HasZero p) s part.node) (sym is) (others_by_place (HasZero p) (before ++ part ∷ parts) before part parts refl b z)))) (λ s. inr s) (zero_or_some parts),
+      ⊎_elim (λ z. inl (same part.node (subst (λ s. KeepsSize (HasZero p) s part.node) (sym is) (others_by_place (HasZero p) (before ++ part ∷ parts) before part parts refl b z))))
+          (λ s. inr s) (zero_or_some parts),
       ⊎_elim
           (λ z. inl (all_at (before ++ part ∷ []) parts (is ∙ ap shape.Product (sym (append_assoc before (part ∷ []) parts)))
           (λ v i. ⊎_elim (λ j. b v j) (λ j. ⊎_elim (λ e. subst (λ (w : Part). HasZero p w.node) (sym e) z) (λ k. absurd k) j) (In-append_cases v before (part ∷ []) i))))
@@ -186,7 +188,8 @@ module _ (p : Program) (q : IsProgram p) (f : IsFounded p) where
 
   pub products-pos : (parts : List Part) (n : ℕ) → products_in p.universe CZ parts n ≡ pos (products p.universe (numbers.sums_in (plain C parts)) n)
   products-pos [] n = unit-pos n
-  products-pos (part ∷ parts) n = ap (λ (g : ℕ → ℤ). times p.universe (CZ part) g n) (λ i m. products-pos parts m i) ∙ times-pos p.universe (C part) (products p.universe (numbers.sums_in (plain C parts))) n
+  products-pos (part ∷ parts) n =
+      ap (λ (g : ℕ → ℤ). times p.universe (CZ part) g n) (λ i m. products-pos parts m i) ∙ times-pos p.universe (C part) (products p.universe (numbers.sums_in (plain C parts))) n
 
   only-pos : (w n : ℕ) → only_at w (pos 1) n ≡ pos (back w unit n)
   only-pos zero n = unit-pos n

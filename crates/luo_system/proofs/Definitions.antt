@@ -1,5 +1,6 @@
 -- The equations of the definitions: counts meet them, and nothing else does.
-use Rattle.std.proofs.Common.{◌≡◌, ℕ, zero, suc, ◌+◌, ◌*◌, ◌<◌, ◌≤◌, refl, sym, ◌∙◌, ap, arith, subst, ℤ, pos, Option, Some, None, IfSome, ◌⊎◌, inl, inr, ⊎_elim, List, [], ◌∷◌, length, slice_get, sum_by}
+use Rattle.std.proofs.Common.{◌≡◌, ℕ, zero, suc, ◌+◌, ◌*◌, ◌<◌, ◌≤◌, refl, sym, ◌∙◌, ap, arith, subst, ℤ}
+use Rattle.std.proofs.Common.{pos, Option, Some, None, IfSome, ◌⊎◌, inl, inr, ⊎_elim, List, [], ◌∷◌, length, slice_get, sum_by}
 use Rattle.std.proofs.lemmas.Int.{ints}
 use Rattle.std.proofs.lemmas.Option.{slice_get_within}
 use Rattle.std.proofs.lemmas.List.Sums.{sum_by-cons}
@@ -118,11 +119,13 @@ module _ (p : Program) (q : IsProgram p) (f : IsFounded p) (t : Table) (N : ℕ)
     sums-low G (part ∷ parts) h = omega (arith, ints, h part (inl refl), sums-low G parts (λ v i. h v (inr i)))
 
     -- at size 0, what has no structure has the number 0
-    part_zero : (part : Part) → IsPart p part → count_of p q f part.node 0 ≡ 0 → (E : Expr) → (part.name ≡ None → coef p.universe t E 0 ≡ pos 0) → (name : Option ℕ) → part.name ≡ name → coef p.universe t (named name E) 0 ≡ pos 0
+    part_zero : (part : Part) → IsPart p part → count_of p q f part.node 0 ≡ 0 → (E : Expr) → (part.name ≡ None → coef p.universe t E 0 ≡ pos 0) → (name : Option ℕ) → part.name ≡ name
+        → coef p.universe t (named name E) 0 ≡ pos 0
     part_zero part h z E g (Some i) e = let r = name_there p q part h i e in starts i r.0 r.1 (no_structure r.0.whole.node (ap (λ y. count_of p q f y 0) (sym r.2) ∙ z))
     part_zero part h z E g None e = g e
 
-    shape_zero : (x : ℕ) (s : Shape) → shape_of p x ≡ s → count_of p q f x 0 ≡ 0 → (G : Part → ℕ → ℤ) → ((part : Part) → In part (inner_parts s) → count_of p q f part.node 0 ≡ 0 → G part 0 ≡ pos 0) → shape_value p.universe G s 0 ≡ pos 0
+    shape_zero : (x : ℕ) (s : Shape) → shape_of p x ≡ s → count_of p q f x 0 ≡ 0 → (G : Part → ℕ → ℤ) →
+        ((part : Part) → In part (inner_parts s) → count_of p q f part.node 0 ≡ 0 → G part 0 ≡ pos 0) → shape_value p.universe G s 0 ≡ pos 0
     shape_zero x (shape.Atom weight) is z G h = node_value p q f x 0 (shape.Atom weight) is ∙ ap pos z
     shape_zero x (shape.Union parts) is z G h =
         let e : pos (sum_by (λ (part : Part). count_of p q f part.node 0) parts) ≡ pos 0 = sym (sums-pos p q f parts 0) ∙ node_value p q f x 0 (shape.Union parts) is ∙ ap pos z in

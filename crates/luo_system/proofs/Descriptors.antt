@@ -97,7 +97,8 @@ module _ (p : Program) (q : IsProgram p) (f : IsFounded p) where
       (λ s. let z : pos (count_of p q f s.0.node 0) ≡ pos 0 = ap pos s.2 in inr (products-low p.universe (λ y. Unit {0}) (CZ p q f) (CZ p q f) (others j parts) (s.0, s.1, (z, z))).0)
       (all_or_none (others j parts))
 
-  module _ (t v : Table) (tx : (part : Part) → IsPart p part → (m : ℕ) → coef p.universe t (part_expr p part) m ≡ CZ p q f part m) (vx : (part : Part) → IsPart p part → (m : ℕ) → coef p.universe v (part_expr p part) m ≡ CZ p q f part m) where
+  module _ (t v : Table) (tx : (part : Part) → IsPart p part → (m : ℕ) → coef p.universe t (part_expr p part) m ≡ CZ p q f part m)
+      (vx : (part : Part) → IsPart p part → (m : ℕ) → coef p.universe v (part_expr p part) m ≡ CZ p q f part m) where
     -- the procedures on node z have equal numbers at m
     abbrev pub Agree : ℕ → ℕ → Type 0
     Agree m z = (g : ℕ) (P : Procedure) → slice_get p.procs g ≡ Some P → P.on.node ≡ z → t.y g m ≡ v.y g m
@@ -148,12 +149,14 @@ module _ (p : Program) (q : IsProgram p) (f : IsFounded p) where
     all_near : (m : ℕ) (vars : List Part) → AllAgree m → ScopeNear m vars
     all_near m vars a j part e = inl ((λ g P k o. a g P k), λ k w r g P h o. a g P h)
 
-    rest-value : (w : Table) → ((part : Part) → IsPart p part → (m : ℕ) → coef p.universe w (part_expr p part) m ≡ CZ p q f part m) → (parts : List Part) → AreThere p parts → (m : ℕ) → product_of_coefs p.universe w (exprs_of (part_expr p) parts) m ≡ products_in p.universe (CZ p q f) parts m
+    rest-value : (w : Table) → ((part : Part) → IsPart p part → (m : ℕ) → coef p.universe w (part_expr p part) m ≡ CZ p q f part m) → (parts : List Part) → AreThere p parts → (m : ℕ)
+        → product_of_coefs p.universe w (exprs_of (part_expr p) parts) m ≡ products_in p.universe (CZ p q f) parts m
     rest-value w h parts a m =
         products-exprs p.universe w (part_expr p) parts m
         ∙ products-all p.universe (λ y. Unit {0}) (λ part k. coef p.universe w (part_expr p part) k) (CZ p q f) parts m (λ part i k l. h part (a part i) k)
 
-    term_near : (m : ℕ) (vars : List Part) → AreThere p vars → (j : ℕ) (E : Expr) → ((k : ℕ) → k < m → coef p.universe t E k ≡ coef p.universe v E k) → (coef p.universe t E m ≡ coef p.universe v E m) ⊎ RestZero vars j
+    term_near : (m : ℕ) (vars : List Part) → AreThere p vars → (j : ℕ) (E : Expr) → ((k : ℕ) → k < m → coef p.universe t E k ≡ coef p.universe v E k) →
+        (coef p.universe t E m ≡ coef p.universe v E m) ⊎ RestZero vars j
         → coef p.universe t (product_of (expr E (exprs_of (part_expr p) (others j vars)))) m ≡ coef p.universe v (product_of (expr E (exprs_of (part_expr p) (others j vars)))) m
     term_near m vars a j E below here =
         let u = p.universe in
@@ -166,7 +169,8 @@ module _ (p : Program) (q : IsProgram p) (f : IsFounded p) where
         (⊎_elim (λ e. inl e) (λ z. inr (rt 0 ∙ z, rv 0 ∙ z)) here) (inl (rt m ∙ sym (rv m)))
         ∙ sym (coef-product u v (expr E es) m)
 
-    own-same : (m own : ℕ) (whole : List Part) → AreThere p whole → coef p.universe t (product_of (expr (Number own) (exprs_of (part_expr p) whole))) m ≡ coef p.universe v (product_of (expr (Number own) (exprs_of (part_expr p) whole))) m
+    own-same : (m own : ℕ) (whole : List Part) → AreThere p whole → coef p.universe t (product_of (expr (Number own) (exprs_of (part_expr p) whole))) m ≡ coef p.universe v
+        (product_of (expr (Number own) (exprs_of (part_expr p) whole))) m
     own-same m own whole a =
         let u = p.universe in
         let es : Exprs = exprs_of (part_expr p) whole in
@@ -175,7 +179,8 @@ module _ (p : Program) (q : IsProgram p) (f : IsFounded p) where
         ∙ sym (coef-product u v (expr (Number own) es) m)
 
     -- ---- the scope of an arm
-    arm_scope : (m : ℕ) (stand : Part) (S : Stand) (bind : Bind) → stand_node S ≡ stand.node → MayBind p S bind → AgreeBehind m stand.node → (bind ≡ Whole → Agree m stand.node) → ScopeNear m (bound_parts p stand bind)
+    arm_scope : (m : ℕ) (stand : Part) (S : Stand) (bind : Bind) → stand_node S ≡ stand.node → MayBind p S bind → AgreeBehind m stand.node → (bind ≡ Whole → Agree m stand.node)
+        → ScopeNear m (bound_parts p stand bind)
     arm_scope m stand S Nothing e w a g j part h = absurd (none_some part h)
     arm_scope m stand S Whole e w a g zero part h = inl (subst (λ (y : Part). AgreeFrom m y.node) (some_same stand part h) (g refl, a))
     arm_scope m stand S Whole e w a g (suc j) part h = absurd (none_some part h)
@@ -291,7 +296,8 @@ module _ (p : Program) (q : IsProgram p) (f : IsFounded p) where
           let u = p.universe in
           let O : Expr = product_of (expr (Number own) (exprs_of (part_expr p) whole)) in
           coef-sum u t (expr O (items_exprs p vars is)) m
-          ∙ (let e : coef u t O m +ℤ sum_of_coefs u t (items_exprs p vars is) m ≡ coef u v O m +ℤ sum_of_coefs u v (items_exprs p vars is) m = omega (arith, ints, own-same m own whole a, items_same is vars b w.1 m below near) in e)
+          ∙ (let e : coef u t O m +ℤ sum_of_coefs u t (items_exprs p vars is) m ≡ coef u v O m +ℤ sum_of_coefs u v (items_exprs p vars is) m =
+          omega (arith, ints, own-same m own whole a, items_same is vars b w.1 m below near) in e)
           ∙ sym (coef-sum u v (expr O (items_exprs p vars is)) m)
 
       items_same : (is : Items) (vars : List Part) → AreThere p vars → FitsItems p (map node_of vars) is → (m : ℕ) → Below m → ItemsNear m vars is
@@ -303,7 +309,8 @@ module _ (p : Program) (q : IsProgram p) (f : IsFounded p) where
           (⊎_elim (λ n. inl (item_same i vars b w.0 m below n)) (λ z. inr z) near.0) in
           omega (arith, ints, e, items_same is vars b w.1 m below near.1)
 
-      item_same : (i : Item) (vars : List Part) → AreThere p vars → FitsItem p (map node_of vars) i → (m : ℕ) → Below m → ItemNear m vars i → coef p.universe t (item_expr p vars i) m ≡ coef p.universe v (item_expr p vars i) m
+      item_same : (i : Item) (vars : List Part) → AreThere p vars → FitsItem p (map node_of vars) i → (m : ℕ) → Below m → ItemNear m vars i → coef p.universe t
+          (item_expr p vars i) m ≡ coef p.universe v (item_expr p vars i) m
       item_same (Call var callee site) vars b w m below near = near
       item_same (Case var arms site) vars b w m below near =
           let u = p.universe in

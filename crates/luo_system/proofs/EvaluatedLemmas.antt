@@ -64,7 +64,9 @@ no_count c e = subst IsBelow e tt
 
 pub starts-needed : StartsAreNeeded
 starts-needed = (
-  λ e i n l. ⊎_elim (λ g. subst (λ (y : Equation). (left_number started_at_one y.left n ≡ coef Unlabelled started_at_one y.right n) × IsExact Unlabelled started_at_one y.right n) (sym g) (points-keep n l))
-      (λ j. ⊎_elim (λ g. subst (λ (y : Equation). (left_number started_at_one y.left n ≡ coef Unlabelled started_at_one y.right n) × IsExact Unlabelled started_at_one y.right n) (sym g) (pairs-keep n l)) (λ z. absurd z) j) i,
+  λ e i n l. ⊎_elim (λ g. subst (λ (y : Equation). (left_number started_at_one y.left n ≡ coef Unlabelled started_at_one y.right n) × IsExact Unlabelled started_at_one y.right n) (sym g)
+      (points-keep n l))
+      (λ j. ⊎_elim (λ g. subst (λ (y : Equation). (left_number started_at_one y.left n ≡ coef Unlabelled started_at_one y.right n) × IsExact Unlabelled started_at_one y.right n) (sym g)
+      (pairs-keep n l)) (λ z. absurd z) j) i,
   λ r. let c = r.counts 1 (def (part 1)) refl 1 (omega arith) in no_count c.0 c.2,
 )

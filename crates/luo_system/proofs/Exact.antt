@@ -1,5 +1,6 @@
 -- No quotient of the system leaves a remainder in the right table.
-use Rattle.std.proofs.Common.{◌≡◌, ℕ, zero, suc, ◌+◌, ◌<◌, ◌≤◌, refl, sym, ◌∙◌, arith, subst, ℤ, pos, Bool, true, false, Option, Some, None, IfSome, ◌⊎◌, inl, inr, ⊎_elim, List, [], ◌∷◌, length, slice_get}
+use Rattle.std.proofs.Common.{◌≡◌, ℕ, zero, suc, ◌+◌, ◌<◌, ◌≤◌, refl, sym, ◌∙◌, arith, subst, ℤ, pos, Bool}
+use Rattle.std.proofs.Common.{true, false, Option, Some, None, IfSome, ◌⊎◌, inl, inr, ⊎_elim, List, [], ◌∷◌, length, slice_get}
 use Rattle.luo_finite.specs.Listing.{In}
 use Rattle.luo_model.specs.declared.program.Universe.{Universe}
 use Rattle.luo_model.specs.declared.program.Universe.TheVariants.{Unlabelled, Labelled}
@@ -20,7 +21,8 @@ use Rattle.luo_equation.specs.Series.{IsExactOf}
 use Rattle.luo_equation.specs.Expr.{Expr, Exprs, Number, Power, Series, Tau, Sum, Prod, Coll, Point, no_exprs, expr, Table, coef, IsExact, AreExact}
 use Rattle.luo_equation.proofs.CountLaws.{exact_of}
 use Rattle.luo_system.specs.Plain.{join_exprs, terms_of, all_terms, as_sum, sum_of, factors_of, all_factors, as_product, is_zero, has_zero, unless_zero, product_of, walk_of}
-use Rattle.luo_system.specs.System.{named, exprs_of, shape_expr, node_expr, part_expr, part_at, stands_for, factors_in, bound_parts, whole_parts, others, item_var, walk_expr, body_expr, items_exprs, item_expr, arms_exprs}
+use Rattle.luo_system.specs.System.{named, exprs_of, shape_expr, node_expr, part_expr, part_at, stands_for, factors_in}
+use Rattle.luo_system.specs.System.{bound_parts, whole_parts, others, item_var, walk_expr, body_expr, items_exprs, item_expr, arms_exprs}
 use Rattle.luo_system.proofs.Counts.{count_of, CZ, C, solid_part, suits_program}
 use Rattle.luo_system.proofs.Definitions.{part_there, part_holds, node_holds}
 use Rattle.luo_system.proofs.Descriptors.{component_part}
@@ -104,7 +106,8 @@ suits_any Labelled Multiset low k s = s
 suits_any Labelled Powerset low k s = s
 
 module _ (p : Program) (q : IsProgram p) (f : IsFounded p) (v : Table) (right : (i : ℕ) (d : Def) → slice_get p.defs i ≡ Some d → (n : ℕ) → v.x i n ≡ pos (count_of p q f d.whole.node n)) where
-  inner_exact : (x : ℕ) (kind : Kind) (part : Part) (low : ℕ) (high : Option ℕ) → shape_of p x ≡ shape.Coll kind part low high → (E : Expr) → ((m : ℕ) → coef p.universe v E m ≡ CZ p q f part m) → (k m : ℕ) → IsExactOf p.universe kind (coef p.universe v E) k m
+  inner_exact : (x : ℕ) (kind : Kind) (part : Part) (low : ℕ) (high : Option ℕ) → shape_of p x ≡ shape.Coll kind part low high → (E : Expr) →
+      ((m : ℕ) → coef p.universe v E m ≡ CZ p q f part m) → (k m : ℕ) → IsExactOf p.universe kind (coef p.universe v E) k m
   inner_exact x kind part low high is E h zero m = tt
   inner_exact x kind part low high is E h (suc k) m =
       subst (λ (g : ℕ → ℤ). IsExactOf p.universe kind g (suc k) m) (λ i j. sym (h j) i)
@@ -126,7 +129,8 @@ module _ (p : Program) (q : IsProgram p) (f : IsFounded p) (v : Table) (right : 
       part_holds p q f v m (λ j d g k h. right j d g k) part w.0 m (omega arith) (node_expr p r part.node)
       (λ o. let a = w.1 o in let c = w.0.0 in node_holds p q f v m (λ j d g k h. right j d g k) r part.node c (omega (arith, b, a)) m (omega arith)) part.name refl)
     where
-      shape_exact : (e : Part → Expr) (s : Shape) → shape_of p x ≡ s → (n : ℕ) → ((part : Part) → In part (inner_parts s) → IsExact p.universe v (e part) n) → ((part : Part) → In part (inner_parts s) → (m : ℕ) → coef p.universe v (e part) m ≡ CZ p q f part m) → IsExact p.universe v (shape_expr e s) n
+      shape_exact : (e : Part → Expr) (s : Shape) → shape_of p x ≡ s → (n : ℕ) → ((part : Part) → In part (inner_parts s) → IsExact p.universe v (e part) n) →
+          ((part : Part) → In part (inner_parts s) → (m : ℕ) → coef p.universe v (e part) m ≡ CZ p q f part m) → IsExact p.universe v (shape_expr e s) n
       shape_exact e (shape.Atom zero) is n h g = tt
       shape_exact e (shape.Atom (suc w)) is n h g = tt
       shape_exact e (shape.Union parts) is n h g = exact-sum p.universe v n (exprs_of e parts) (exact-exprs p.universe v n e parts h)
@@ -180,7 +184,8 @@ module _ (p : Program) (q : IsProgram p) (f : IsFounded p) (v : Table) (right : 
   in_others (part ∷ parts) zero other i = inr i
   in_others (part ∷ parts) (suc j) other i = ⊎_elim (λ e. inl e) (λ k. inr (in_others parts j other k)) i
 
-  walk_exact : (x : ℕ) (s : Shape) → shape_of p x ≡ s → (B : Part → Expr) (n : ℕ) → IsExact p.universe v (B (component_part s)) n → ((part : Part) → IsPart p part → (m : ℕ) → coef p.universe v (part_expr p part) m ≡ CZ p q f part m) → IsExact p.universe v (walk_expr (part_expr p) s B) n
+  walk_exact : (x : ℕ) (s : Shape) → shape_of p x ≡ s → (B : Part → Expr) (n : ℕ) → IsExact p.universe v (B (component_part s)) n →
+      ((part : Part) → IsPart p part → (m : ℕ) → coef p.universe v (part_expr p part) m ≡ CZ p q f part m) → IsExact p.universe v (walk_expr (part_expr p) s B) n
   walk_exact x (shape.Atom weight) is B n h g = tt
   walk_exact x (shape.Union parts) is B n h g = tt
   walk_exact x (shape.Product parts) is B n h g = tt
@@ -208,7 +213,8 @@ module _ (p : Program) (q : IsProgram p) (f : IsFounded p) (v : Table) (right : 
       items_exact : (is : Items) (vars : List Part) → AreParts vars → AreExact p.universe v (items_exprs p vars is) n
       items_exact no_items vars b = tt
       items_exact (item i is) vars b = (
-        exact-product p.universe v n (expr (item_expr p vars i) (exprs_of (part_expr p) (others (item_var i) vars))) (item_exact i vars b, parts_exact (others (item_var i) vars) (λ part k. b part (in_others vars (item_var i) part k))),
+        exact-product p.universe v n (expr (item_expr p vars i) (exprs_of (part_expr p) (others (item_var i) vars)))
+            (item_exact i vars b, parts_exact (others (item_var i) vars) (λ part k. b part (in_others vars (item_var i) part k))),
         items_exact is vars b,
       )
 

@@ -77,7 +77,8 @@ module _ (p : Program) (q : IsProgram p) (f : IsFounded p) where
       abbrev Own : ℕ → Type 0
       Own g = (P : Procedure) → slice_get p.procs g ≡ Some P → P.on.node ≡ x → IsSum p q f x (charge_of p q f g) n (V.y g n)
 
-      own_items : (P : Procedure) → P.on.node ≡ x → ((h : ℕ) → CallsIn h P.body → Own h) → (is : Items) → ((h : ℕ) → CallsAmong h is → CallsIn h P.body) → FitsItems p (P.on.node ∷ []) is → ItemsNear p q f V right_parts n (P.on ∷ []) is
+      own_items : (P : Procedure) → P.on.node ≡ x → ((h : ℕ) → CallsIn h P.body → Own h) → (is : Items) → ((h : ℕ) → CallsAmong h is → CallsIn h P.body) → FitsItems p (P.on.node ∷ []) is
+          → ItemsNear p q f V right_parts n (P.on ∷ []) is
       own_items P e own no_items c w = tt
       own_items P e own (item (Call var callee site) is) c w =
           let r = w.0 in
@@ -87,16 +88,24 @@ module _ (p : Program) (q : IsProgram p) (f : IsFounded p) where
             own_items P e own is (λ h i. c h (inr i)) w.1,
           )
       own_items P e own (item (Case var arms site) is) c w =
-          let r = w.0 in
-          (inl (subst (λ (y : Part). RightBehind p q f V right_parts n y.node) (sym (at_get (P.on ∷ []) var P.on (lone P var r.0 r.1).1)) (subst (λ y. RightBehind p q f V right_parts n y) (sym e) behind)), own_items P e own is c w.1)
+          let r = w.0 in (
+            inl (subst (λ (y : Part). RightBehind p q f V right_parts n y.node) (sym (at_get (P.on ∷ []) var P.on (lone P var r.0 r.1).1))
+                (subst (λ y. RightBehind p q f V right_parts n y) (sym e) behind)),
+            own_items P e own is c w.1,
+          )
       own_items P e own (item (Forall var body body_site site) is) c w =
-          let r = w.0 in
-          (inl (subst (λ (y : Part). RightBehind p q f V right_parts n y.node) (sym (at_get (P.on ∷ []) var P.on (lone P var r.0 r.1).1)) (subst (λ y. RightBehind p q f V right_parts n y) (sym e) behind)), own_items P e own is c w.1)
+          let r = w.0 in (
+            inl (subst (λ (y : Part). RightBehind p q f V right_parts n y.node) (sym (at_get (P.on ∷ []) var P.on (lone P var r.0 r.1).1))
+                (subst (λ y. RightBehind p q f V right_parts n y) (sym e) behind)),
+            own_items P e own is c w.1,
+          )
 
-      own_body : (P : Procedure) → P.on.node ≡ x → (body : Body) → ((h : ℕ) → CallsIn h body → CallsIn h P.body) → ((h : ℕ) → CallsIn h P.body → Own h) → FitsBody p (P.on.node ∷ []) body → BodyNear p q f V right_parts n (P.on ∷ []) body
+      own_body : (P : Procedure) → P.on.node ≡ x → (body : Body) → ((h : ℕ) → CallsIn h body → CallsIn h P.body) → ((h : ℕ) → CallsIn h P.body → Own h) → FitsBody p (P.on.node ∷ []) body
+          → BodyNear p q f V right_parts n (P.on ∷ []) body
       own_body P e (Does own is) c o w = own_items P e o is c w.1
 
-      whole_sum : (g : ℕ) (P : Procedure) → slice_get p.procs g ≡ Some P → P.on.node ≡ x → ((h : ℕ) → OwnCall p g h → Own h) → IsSum p q f P.on.node (charge_of p q f g) n (coef p.universe V (descriptor p P) n)
+      whole_sum : (g : ℕ) (P : Procedure) → slice_get p.procs g ≡ Some P → P.on.node ≡ x → ((h : ℕ) → OwnCall p g h → Own h) → IsSum p q f P.on.node (charge_of p q f g) n
+          (coef p.universe V (descriptor p P) n)
       whole_sum g P k e o =
           let r = q.procedures g P k in
           sum-same p q f P.on.node (λ s. body_charge (charge_of p q f) P.body (s ∷ [])) (charge_of p q f g) n (coef p.universe V (descriptor p P) n) (λ s m. sym (charge_body p q f g P k s m))

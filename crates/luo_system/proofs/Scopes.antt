@@ -1,5 +1,6 @@
 -- Sums of charges over the structures of a node, as integers, and the scopes of bodies.
-use Rattle.std.proofs.Common.{◌≡◌, ℕ, zero, suc, ◌+◌, ◌*◌, ◌<◌, refl, sym, ◌∙◌, ap, arith, subst, ℤ, pos, ◌+ℤ◌, ◌*ℤ◌, nat_abs, Option, Some, ◌⊎◌, inl, inr, ⊎_elim, List, [], ◌∷◌, length, slice_get, sum_by}
+use Rattle.std.proofs.Common.{◌≡◌, ℕ, zero, suc, ◌+◌, ◌*◌, ◌<◌, refl, sym, ◌∙◌, ap, arith, subst, ℤ, pos}
+use Rattle.std.proofs.Common.{◌+ℤ◌, ◌*ℤ◌, nat_abs, Option, Some, ◌⊎◌, inl, inr, ⊎_elim, List, [], ◌∷◌, length, slice_get, sum_by}
 use Rattle.std.proofs.lemmas.Int.{ints}
 use Rattle.std.proofs.lemmas.Option.{slice_get_within}
 use Rattle.std.proofs.lemmas.List.Sums.{sum_by-cons}
@@ -74,7 +75,12 @@ module _ (p : Program) (q : IsProgram p) (f : IsFounded p) where
   sum-own x own m = (own * count_of p q f x m, (λ L r. Sums-constant (IsStructureOn p x L m) own (count_of p q f x m) (counted p q f m x L r)), pos-*ℤ-pos own (count_of p q f x m))
 
   pub sum-none : (x m : ℕ) → IsSum x (λ s. 0) m (pos 0)
-  sum-none x m = (0, (λ L r. subst (Sums (IsStructureOn p x L m) (λ s. 0)) (zero-mul (count_of p q f x m)) (Sums-constant (IsStructureOn p x L m) 0 (count_of p q f x m) (counted p q f m x L r))), refl)
+  sum-none x m = (
+    0,
+    (λ L r. subst (Sums (IsStructureOn p x L m) (λ s. 0)) (zero-mul (count_of p q f x m))
+        (Sums-constant (IsStructureOn p x L m) 0 (count_of p q f x m) (counted p q f m x L r))),
+    refl,
+  )
 
   pub sum-one : (x : ℕ) (w : Tree → ℕ) (m : ℕ) (y z : ℤ) → IsSum x w m y → IsSum x w m z → y ≡ z
   sum-one x w m y z a b =
@@ -159,9 +165,11 @@ module _ (p : Program) (q : IsProgram p) (f : IsFounded p) where
     term = one_term;
   }
     where
-      one_term : (j : ℕ) (part : Part) → slice_get (X ∷ []) j ≡ Some part → (w : Tree → ℕ) (z : ℕ → ℤ) (m : ℕ) → ((k : ℕ) → k < m → IsSum part.node w k (z k)) → IsSum part.node w m (z m) ⊎ RestNone (X ∷ []) j
+      one_term : (j : ℕ) (part : Part) → slice_get (X ∷ []) j ≡ Some part → (w : Tree → ℕ) (z : ℕ → ℤ) (m : ℕ) → ((k : ℕ) → k < m → IsSum part.node w k (z k)) → IsSum part.node w m
+          (z m) ⊎ RestNone (X ∷ []) j
           → IsSum X.node (λ s. w (tree_at (s ∷ []) j)) m (times p.universe z (products_in p.universe (CZ p q f) (others j (X ∷ []))) m)
-      one_term zero part e w z m below (inl s) = sum-at X.node w m (z m) (times p.universe z (only_at 0 (pos 1)) m) (sym (times-unit p.universe z m)) (subst (λ (y : Part). IsSum y.node w m (z m)) (sym (some_same X part e)) s)
+      one_term zero part e w z m below (inl s) =
+          sum-at X.node w m (z m) (times p.universe z (only_at 0 (pos 1)) m) (sym (times-unit p.universe z m)) (subst (λ (y : Part). IsSum y.node w m (z m)) (sym (some_same X part e)) s)
       one_term zero part e w z m below (inr r) = absurd r.1
       one_term (suc j) part e w z m below h = absurd (none_some part e)
 
@@ -181,7 +189,8 @@ module _ (p : Program) (q : IsProgram p) (f : IsFounded p) where
     term = part_term;
   }
     where
-      part_term : (j : ℕ) (part : Part) → slice_get parts j ≡ Some part → (w : Tree → ℕ) (z : ℕ → ℤ) (m : ℕ) → ((k : ℕ) → k < m → IsSum part.node w k (z k)) → IsSum part.node w m (z m) ⊎ RestNone parts j
+      part_term : (j : ℕ) (part : Part) → slice_get parts j ≡ Some part → (w : Tree → ℕ) (z : ℕ → ℤ) (m : ℕ) → ((k : ℕ) → k < m → IsSum part.node w k (z k)) → IsSum part.node w m
+          (z m) ⊎ RestNone parts j
           → IsSum x (λ s. w (tree_at (parts_of s) j)) m (times p.universe z (products_in p.universe (CZ p q f) (others j parts)) m)
       part_term j part e w z m below here =
           let u = p.universe in
@@ -208,7 +217,8 @@ module _ (p : Program) (q : IsProgram p) (f : IsFounded p) where
           same_part j w h (Coll ts) k = absurd k
 
   -- ---- walks
-  pub walk_sum : (x : ℕ) (kind : Kind) (c : Part) (low : ℕ) (high : Option ℕ) → shape_of p x ≡ shape.Coll kind c low high → (w : Tree → ℕ) (z : ℕ → ℤ) (m : ℕ) → ((k : ℕ) → k < m → IsSum c.node w k (z k)) → (IsWithin low high 1 → IsSum c.node w m (z m))
+  pub walk_sum : (x : ℕ) (kind : Kind) (c : Part) (low : ℕ) (high : Option ℕ) → shape_of p x ≡ shape.Coll kind c low high → (w : Tree → ℕ) (z : ℕ → ℤ) (m : ℕ) →
+      ((k : ℕ) → k < m → IsSum c.node w k (z k)) → (IsWithin low high 1 → IsSum c.node w m (z m))
       → IsSum x (over_components w) m (point p.universe kind (CZ p q f c) z low high m)
   walk_sum x kind c low high is w z m below here =
       let u = p.universe in

@@ -69,7 +69,8 @@ module _ (p : Program) where
   placed_firsts caller place [] = refl
   placed_firsts caller place (x ∷ l) = ap (λ m. x.0 ∷ m) (placed_firsts caller (place + 1) l)
 
-  all_firsts : (Ps : List Procedure) (k : ℕ) → ((j : ℕ) (P : Procedure) → slice_get Ps j ≡ Some P → FitsBody p (P.on.node ∷ []) P.body) → firsts (flat_map works_of_procedure Ps) ≡ firsts (sites_from p k Ps)
+  all_firsts : (Ps : List Procedure) (k : ℕ) → ((j : ℕ) (P : Procedure) → slice_get Ps j ≡ Some P → FitsBody p (P.on.node ∷ []) P.body) → firsts (flat_map works_of_procedure Ps) ≡ firsts
+      (sites_from p k Ps)
   all_firsts [] k h = refl
   all_firsts (P ∷ Ps) k h =
       ap firsts (flat_map-cons works_of_procedure P Ps) ∙ firsts-append (works_of_procedure P) (flat_map works_of_procedure Ps)
@@ -101,8 +102,12 @@ site_in p [] k g P e = absurd (none_some P e)
 site_in p (Q ∷ Ps) k zero P e =
     let same : Q ≡ P = some_same Q P e in
     let r = placed_in k 0 (procedure_sites p Q) Q.site Q.on.node (In-append_right (Q.site, Q.on.node) (body_sites p (Q.on.node ∷ []) Q.body) ((Q.site, Q.on.node) ∷ []) (inl refl)) in
-    let s : Site = record { node = Q.on.node; caller = k; place = r.0 } in
-    (s, subst (λ (R : Procedure). In (R.site, s) (sites_from p k (Q ∷ Ps))) same (In-append_left (Q.site, s) (placed k 0 (procedure_sites p Q)) (sites_from p (k + 1) Ps) r.1), ap (λ (R : Procedure). R.on.node) same)
+    let s : Site = record { node = Q.on.node; caller = k; place = r.0 } in (
+      s,
+      subst (λ (R : Procedure). In (R.site, s) (sites_from p k (Q ∷ Ps))) same (In-append_left (Q.site, s) (placed k 0 (procedure_sites p Q)) (sites_from p (k + 1) Ps) r.1),
+      ap
+          (λ (R : Procedure). R.on.node) same,
+    )
 site_in p (Q ∷ Ps) k (suc g) P e = let r = site_in p Ps (k + 1) g P e in (r.0, In-append_right (P.site, r.0) (placed k 0 (procedure_sites p Q)) (sites_from p (k + 1) Ps) r.1, r.2)
 
 -- THE LAWS

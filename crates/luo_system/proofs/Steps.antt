@@ -17,7 +17,8 @@ module _ (R : ℕ → ℕ → Type 0) (N : ℕ) (none : (x : ℕ) → OnCircle R
   -- induction along the relation
   module _ (P : ℕ → Type 0) (step : (x : ℕ) → ((y : ℕ) → R x y → P y) → P x) where
     along : (left x : ℕ) (path : List ℕ) → LeadsTo R N path x → N ≤ left + length path → P x
-    along zero x path h l = ⊎_elim (λ (b : x < N). absurd (let s : length path < N = short_path R none N path x h b in omega (arith, s))) (λ (b : N ≤ x). step x (λ y r. absurd (omega (arith, there x y r)))) (within_or x N)
+    along zero x path h l = ⊎_elim (λ (b : x < N). absurd (let s : length path < N = short_path R none N path x h b in omega (arith, s)))
+        (λ (b : N ≤ x). step x (λ y r. absurd (omega (arith, there x y r)))) (within_or x N)
     along (suc left) x path h l = step x (λ y r. along left y (x ∷ path) (longer_path R none N path x y h (there x y r) r) (omega (arith, l)))
 
     pub by_relation : (x : ℕ) → P x

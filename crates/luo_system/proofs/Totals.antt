@@ -1,5 +1,6 @@
 -- The totals of a well-founded program meet the descriptors.
-use Rattle.std.proofs.Common.{◌≡◌, ℕ, zero, suc, ◌+◌, ◌<◌, ◌≤◌, refl, sym, ◌∙◌, ap, arith, subst, ℤ, pos, ◌+ℤ◌, ◌*ℤ◌, nat_abs, Some, ◌⊎◌, inl, inr, ⊎_elim, List, [], ◌∷◌, map, length, slice_get, get_or}
+use Rattle.std.proofs.Common.{◌≡◌, ℕ, zero, suc, ◌+◌, ◌<◌, ◌≤◌, refl, sym, ◌∙◌, ap, arith, subst, ℤ, pos}
+use Rattle.std.proofs.Common.{◌+ℤ◌, ◌*ℤ◌, nat_abs, Some, ◌⊎◌, inl, inr, ⊎_elim, List, [], ◌∷◌, map, length, slice_get, get_or}
 use Rattle.std.proofs.lemmas.Int.{ints}
 use Rattle.std.proofs.lemmas.Option.{slice_get-get_or}
 use Rattle.luo_finite.specs.Listing.{In}
@@ -115,7 +116,8 @@ module _ (p : Program) (q : IsProgram p) (f : IsFounded p) (v : Table) (vx : (pa
   in_others (part ∷ parts) zero other i = inr i
   in_others (part ∷ parts) (suc j) other i = ⊎_elim (λ e. inl e) (λ k. inr (in_others parts j other k)) i
 
-  own_sum : (x own m : ℕ) (whole : List Part) → AreThere p whole → products_in p.universe (CZ p q f) whole m ≡ pos (count_of p q f x m) → IsSum p q f x (λ s. own) m (coef p.universe v (product_of (expr (Number own) (exprs_of (part_expr p) whole))) m)
+  own_sum : (x own m : ℕ) (whole : List Part) → AreThere p whole → products_in p.universe (CZ p q f) whole m ≡ pos (count_of p q f x m) → IsSum p q f x (λ s. own) m
+      (coef p.universe v (product_of (expr (Number own) (exprs_of (part_expr p) whole))) m)
   own_sum x own m whole a e =
       let u = p.universe in
       let es : Exprs = exprs_of (part_expr p) whole in
@@ -136,7 +138,8 @@ module _ (p : Program) (q : IsProgram p) (f : IsFounded p) (v : Table) (vx : (pa
       by_shape (shape.Product parts) is h = ⊎_elim (λ s. inl (step_on m stand.node part.node a s)) (λ z. inr z) (factor_or stand.node parts is j part h)
       by_shape (shape.Coll kind c low high) is h = absurd (none_some part h)
 
-  arm_scoped : (stand : Part) → IsPart p stand → (S : Stand) → stand_node S ≡ stand.node → (bind : Bind) → MayBind p S bind → Scoped p q f stand.node (bound bind) (whole_parts p stand bind) (bound_parts p stand bind)
+  arm_scoped : (stand : Part) → IsPart p stand → (S : Stand) → stand_node S ≡ stand.node → (bind : Bind) → MayBind p S bind → Scoped p q f stand.node (bound bind) (whole_parts p stand bind)
+      (bound_parts p stand bind)
   arm_scoped stand h S e Nothing w = scoped_none p q f stand h
   arm_scoped stand h S e Whole w = scoped_one p q f stand h
   arm_scoped stand h S e (Parts k) w = by_shape (shape_of p stand.node) refl (product_of_k S w)
@@ -158,7 +161,8 @@ module _ (p : Program) (q : IsProgram p) (f : IsFounded p) (v : Table) (vx : (pa
   arm_coef m (stand ∷ rest) (arm bind body arms) (suc i) = arm_coef m rest arms i
   arm_coef m _ _ i = pos 0
 
-  arms_coefs : (m : ℕ) (parts : List Part) (arms : Arms) → FitsArms p (map (λ (part : Part). inside part.node) parts) arms → sum_of_coefs p.universe v (arms_exprs p parts arms) m ≡ sum_z (arm_coef m parts arms) (length parts)
+  arms_coefs : (m : ℕ) (parts : List Part) (arms : Arms) → FitsArms p (map (λ (part : Part). inside part.node) parts) arms → sum_of_coefs p.universe v (arms_exprs p parts arms) m ≡ sum_z
+      (arm_coef m parts arms) (length parts)
   arms_coefs m [] no_arms w = refl
   arms_coefs m [] (arm bind body arms) w = refl
   arms_coefs m (part ∷ parts) no_arms w = absurd w
@@ -167,8 +171,10 @@ module _ (p : Program) (q : IsProgram p) (f : IsFounded p) (v : Table) (vx : (pa
       ∙ sym (sum_z-shift (arm_coef m (part ∷ parts) (arm bind body arms)) (length parts))
 
   case_sum : (arms : Arms) (X : Part) (s : Shape) → shape_of p X.node ≡ s → 1 ≤ length (stands X.node s) → FitsArms p (stands X.node s) arms → (m : ℕ)
-      → ((parts : List Part) → shape_of p X.node ≡ shape.Union parts → FitsArms p (map (λ (part : Part). inside part.node) parts) arms → (i : ℕ) (part : Part) → slice_get parts i ≡ Some part → IsSum p q f part.node (λ t. arms_charge W arms (Inj (suc i) t)) m (arm_coef m parts arms i))
-      → ((parts : List Part) → shape_of p X.node ≡ shape.Product parts → FitsArms p (itself X.node ∷ []) arms → IsSum p q f X.node (arms_charge W arms) m (sum_of_coefs p.universe v (arms_exprs p (X ∷ []) arms) m))
+      → ((parts : List Part) → shape_of p X.node ≡ shape.Union parts → FitsArms p (map (λ (part : Part). inside part.node) parts) arms → (i : ℕ) (part : Part)
+      → slice_get parts i ≡ Some part → IsSum p q f part.node (λ t. arms_charge W arms (Inj (suc i) t)) m (arm_coef m parts arms i))
+      → ((parts : List Part) → shape_of p X.node ≡ shape.Product parts → FitsArms p (itself X.node ∷ []) arms → IsSum p q f X.node (arms_charge W arms) m
+      (sum_of_coefs p.universe v (arms_exprs p (X ∷ []) arms) m))
       → IsSum p q f X.node (arms_charge W arms) m (sum_of_coefs p.universe v (arms_exprs p (stands_for X s) arms) m)
   case_sum arms X (shape.Atom weight) is l w m union product = absurd (omega arith)
   case_sum arms X (shape.Coll kind c low high) is l w m union product = absurd (omega arith)
@@ -221,14 +227,16 @@ module _ (p : Program) (q : IsProgram p) (f : IsFounded p) (v : Table) (vx : (pa
 
   -- ---- THE LAW: descriptors have the sums of what bodies charge
   mutual
-    pub body_sum : (body : Body) (x : ℕ) (scope : Tree → List Tree) (whole vars : List Part) → Scoped p q f x scope whole vars → FitsBody p (map node_of vars) body → (m : ℕ) → Below m → BodyNear m vars body
+    pub body_sum : (body : Body) (x : ℕ) (scope : Tree → List Tree) (whole vars : List Part) → Scoped p q f x scope whole vars → FitsBody p (map node_of vars) body → (m : ℕ) → Below m
+        → BodyNear m vars body
         → IsSum p q f x (λ s. body_charge W body (scope s)) m (coef p.universe v (body_expr p whole vars body) m)
     body_sum (Does own is) x scope whole vars sc w m below near =
         let u = p.universe in
         let O : Expr = product_of (expr (Number own) (exprs_of (part_expr p) whole)) in
         sum-at p q f x (λ s. own + items_charge W is (scope s)) m (coef u v O m +ℤ sum_of_coefs u v (items_exprs p vars is) m) (coef u v (body_expr p whole vars (Does own is)) m)
         (sym (coef-sum u v (expr O (items_exprs p vars is)) m))
-        (sum-add p q f x (λ s. own) (λ s. items_charge W is (scope s)) m (coef u v O m) (sum_of_coefs u v (items_exprs p vars is) m) (own_sum x own m whole sc.whole_there (sc.own m)) (items_sum is x scope whole vars sc w.1 m below near))
+        (sum-add p q f x (λ s. own) (λ s. items_charge W is (scope s)) m (coef u v O m) (sum_of_coefs u v (items_exprs p vars is) m) (own_sum x own m whole sc.whole_there (sc.own m))
+        (items_sum is x scope whole vars sc w.1 m below near))
 
     items_sum : (is : Items) (x : ℕ) (scope : Tree → List Tree) (whole vars : List Part) → Scoped p q f x scope whole vars → FitsItems p (map node_of vars) is → (m : ℕ) → Below m → ItemsNear m vars is
         → IsSum p q f x (λ s. items_charge W is (scope s)) m (sum_of_coefs p.universe v (items_exprs p vars is) m)
@@ -239,7 +247,8 @@ module _ (p : Program) (q : IsProgram p) (f : IsFounded p) (v : Table) (vx : (pa
         let E : Expr = item_expr p vars i in
         let es : Exprs = exprs_of (part_expr p) (others j vars) in
         let g = item_get vars i w.0 in
-        let at : (k : ℕ) → IsSum p q f (part_at vars j).node (item_charge W i) k (coef u v E k) → IsSum p q f g.0.node (item_charge W i) k (coef u v E k) = λ k s. subst (λ (y : Part). IsSum p q f y.node (item_charge W i) k (coef u v E k)) (at_get vars j g.0 g.1) s in
+        let at : (k : ℕ) → IsSum p q f (part_at vars j).node (item_charge W i) k (coef u v E k) → IsSum p q f g.0.node (item_charge W i) k (coef u v E k) =
+        λ k s. subst (λ (y : Part). IsSum p q f y.node (item_charge W i) k (coef u v E k)) (at_get vars j g.0 g.1) s in
         let term = sc.term j g.0 g.1 (item_charge W i) (coef u v E) m
         (λ k l. at k (item_sum i vars sc.vars_there w.0 k (λ o h. below o (omega arith)) (near_below i vars w.0 k (below k l))))
         (⊎_elim (λ n. inl (at m (item_sum i vars sc.vars_there w.0 m below n))) (λ r. inr r) near.0) in
@@ -248,7 +257,8 @@ module _ (p : Program) (q : IsProgram p) (f : IsFounded p) (v : Table) (vx : (pa
         (sym (coef-product u v (expr E es) m ∙ ap (λ (h : ℕ → ℤ). times u (coef u v E) h m) (λ o k. rest-value (others j vars) (λ part i. sc.vars_there part (in_others vars j part i)) k o))) term)
         (items_sum is x scope whole vars sc w.1 m below near.1)
 
-    item_sum : (i : Item) (vars : List Part) → AreThere p vars → FitsItem p (map node_of vars) i → (m : ℕ) → Below m → ItemNear m vars i → IsSum p q f (part_at vars (item_var i)).node (item_charge W i) m (coef p.universe v (item_expr p vars i) m)
+    item_sum : (i : Item) (vars : List Part) → AreThere p vars → FitsItem p (map node_of vars) i → (m : ℕ) → Below m → ItemNear m vars i → IsSum p q f (part_at vars (item_var i)).node
+        (item_charge W i) m (coef p.universe v (item_expr p vars i) m)
     item_sum (Call var callee site) vars b w m below near = near
     item_sum (Case var arms site) vars b w m below near =
         let u = p.universe in
@@ -258,7 +268,8 @@ module _ (p : Program) (q : IsProgram p) (f : IsFounded p) (v : Table) (vx : (pa
         let h : IsPart p X = subst (IsPart p) (sym same) (b r.0 (In_get vars var r.0 r.1)) in
         let e : w.0 ≡ X.node = sym r.2 ∙ ap node_of (sym same) in
         let s : Shape = shape_of p X.node in
-        sum-at p q f X.node (arms_charge W arms) m (sum_of_coefs u v (arms_exprs p (stands_for X s) arms) m) (coef u v (item_expr p vars (Case var arms site)) m) (sym (coef-sum u v (arms_exprs p (stands_for X s) arms) m))
+        sum-at p q f X.node (arms_charge W arms) m (sum_of_coefs u v (arms_exprs p (stands_for X s) arms) m) (coef u v (item_expr p vars (Case var arms site)) m)
+        (sym (coef-sum u v (arms_exprs p (stands_for X s) arms) m))
         (case_sum arms X s refl (subst (λ y. 1 ≤ length (stands y (shape_of p y))) e w.2) (subst (λ y. FitsArms p (stands y (shape_of p y)) arms) e w.3) m
         (λ parts is k i part g. branch_sum arms parts k (λ y o. (part_there p q X.node (shape.Union parts) is y o).0) m below
         (λ y o. step_on m X.node y.node near (subst (λ z. KeepsSize (HasZero p) z y.node) (sym is) (y, o, refl))) i part g)
@@ -277,7 +288,8 @@ module _ (p : Program) (q : IsProgram p) (f : IsFounded p) (v : Table) (vx : (pa
         (λ k l. body_sum body c.node (λ t. t ∷ []) (c ∷ []) (c ∷ []) sc fit k (λ j h. below j (omega arith)) (body_near k (c ∷ []) body fit (all_near k (c ∷ []) (below k l))))
         (λ o. body_sum body c.node (λ t. t ∷ []) (c ∷ []) (c ∷ []) sc fit m below (body_near m (c ∷ []) body fit (alone_scope m c (step_on m X.node c.node near o))))
 
-    branch_sum : (arms : Arms) (parts : List Part) → FitsArms p (map (λ (part : Part). inside part.node) parts) arms → AreThere p parts → (m : ℕ) → Below m → ((part : Part) → In part parts → RightFrom m part.node)
+    branch_sum : (arms : Arms) (parts : List Part) → FitsArms p (map (λ (part : Part). inside part.node) parts) arms → AreThere p parts → (m : ℕ) → Below m →
+        ((part : Part) → In part parts → RightFrom m part.node)
         → (i : ℕ) (part : Part) → slice_get parts i ≡ Some part → IsSum p q f part.node (λ t. arms_charge W arms (Inj (suc i) t)) m (arm_coef m parts arms i)
     branch_sum arms [] w b m below near i part e = absurd (none_some part e)
     branch_sum no_arms (y ∷ parts) w b m below near i part e = absurd w
@@ -290,7 +302,8 @@ module _ (p : Program) (q : IsProgram p) (f : IsFounded p) (v : Table) (vx : (pa
         (body_near m (bound_parts p y bind) body fit (arm_near m y S bind w.0 a.1 (λ g. a.0))))
     branch_sum (arm bind body arms) (y ∷ parts) w b m below near (suc i) part e = branch_sum arms parts w.2 (λ z j. b z (inr j)) m below (λ z j. near z (inr j)) i part e
 
-    product_sum : (arms : Arms) (X : Part) → IsPart p X → (parts : List Part) → shape_of p X.node ≡ shape.Product parts → FitsArms p (itself X.node ∷ []) arms → (m : ℕ) → Below m → RightBehind m X.node
+    product_sum : (arms : Arms) (X : Part) → IsPart p X → (parts : List Part) → shape_of p X.node ≡ shape.Product parts → FitsArms p (itself X.node ∷ []) arms → (m : ℕ) → Below m
+        → RightBehind m X.node
         → IsSum p q f X.node (arms_charge W arms) m (sum_of_coefs p.universe v (arms_exprs p (X ∷ []) arms) m)
     product_sum no_arms X h parts is w m below near = absurd w
     product_sum (arm bind body (arm c d arms)) X h parts is w m below near = absurd w.2

@@ -36,13 +36,15 @@ use Rattle.luo_system.proofs.Exact.{part_exact, body_exact}
 abbrev IsDef : Program → Equation → ℕ → Type 0
 IsDef p e k = (j : ℕ) × (d : Def) × (slice_get p.defs j ≡ Some d) × (e ≡ record { left = left.Series j; right = part_expr p d.whole })
 
-defs_back : (p : Program) (ds : List Def) (k : ℕ) (e : Equation) → In e (defs_from p k ds) → (j : ℕ) × (d : Def) × (slice_get ds j ≡ Some d) × (e ≡ record { left = left.Series (k + j); right = part_expr p d.whole })
+defs_back : (p : Program) (ds : List Def) (k : ℕ) (e : Equation) → In e (defs_from p k ds) → (j : ℕ) × (d : Def) × (slice_get ds j ≡ Some d) ×
+    (e ≡ record { left = left.Series (k + j); right = part_expr p d.whole })
 defs_back p [] k e i = absurd i
 defs_back p (d ∷ ds) k e (inl g) = (0, d, refl, g ∙ λ i. record { left = left.Series ((let z : k ≡ k + 0 = omega arith in z) i); right = part_expr p d.whole })
 defs_back p (d ∷ ds) k e (inr i) =
     let r = defs_back p ds (suc k) e i in (suc r.0, r.1, r.2, r.3 ∙ λ i. record { left = left.Series ((let z : suc k + r.0 ≡ k + suc r.0 = omega arith in z) i); right = part_expr p r.1.whole })
 
-procs_back : (p : Program) (Ps : List Procedure) (k : ℕ) (e : Equation) → In e (procs_from p k Ps) → (j : ℕ) × (P : Procedure) × (slice_get Ps j ≡ Some P) × (e ≡ record { left = left.Tau (k + j); right = descriptor p P })
+procs_back : (p : Program) (Ps : List Procedure) (k : ℕ) (e : Equation) → In e (procs_from p k Ps) → (j : ℕ) × (P : Procedure) × (slice_get Ps j ≡ Some P) ×
+    (e ≡ record { left = left.Tau (k + j); right = descriptor p P })
 procs_back p [] k e i = absurd i
 procs_back p (P ∷ Ps) k e (inl g) = (0, P, refl, g ∙ λ i. record { left = left.Tau ((let z : k ≡ k + 0 = omega arith in z) i); right = descriptor p P })
 procs_back p (P ∷ Ps) k e (inr i) =
@@ -73,7 +75,8 @@ module _ (p : Program) (q : IsProgram p) (f : IsFounded p) where
     equations_hold e i n l = ⊎_elim
         (λ h.
         let d = defs_back p p.defs 0 e h in
-        let k : e ≡ record { left = left.Series d.0; right = part_expr p d.1.whole } = d.3 ∙ (λ i. record { left = left.Series ((let z : 0 + d.0 ≡ d.0 = omega arith in z) i); right = part_expr p d.1.whole }) in
+        let k : e ≡ record { left = left.Series d.0; right = part_expr p d.1.whole } =
+        d.3 ∙ (λ i. record { left = left.Series ((let z : 0 + d.0 ≡ d.0 = omega arith in z) i); right = part_expr p d.1.whole }) in
         subst (λ (y : Equation). (left_number t y.left n ≡ coef p.universe t y.right n) × IsExact p.universe t y.right n) (sym k) (
           sym (same_x d.0 n l) ∙ series_right p q f t d.0 d.1 d.2 n ∙ coef-up p.universe V t N same_x same_y (part_expr p d.1.whole) n l,
           exact-up p.universe V t N same_x same_y (part_expr p d.1.whole) n l (part_exact p q f V (right_series p q f t) d.1.whole (q.wholes_there d.0 d.1 d.2) n),

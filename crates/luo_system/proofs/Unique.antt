@@ -72,8 +72,10 @@ module _ (p : Program) (q : IsProgram p) (f : IsFounded p) where
   counts_y t g m = refl
 
   -- ---- two tables with the counts, of which the equations of procedures hold
-  module _ (N : ℕ) (t v : Table) (tx : (part : Part) → IsPart p part → (m : ℕ) → coef p.universe t (part_expr p part) m ≡ CZ p q f part m) (vx : (part : Part) → IsPart p part → (m : ℕ) → coef p.universe v (part_expr p part) m ≡ CZ p q f part m)
-      (ty : (g : ℕ) (P : Procedure) → slice_get p.procs g ≡ Some P → (n : ℕ) → n ≤ N → t.y g n ≡ coef p.universe t (descriptor p P) n) (vy : (g : ℕ) (P : Procedure) → slice_get p.procs g ≡ Some P → (n : ℕ) → n ≤ N → v.y g n ≡ coef p.universe v (descriptor p P) n) where
+  module _ (N : ℕ) (t v : Table) (tx : (part : Part) → IsPart p part → (m : ℕ) → coef p.universe t (part_expr p part) m ≡ CZ p q f part m)
+      (vx : (part : Part) → IsPart p part → (m : ℕ) → coef p.universe v (part_expr p part) m ≡ CZ p q f part m)
+      (ty : (g : ℕ) (P : Procedure) → slice_get p.procs g ≡ Some P → (n : ℕ) → n ≤ N → t.y g n ≡ coef p.universe t (descriptor p P) n)
+      (vy : (g : ℕ) (P : Procedure) → slice_get p.procs g ≡ Some P → (n : ℕ) → n ≤ N → v.y g n ≡ coef p.universe v (descriptor p P) n) where
     abbrev IsOne : ℕ → ℕ → Type 0
     IsOne n x = n ≤ N → AgreeFrom p q f t v tx vx n x
 
@@ -89,19 +91,27 @@ module _ (p : Program) (q : IsProgram p) (f : IsFounded p) where
       lone P zero y e = (some_same P.on.node y e, refl)
       lone P (suc var) y e = absurd (none_some y e)
 
-      own_items : (g : ℕ) (P : Procedure) → P.on.node ≡ x → ((h : ℕ) → CallsIn h P.body → Own h) → (is : Items) → ((h : ℕ) → CallsAmong h is → CallsIn h P.body) → FitsItems p (P.on.node ∷ []) is → ItemsNear p q f t v tx vx n (P.on ∷ []) is
+      own_items : (g : ℕ) (P : Procedure) → P.on.node ≡ x → ((h : ℕ) → CallsIn h P.body → Own h) → (is : Items) → ((h : ℕ) → CallsAmong h is → CallsIn h P.body) → FitsItems p
+          (P.on.node ∷ []) is → ItemsNear p q f t v tx vx n (P.on ∷ []) is
       own_items g P e own no_items c w = tt
       own_items g P e own (item (Call var callee site) is) c w =
           let r = w.0 in
           (inl (own callee (c callee (inl refl)) r.0 r.1 (sym (lone P var r.0.on.node r.2).0 ∙ e)), own_items g P e own is (λ h i. c h (inr i)) w.1)
       own_items g P e own (item (Case var arms site) is) c w =
-          let r = w.0 in
-          (inl (subst (λ (y : Part). AgreeBehind p q f t v tx vx n y.node) (sym (at_get (P.on ∷ []) var P.on (lone P var r.0 r.1).1)) (subst (λ y. AgreeBehind p q f t v tx vx n y) (sym e) behind)), own_items g P e own is c w.1)
+          let r = w.0 in (
+            inl (subst (λ (y : Part). AgreeBehind p q f t v tx vx n y.node) (sym (at_get (P.on ∷ []) var P.on (lone P var r.0 r.1).1))
+                (subst (λ y. AgreeBehind p q f t v tx vx n y) (sym e) behind)),
+            own_items g P e own is c w.1,
+          )
       own_items g P e own (item (Forall var body body_site site) is) c w =
-          let r = w.0 in
-          (inl (subst (λ (y : Part). AgreeBehind p q f t v tx vx n y.node) (sym (at_get (P.on ∷ []) var P.on (lone P var r.0 r.1).1)) (subst (λ y. AgreeBehind p q f t v tx vx n y) (sym e) behind)), own_items g P e own is c w.1)
+          let r = w.0 in (
+            inl (subst (λ (y : Part). AgreeBehind p q f t v tx vx n y.node) (sym (at_get (P.on ∷ []) var P.on (lone P var r.0 r.1).1))
+                (subst (λ y. AgreeBehind p q f t v tx vx n y) (sym e) behind)),
+            own_items g P e own is c w.1,
+          )
 
-      own_body : (g : ℕ) (P : Procedure) → P.on.node ≡ x → (body : Body) → ((h : ℕ) → CallsIn h body → CallsIn h P.body) → ((h : ℕ) → CallsIn h P.body → Own h) → FitsBody p (P.on.node ∷ []) body → BodyNear p q f t v tx vx n (P.on ∷ []) body
+      own_body : (g : ℕ) (P : Procedure) → P.on.node ≡ x → (body : Body) → ((h : ℕ) → CallsIn h body → CallsIn h P.body) → ((h : ℕ) → CallsIn h P.body → Own h) → FitsBody p
+          (P.on.node ∷ []) body → BodyNear p q f t v tx vx n (P.on ∷ []) body
       own_body g P e (Does own is) c o w = own_items g P e o is c w.1
 
       own_step : (g : ℕ) → ((h : ℕ) → OwnCall p g h → Own h) → Own g

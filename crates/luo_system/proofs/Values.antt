@@ -121,7 +121,8 @@ module _ (u : Universe) (Z : ℕ → Type 0) (F G : Part → ℕ → ℤ) where
         let there : (q : Part) → In q parts → In q all = λ q i. subst (λ l. In q l) (sym is) (In-append_right q before (part ∷ parts) (inr i)) in (
           ⊎_elim (λ z. inl (near.same part here (others_by_place Z all before part parts is b z))) (λ s. inr s) (all_or_some parts (λ q i. near.start q (there q i))),
           ⊎_elim
-              (λ z. inl (at_all (before ++ part ∷ []) parts (is ∙ sym (append_assoc before (part ∷ []) parts)) (λ q i. ⊎_elim (λ j. b q j) (λ j. ⊎_elim (λ e. subst (λ (v : Part). Z v.node) (sym e) z) (λ k. absurd k) j) (In-append_cases q before (part ∷ []) i))))
+              (λ z. inl (at_all (before ++ part ∷ []) parts (is ∙ sym (append_assoc before (part ∷ []) parts))
+              (λ q i. ⊎_elim (λ j. b q j) (λ j. ⊎_elim (λ e. subst (λ (v : Part). Z v.node) (sym e) z) (λ k. absurd k) j) (In-append_cases q before (part ∷ []) i))))
               (λ z. inr z) (near.start part here),
         )
 

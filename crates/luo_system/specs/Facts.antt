@@ -44,7 +44,11 @@ equation i e = record { left = left.Series i; right = e }
 abbrev pub SystemOfTrees : Type 0
 SystemOfTrees = system trees ≡ equation 0 (Number 1) ∷ (equation 1 (Power 1)
     ∷ (equation 2 (Sum (expr (Series 0) (expr (three (Series 1) (Series 2) (Series 2)) no_exprs)))
-    ∷ (record { left = left.Tau 0; right = Sum (expr (three (Series 1) (Series 2) (Series 2)) (expr (three (Tau 0) (Series 1) (Series 2)) (expr (three (Tau 0) (Series 1) (Series 2)) no_exprs))) } ∷ [])))
+    ∷ (record {
+      left = left.Tau 0;
+      right =
+          Sum (expr (three (Series 1) (Series 2) (Series 2)) (expr (three (Tau 0) (Series 1) (Series 2)) (expr (three (Tau 0) (Series 1) (Series 2)) no_exprs)));
+    } ∷ [])))
 
 -- node = atom(1); tree = product(node, set(tree)); a procedure that charges 1 and calls itself on each subtree
 abbrev pub rooted : Program
