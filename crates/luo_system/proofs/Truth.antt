@@ -115,8 +115,8 @@ module _ (p : Program) (q : IsProgram p) (f : IsFounded p) where
       }
 
   -- a right table exists, with any numbers beside the definitions and procedures
-  pub true_exists : (N : ℕ) → (t : Table) × IsTrue N t
-  true_exists N = let t : Table = record { x = λ i n. pos 0; y = λ g n. pos 0 } in (right_of p q f t, right_is_true N t)
+  pub true_exists : (t : Table) × ((N : ℕ) → IsTrue N t)
+  true_exists = let t : Table = record { x = λ i n. pos 0; y = λ g n. pos 0 } in (right_of p q f t, λ N. right_is_true N t)
 
   -- ---- in the words of counts and totals
   pub total_is : (g : ℕ) (P : Procedure) → slice_get p.procs g ≡ Some P → (n : ℕ) → IsTotal p P.site n (total_of p q f g P n)
@@ -145,7 +145,7 @@ pub right-tables_hold : RightTablesHold
 right-tables_hold p q f N t r = equations_hold p q f N t (true_of_right p q f N t r)
 
 pub right-tables_exist : RightTablesExist
-right-tables_exist p q f N = let t = true_exists p q f N in (t.0, right_of_true p q f N t.0 t.1)
+right-tables_exist p q f = let t = true_exists p q f in (t.0, λ N. right_of_true p q f N t.0 (t.1 N))
 
 pub holding-tables_right : HoldingTablesAreRight
 holding-tables_right p q f N t h z = right_of_true p q f N t (table_true p q f N t h z)

@@ -42,13 +42,13 @@ AreTrue p es = (N : ℕ) (t : Table) → IsRight p N t → AllHold p.universe es
 abbrev pub Determine : Program → List Equation → Type 0
 Determine p es = (N : ℕ) (t : Table) → SidesAgree p.universe es N t → ZeroStart p t → IsRight p N t
 
--- a right table exists for every size
-abbrev pub HasTables : Program → Type 0
-HasTables p = (N : ℕ) → (t : Table) × IsRight p N t
+-- there is a table that is right at every size
+abbrev pub HasTable : Program → Type 0
+HasTable p = (t : Table) × ((N : ℕ) → IsRight p N t)
 
 -- the three together: these equations hold of the counts and totals of the program, at every size, and of no other numbers that start
 -- with zeros
 pub record Describe (p : Program) (es : List Equation) : Type 0 where
-  pub exist : HasTables p
+  pub exist : HasTable p
   pub hold : AreTrue p es
   pub determine : Determine p es

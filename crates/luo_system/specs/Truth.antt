@@ -9,15 +9,15 @@ use Rattle.luo_model.specs.Founded.{IsFounded}
 use Rattle.luo_equation.specs.Expr.{Table}
 use Rattle.luo_equation.specs.Equation.{Equation}
 use Rattle.luo_system.specs.System.{system}
-use Rattle.luo_system.specs.Holding.{IsRight, AreTrue, Determine, HasTables, Describe}
+use Rattle.luo_system.specs.Holding.{IsRight, AreTrue, Determine, HasTable, Describe}
 
 -- the equations hold of a right table, and no quotient leaves a remainder
 abbrev pub RightTablesHold : Type 0
 RightTablesHold = (p : Program) → IsProgram p → IsFounded p → AreTrue p (system p)
 
--- a right table exists, for every size
+-- a table exists that is right at every size
 abbrev pub RightTablesExist : Type 0
-RightTablesExist = (p : Program) → IsProgram p → IsFounded p → HasTables p
+RightTablesExist = (p : Program) → IsProgram p → IsFounded p → HasTable p
 
 -- a table of which the two sides of each equation agree, and which starts with zeros, is right
 abbrev pub HoldingTablesAreRight : Type 0

@@ -25,7 +25,7 @@ pub fn right_tables_hold()
     ensures { RightTablesHold }
 {}
 
-/// A founded program has counts and totals, up to every size.
+/// A founded program has counts and totals of all sizes.
 pub fn right_tables_exist()
     ensures { RightTablesExist }
 {}
