@@ -112,6 +112,7 @@ module _ (u : Universe) (t : Table) where
       (coef u t body) low high n
   unfolding walk_of
   coef-walk kind inner low high body n = ⊎_elim
-      (λ y. ap (λ b. coef u t (unless_zero b (Point kind inner low high body)) n) y ∙ zero-number n ∙ sym (point-zero u (coef u t inner) (coef u t body) (is-zero body y) kind low high n))
+      (λ y. ap (λ b. coef u t (unless_zero b (Point kind inner low high body)) n) y
+      ∙ zero-number n ∙ sym (point-zero u (coef u t inner) (coef u t body) (is-zero body y) kind low high n))
       (λ y. ap (λ b. coef u t (unless_zero b (Point kind inner low high body)) n) y)
       (bool_or (is_zero body))

@@ -28,8 +28,10 @@ abbrev pub trees : Program
 trees = record {
   universe = Unlabelled;
   defs = def (part 0) ∷ (def (part 1) ∷ (def (part 2) ∷ []));
-  nodes = node (shape.Atom 0) ∷ (node (shape.Atom 1) ∷ (node (shape.Union (by_name 0 0 ∷ (part 3 ∷ []))) ∷ (node (shape.Product (by_name 1 1 ∷ (by_name 2 2 ∷ (by_name 2 2 ∷ [])))) ∷ [])));
-  procs = on (by_name 2 2) (Does 0 (item (Case 0 (arm Nothing (Does 0 no_items) (arm (Parts 3) (Does 1 (item (Call 1 0 0) (item (Call 2 0 0) no_items))) no_arms)) 0) no_items)) ∷ [];
+  nodes = node (shape.Atom 0) ∷ (node (shape.Atom 1) ∷ (node (shape.Union (by_name 0 0 ∷ (part 3 ∷ [])))
+      ∷ (node (shape.Product (by_name 1 1 ∷ (by_name 2 2 ∷ (by_name 2 2 ∷ [])))) ∷ [])));
+  procs = on (by_name 2 2) (Does 0 (item (Case 0 (arm Nothing (Does 0 no_items)
+      (arm (Parts 3) (Does 1 (item (Call 1 0 0) (item (Call 2 0 0) no_items))) no_arms)) 0) no_items)) ∷ [];
   sites = [];
   analyses = [];
 }
@@ -46,8 +48,8 @@ SystemOfTrees = system trees ≡ equation 0 (Number 1) ∷ (equation 1 (Power 1)
     ∷ (equation 2 (Sum (expr (Series 0) (expr (three (Series 1) (Series 2) (Series 2)) no_exprs)))
     ∷ (record {
       left = left.Tau 0;
-      right =
-          Sum (expr (three (Series 1) (Series 2) (Series 2)) (expr (three (Tau 0) (Series 1) (Series 2)) (expr (three (Tau 0) (Series 1) (Series 2)) no_exprs)));
+      right = Sum (expr (three (Series 1) (Series 2) (Series 2))
+          (expr (three (Tau 0) (Series 1) (Series 2)) (expr (three (Tau 0) (Series 1) (Series 2)) no_exprs)));
     } ∷ [])))
 
 -- node = atom(1); tree = product(node, set(tree)); a procedure that charges 1 and calls itself on each subtree

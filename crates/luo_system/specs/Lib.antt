@@ -4,4 +4,5 @@ pub mod Holding
 pub mod Laws
 pub mod Truth
 pub mod Facts
+pub mod FactsCases
 pub mod Evaluated

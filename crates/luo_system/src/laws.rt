@@ -1,8 +1,11 @@
 //! Laws of plain form; that the equations hold and determine the numbers; the equations of small programs.
 ghost use Rattle.luo_system.specs.Laws.{SumsKeepCoefficients, ProductsKeepCoefficients, WalksKeepCoefficients};
-ghost use Rattle.luo_system.specs.Truth.{RightTablesHold, RightTablesExist, HoldingTablesAreRight, SystemsDescribe, RightTablesHaveRows};
+ghost use Rattle.luo_system.specs.Truth.{RightTablesHold, RightTablesExist, HoldingTablesAreRight};
+ghost use Rattle.luo_system.specs.Truth.{SystemsDescribe, RightTablesHaveRows};
 ghost use Rattle.luo_system.specs.Facts.{SystemOfTrees, SystemOfRooted};
-ghost use Rattle.luo_system.specs.Evaluated.{SystemOfCollections, PermutationsGive, PartitionsGive, DistinctPartitionsGive, StartsAreNeeded};
+ghost use Rattle.luo_system.specs.FactsCases.{SystemOfCases};
+ghost use Rattle.luo_system.specs.Evaluated.{SystemOfCollections, PermutationsGive, PartitionsGive};
+ghost use Rattle.luo_system.specs.Evaluated.{DistinctPartitionsGive, StartsAreNeeded};
 
 /// A sum in plain form has the coefficients of the sum.
 pub fn sums_keep_coefficients()
@@ -54,6 +57,11 @@ pub fn system_of_trees()
 /// The equations of rooted labelled trees.
 pub fn system_of_rooted()
     ensures { SystemOfRooted }
+{}
+
+/// The equations of a program with cases on tuples, arms that bind the whole, and a walk within bounds.
+pub fn system_of_cases()
+    ensures { SystemOfCases }
 {}
 
 /// The equations of collections of collections of points, and of a walk over them.
