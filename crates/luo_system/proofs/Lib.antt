@@ -16,3 +16,4 @@ pub mod Right
 pub mod Exact
 pub mod Truth
 pub mod EvaluatedLemmas
+pub mod StartLemmas

@@ -1,5 +1,5 @@
--- The equations of four small programs, evaluated: permutations by cycles, partitions, distinct partitions, and trees without a start.
-use Rattle.std.specs.Prelude.{◌≡◌, ℕ, zero, suc, List, [], ◌∷◌, Some, None, slice_get, slice_index_or, ℤ, pos, negsuc}
+-- The equations of three small programs, evaluated: permutations by cycles, partitions, and partitions into distinct parts.
+use Rattle.std.specs.Prelude.{◌≡◌, ℕ, List, [], ◌∷◌, Some, None, slice_get, slice_index_or, ℤ, pos}
 use Rattle.luo_model.specs.declared.program.Universe.{Universe}
 use Rattle.luo_model.specs.declared.program.Universe.TheVariants.{Unlabelled, Labelled}
 use Rattle.luo_model.specs.declared.program.Kind.{Kind}
@@ -11,7 +11,7 @@ use Rattle.luo_equation.specs.Expr.{Power, Series, Coll, Point, Table, coef}
 use Rattle.luo_equation.specs.Equation.{Equation}
 use Rattle.luo_equation.specs.declared.equation.Left.TheVariants as left
 use Rattle.luo_system.specs.System.{system}
-use Rattle.luo_system.specs.Holding.{left_number, AllHold, IsRight}
+use Rattle.luo_system.specs.Holding.{left_number}
 use Rattle.luo_system.specs.Facts.{by_name, def, on, equation}
 
 -- 1 for each component
@@ -88,26 +88,3 @@ abbrev pub DistinctPartitionsGive : Type 0
 DistinctPartitionsGive =
     (Gives distinct_partitions of_distinct 2 2 1 × Gives distinct_partitions of_distinct 2 3 2 × Gives distinct_partitions of_distinct 2 4 2)
     × (Gives distinct_partitions of_distinct 3 2 1 × Gives distinct_partitions of_distinct 3 3 3 × Gives distinct_partitions of_distinct 3 4 3)
-
--- point = atom(1); t = point | product(t, t)
-abbrev pub pairs : Program
-pairs = record {
-  universe = Unlabelled;
-  defs = def (part 0) ∷ (def (part 1) ∷ []);
-  nodes = node (shape.Atom 1) ∷ (node (shape.Union (by_name 0 0 ∷ (part 2 ∷ []))) ∷ (node (shape.Product (by_name 1 1 ∷ (by_name 1 1 ∷ []))) ∷ []));
-  procs = [];
-  sites = [];
-  analyses = [];
-}
-
--- 1 at size 0, and then what the equation asks for: t_1 = 1 + 2 t_1 and t_2 = 2 t_2 + t_1 t_1
-abbrev pub from_one : ℕ → ℤ
-from_one zero = pos 1
-from_one (suc n) = negsuc 0
-
-abbrev pub started_at_one : Table
-started_at_one = record { x = λ i. slice_index_or (numbers (0 ∷ (1 ∷ [])) ∷ (from_one ∷ [])) i (numbers []); y = λ f. numbers [] }
-
--- without the zeros at size 0 the equations don't determine the numbers: this table keeps them up to size 2, and isn't right
-abbrev pub StartsAreNeeded : Type 0
-StartsAreNeeded = AllHold Unlabelled (system pairs) 2 started_at_one × (IsRight pairs 2 started_at_one → ⊥)

@@ -6,3 +6,4 @@ pub mod Truth
 pub mod Facts
 pub mod FactsCases
 pub mod Evaluated
+pub mod Starts

@@ -5,7 +5,8 @@ ghost use Rattle.luo_system.specs.Truth.{SystemsDescribe, RightTablesHaveRows};
 ghost use Rattle.luo_system.specs.Facts.{SystemOfTrees, SystemOfRooted};
 ghost use Rattle.luo_system.specs.FactsCases.{SystemOfCases};
 ghost use Rattle.luo_system.specs.Evaluated.{SystemOfCollections, PermutationsGive, PartitionsGive};
-ghost use Rattle.luo_system.specs.Evaluated.{DistinctPartitionsGive, StartsAreNeeded};
+ghost use Rattle.luo_system.specs.Evaluated.{DistinctPartitionsGive};
+ghost use Rattle.luo_system.specs.Starts.{PairsHoldFromOne, StartsAreNeeded};
 
 /// A sum in plain form has the coefficients of the sum.
 pub fn sums_keep_coefficients()
@@ -84,7 +85,12 @@ pub fn distinct_partitions_give()
     ensures { DistinctPartitionsGive }
 {}
 
-/// Without zeros at size 0 the equations don't determine the numbers.
+/// The equations of a founded program hold of a table that has 1 at size 0, where there is no structure.
+pub fn pairs_hold_from_one()
+    ensures { PairsHoldFromOne }
+{}
+
+/// So it isn't true that every table in which the equations hold is right.
 pub fn starts_are_needed()
     ensures { StartsAreNeeded }
 {}
