@@ -17,3 +17,4 @@ pub mod Exact
 pub mod Truth
 pub mod EvaluatedLemmas
 pub mod StartLemmas
+pub mod QuotientLemmas

@@ -1,5 +1,6 @@
-//! Laws of plain form; that the equations hold and determine the numbers; the equations of small programs.
-ghost use Rattle.luo_system.specs.Laws.{SumsKeepCoefficients, ProductsKeepCoefficients, WalksKeepCoefficients};
+//! Laws of plain form; that equations hold and determine the numbers; equations of small programs.
+ghost use Rattle.luo_system.specs.Laws.{SumsKeepCoefficients, ProductsKeepCoefficients};
+ghost use Rattle.luo_system.specs.Laws.{WalksKeepCoefficients, QuotientsRoundDown};
 ghost use Rattle.luo_system.specs.Truth.{RightTablesHold, RightTablesExist, HoldingTablesAreRight};
 ghost use Rattle.luo_system.specs.Truth.{SystemsDescribe, RightTablesHaveRows};
 ghost use Rattle.luo_system.specs.Facts.{SystemOfTrees, SystemOfRooted};
@@ -23,6 +24,11 @@ pub fn walks_keep_coefficients()
     ensures { WalksKeepCoefficients }
 {}
 
+/// Quotients in coefficients are rounded down, also those of negative numbers.
+pub fn quotients_round_down()
+    ensures { QuotientsRoundDown }
+{}
+
 /// The equations of a founded program hold of its counts and totals, at every size, and no quotient
 /// leaves a remainder.
 pub fn right_tables_hold()
@@ -34,8 +40,8 @@ pub fn right_tables_exist()
     ensures { RightTablesExist }
 {}
 
-/// Integers that keep the equations of a founded program, with 0 at size 0 wherever a definition has
-/// no structure of that size, are its counts and totals.
+/// Integers that keep the equations of a founded program, with 0 at size 0 wherever a definition
+/// has no structure of that size, are its counts and totals.
 pub fn holding_tables_are_right()
     ensures { HoldingTablesAreRight }
 {}
@@ -60,7 +66,8 @@ pub fn system_of_rooted()
     ensures { SystemOfRooted }
 {}
 
-/// The equations of a program with cases on tuples, arms that bind the whole, and a walk within bounds.
+/// The equations of a program with cases on tuples, arms that bind the whole, and a walk within
+/// bounds.
 pub fn system_of_cases()
     ensures { SystemOfCases }
 {}
@@ -80,12 +87,14 @@ pub fn partitions_give()
     ensures { PartitionsGive }
 {}
 
-/// The equations of partitions into distinct parts, a powerset, give 1, 2 and 2 with 1, 3 and 3 parts.
+/// The equations of partitions into distinct parts, a powerset, give 1, 2 and 2 partitions with 1, 3
+/// and 3 parts.
 pub fn distinct_partitions_give()
     ensures { DistinctPartitionsGive }
 {}
 
-/// The equations of a founded program hold of a table that has 1 at size 0, where there is no structure.
+/// The equations of a founded program hold of a table that has 1 at size 0, where there is no
+/// structure.
 pub fn pairs_hold_from_one()
     ensures { PairsHoldFromOne }
 {}
