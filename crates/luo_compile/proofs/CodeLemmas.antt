@@ -1,5 +1,5 @@
 -- Lists of expressions of the code, as plain data.
-use Rattle.std.proofs.Common.{◌≡◌, ℕ, zero, suc, ◌+◌, ◌<◌, ◌≤◌, List, [], ◌∷◌, ◌++◌, length, take, get_or, refl, sym, ap, ◌∙◌, arith, add-one, Option, Some, None, slice_get, Bool, true, false, ◌||◌}
+use Rattle.std.proofs.Common.{◌≡◌, ℕ, zero, suc, ◌+◌, ◌<◌, ◌≤◌, List, [], ◌∷◌, ◌++◌, length, take, get_or, refl, sym, ap, ◌∙◌, arith, add-one, Option, Some, slice_get, Bool, true, false, ◌||◌}
 use Rattle.std.proofs.lemmas.List.{take_all}
 use Rattle.luo_equation.specs.declared.equation.Expr.{Expr, Sum, Prod, Coll, Point}
 use Rattle.luo_equation.specs.Expr as made
@@ -7,7 +7,7 @@ use Rattle.luo_equation.specs.Expr.{Exprs, no_exprs, expr}
 use Rattle.luo_equation.specs.View.{expr_of, expr_list}
 use Rattle.luo_equation.proofs.ViewLemmas.{sum_view, product_view, coll_view, point_view}
 use Rattle.luo_model.specs.declared.program.Kind.{Kind}
-use Rattle.luo_system.specs.Plain.{join_exprs, terms_of, factors_of, opened, as_sum, sum_of, as_product, is_zero, has_zero, unless_zero, closed_product, product_of}
+use Rattle.luo_system.specs.Plain.{join_exprs, terms_of, factors_of, opened, as_sum, sum_of, as_product, is_zero, has_zero, unless_zero, closed_product, product_of, walk_of}
 use Rattle.luo_system.specs.System.{exprs_of}
 
 pub join_list : (xs ys : List Expr) → expr_list (xs ++ ys) ≡ join_exprs (expr_list xs) (expr_list ys)
@@ -51,6 +51,39 @@ some_factor zero h = refl
 some_factor (suc zero) h = absurd (h refl)
 some_factor (suc (suc c)) h = refl
 
+pub no_term : (c : ℕ) → c ≡ 0 → terms_of (made.Number c) ≡ no_exprs
+no_term c e = ap (λ k. terms_of (made.Number k)) e
+
+pub no_factor : (c : ℕ) → c ≡ 1 → factors_of (made.Number c) ≡ no_exprs
+no_factor c e = ap (λ k. factors_of (made.Number k)) e
+
+-- ---- a factor 0
+has_or : (b c : Bool) → b ≡ true → b || c ≡ true
+has_or b c e = ap (λ d. d || c) e
+
+pub void_at : (xs : List Expr) (i : ℕ) (x : Expr) → i < length xs → x ≡ get_or xs i x → is_zero (expr_of x) ≡ true → true ≡ has_zero (expr_list xs)
+void_at [] i x h e z = absurd (omega (arith, h))
+void_at (y ∷ xs) zero x h e z = sym (has_or (is_zero (expr_of y)) (has_zero (expr_list xs)) (sym (ap (λ g. is_zero (expr_of g)) e) ∙ z))
+void_at (y ∷ xs) (suc i) x h e z = or_has (is_zero (expr_of y)) (has_zero (expr_list xs)) (void_at xs i x (omega (arith, h)) e z)
+  where
+    or_has : (b c : Bool) → true ≡ c → true ≡ b || c
+    or_has true c e = refl
+    or_has false c e = e
+
+void-more : (xs : List Expr) (i : ℕ) (x : Expr) → i < length xs → x ≡ get_or xs i x → is_zero (expr_of x) ≡ false → has_zero (expr_list (take i xs)) ≡ false → has_zero (expr_list (take (suc i) xs)) ≡ false
+void-more [] i x h e z n = refl
+void-more (y ∷ xs) zero x h e z n = ap (λ d. d || false) (sym (ap (λ g. is_zero (expr_of g)) e) ∙ z)
+void-more (y ∷ xs) (suc i) x h e z n =
+    let both = neither (is_zero (expr_of y)) (has_zero (expr_list (take i xs))) n in
+    ap (λ d. d || has_zero (expr_list (take (suc i) xs))) both.0 ∙ void-more xs i x (omega (arith, h)) e z both.1
+  where
+    neither : (b c : Bool) → b || c ≡ false → (b ≡ false) × (c ≡ false)
+    neither true c e = absurd (cc)
+    neither false c e = (refl, e)
+
+pub void_more : (xs : List Expr) (i : ℕ) (x : Expr) → i < length xs → x ≡ get_or xs i x → is_zero (expr_of x) ≡ false → has_zero (expr_list (take i xs)) ≡ false → has_zero (expr_list (take (i + 1) xs)) ≡ false
+void_more xs i x h e z n = rw add-one (void-more xs i x h e z n)
+
 -- ---- a sum and a product of several
 pub sum_made : (xs : List Expr) → (length xs ≡ 1 → ⊥) → (xs ≡ [] → ⊥) → expr_of (Sum xs) ≡ as_sum (expr_list xs)
 sum_made [] a b = absurd (b refl)
@@ -89,6 +122,11 @@ pub exprs-behind : {X : Type 0} (g : X → made.Expr) (xs : List X) (x : X) → 
 exprs-behind g [] x = refl
 exprs-behind g (y ∷ xs) x = ap (λ l. expr (g y) l) (exprs-behind g xs x)
 
+pub read_again : {X : Type 0} (xs : List X) (i : ℕ) (d : X) → i < length xs → get_or xs i d ≡ get_or xs i (get_or xs i d)
+read_again [] i d h = absurd (omega (arith, h))
+read_again (x ∷ xs) zero d h = refl
+read_again (x ∷ xs) (suc i) d h = read_again xs i d (omega (arith, h))
+
 exprs-take : {X : Type 0} (g : X → made.Expr) (xs : List X) (i : ℕ) (x : X) → i < length xs → x ≡ get_or xs i x → exprs_of g (take (suc i) xs) ≡ join_exprs (exprs_of g (take i xs)) (expr (g x) no_exprs)
 exprs-take g [] i x h e = absurd (omega (arith, h))
 exprs-take g (y ∷ xs) zero x h e = ap (λ z. expr (g z) no_exprs) (sym e)
@@ -110,6 +148,11 @@ module _ (open' : made.Expr → Exprs) where
     pub put_next : (i : ℕ) (x : X) (e : made.Expr) (old now new : Exprs) → i < length xs → x ≡ get_or xs i x → e ≡ g x
         → new ≡ join_exprs now (open' e) → now ≡ join_exprs old (opened open' (exprs_of g (take i xs))) → new ≡ join_exprs old (opened open' (exprs_of g (take (i + 1) xs)))
     put_next i x e old now new l at same n h = rw add-one (put_behind (exprs_of g (take i xs)) e (g x) (exprs_of g (take (suc i) xs)) old now new (exprs-take g xs i x l at) same n h)
+
+    -- an element that was read with a default
+    pub put_read : (d : X) (i : ℕ) (e : made.Expr) (old now new : Exprs) → i < length xs → e ≡ g (get_or xs i d)
+        → new ≡ join_exprs now (open' e) → now ≡ join_exprs old (opened open' (exprs_of g (take i xs))) → new ≡ join_exprs old (opened open' (exprs_of g (take (i + 1) xs)))
+    put_read d i e old now new l same n h = put_next i (get_or xs i d) e old now new l (read_again xs i d l) same n h
 
     pub put_start : (es : Exprs) → es ≡ join_exprs es (opened open' (exprs_of g (take 0 xs)))
     put_start es = sym (join_none es)
@@ -136,6 +179,18 @@ module _ (kind : Kind) (inner : Expr) (low : ℕ) (high : Option ℕ) where
 
   pub point_factor : (body : Expr) → factors_of (expr_of (Point kind inner low high body)) ≡ expr (expr_of (Point kind inner low high body)) no_exprs
   point_factor body = ap factors_of (point_view kind inner low high body) ∙ ap (λ g. expr g no_exprs) (sym (point_view kind inner low high body))
+
+-- ---- walks
+module _ (kind : Kind) (inner : Expr) where
+  pub no_walk : (low : ℕ) (high : Option ℕ) (marked : Expr) → is_zero (expr_of marked) ≡ true → made.Number 0 ≡ walk_of kind (expr_of inner) low high (expr_of marked)
+  unfolding walk_of
+  no_walk low high marked z = ap (λ b. unless_zero b (made.Point kind (expr_of inner) low high (expr_of marked))) (sym z)
+
+  pub some_walk : (boxed : Expr) (low : ℕ) (high : Option ℕ) (marked other : Expr) → is_zero (expr_of marked) ≡ false → boxed ≡ inner → other ≡ marked → expr_of (Point kind boxed low high other) ≡ walk_of kind (expr_of inner) low high (expr_of marked)
+  unfolding walk_of
+  some_walk boxed low high marked other z b o =
+      point_view kind boxed low high other ∙ ap (λ e. made.Point kind (expr_of e) low high (expr_of other)) b ∙ ap (λ e. made.Point kind (expr_of inner) low high (expr_of e)) o
+      ∙ ap (λ c. unless_zero c (made.Point kind (expr_of inner) low high (expr_of marked))) (sym z)
 
 -- ---- the ends of loops
 pub sum_done : (es terms : Exprs) (e : made.Expr) → terms ≡ opened terms_of es → e ≡ as_sum terms → e ≡ sum_of es

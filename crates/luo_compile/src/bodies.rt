@@ -7,12 +7,13 @@ ghost use Rattle.luo_equation.specs.View.{expr_of, expr_list};
 ghost use Rattle.luo_system.specs.Plain.{sum_of};
 ghost use Rattle.luo_system.specs.System.{own_expr, body_expr, term_expr, item_expr, item_var, case_expr, arm_expr, walk_body_expr, stands_at};
 
-use crate::parts::{add_others, add_parts, factors_at, part_at, part_of};
-use crate::plain::{add_factor, add_term, is_nothing, product_of_factors, sum_of_terms};
+use crate::parts::{add_others, add_parts, factors_at, part_at, part_of, shape_at};
+use crate::plain::{add_factor, add_term, product_of_factors, sum_of_terms, walk_over};
 use luo_equation::Expr;
 use luo_model::{Arm, Bind, Body, Item, Part, Program, Shape};
-use luo_num::{Boxed, Items, NoMemory};
+use luo_num::{Items, NoMemory};
 use std::alloc::Global;
+use std::slice;
 
 // What a scope charges itself, over what stands for the scope.
 fn own(alloc: Global, program: &Program, own: u128, whole: &[Part]) -> Result<Expr, NoMemory>
@@ -91,12 +92,9 @@ fn item_descriptor(
 fn stands<'p>(program: &'p Program, on: &'p Part) -> &'p [Part]
     ensures { result.now ≡ stands_at (plain_of program.now) on.now }
 {
-    let Some(node) = program.nodes.get(on.node) else {
-        return &[];
-    };
-    match &node.shape {
-        Shape::Union { parts } => parts.as_slice(),
-        Shape::Product { .. } => std::slice::from_ref(on),
+    match shape_at(program, on.node) {
+        Some(Shape::Union { parts }) => parts.as_slice(),
+        Some(Shape::Product { .. }) => slice::from_ref(on),
         _ => &[],
     }
 }
@@ -108,9 +106,9 @@ fn case(alloc: Global, program: &Program, on: Part, arms: &[Arm]) -> Result<Expr
         ≡ case_expr (plain_of program.now) on (arm_list arms.now)) }
 {
     let mut terms = Items::new(alloc);
-    let stands = stands(program, &on);
+    let standing = stands(program, &on);
     for (i, arm) in arms.iter().enumerate() {
-        if let Some(stand) = stands.get(i) {
+        if let Some(stand) = standing.get(i) {
             add_term(&mut terms, arm_descriptor(alloc, program, *stand, arm)?)?;
         }
     }
@@ -145,29 +143,19 @@ fn walk(alloc: Global, program: &Program, on: Part, inside: &Body) -> Result<Exp
     ensures { IfOk result (λ e. expr_of e
         ≡ walk_body_expr (plain_of program.now) on (body_of inside.now)) }
 {
-    let Some(node) = program.nodes.get(on.node) else {
-        return Ok(Expr::Number(0));
-    };
-    match &node.shape {
-        Shape::Coll {
-            kind,
-            part,
-            low,
-            high,
-        } => {
+    match shape_at(program, on.node) {
+        Some(
+            Shape::Coll {
+                kind,
+                part,
+                low,
+                high,
+            },
+        ) => {
             let one = [*part];
             let marked = body_descriptor(alloc, program, &one, &one, inside)?;
-            if is_nothing(&marked) {
-                return Ok(Expr::Number(0));
-            }
-            let inner = part_of(alloc, program, *part)?;
-            Ok(Expr::Point {
-                kind: *kind,
-                inner: Boxed::new(alloc, inner)?,
-                low: *low,
-                high: *high,
-                body: Boxed::new(alloc, marked)?,
-            })
+            let inner = part_of(alloc, program, part)?;
+            walk_over(alloc, *kind, inner, *low, *high, marked)
         }
         _ => Ok(Expr::Number(0)),
     }

@@ -1,16 +1,28 @@
 // The expressions of nodes and parts.
-ghost use Rattle.std.specs.Prelude.{◌≡◌, IfOk, OnOk, length};
+ghost use Rattle.std.specs.Prelude.{◌≡◌, IfOk, OnOk, IfSome, IfNone, [], length};
+ghost use Rattle.luo_model.specs.declared.program.Shape.TheVariants.{Union};
 ghost use Rattle.luo_model.specs.View.{plain_of};
 ghost use Rattle.luo_model.specs.Program.{shape_of};
 ghost use Rattle.luo_equation.specs.View.{expr_of, expr_list};
 ghost use Rattle.luo_system.specs.Plain.{join_exprs, all_factors, sum_of, product_of};
 ghost use Rattle.luo_system.specs.System.{atom_expr, exprs_of, node_expr, inside_expr, part_expr, factors_in, stands_for, part_at, others};
 
-use crate::plain::{add_factor, add_term, product_of_factors, sum_of_terms};
+use crate::plain::{add_factor, add_term, collection, product_of_factors, sum_of_terms};
 use luo_equation::Expr;
 use luo_model::{Part, Program, Shape};
-use luo_num::{Boxed, Items, NoMemory};
+use luo_num::{Items, NoMemory};
 use std::alloc::Global;
+
+/// The construct of a node, where there is such a node.
+pub(crate) fn shape_at(program: &Program, x: usize) -> Option<&Shape>
+    ensures some { IfSome result (λ shape. shape_of (plain_of program.now) x ≡ shape.now) }
+    ensures none { IfNone result (shape_of (plain_of program.now) x ≡ Union []) }
+{
+    match program.nodes.get(x) {
+        Some(node) => Some(&node.shape),
+        None => None,
+    }
+}
 
 // An atom of weight 0 is the number 1.
 fn atom(weight: u32) -> Expr
@@ -31,34 +43,29 @@ fn node(alloc: Global, program: &Program, depth: usize, x: usize) -> Result<Expr
     if depth == 0 {
         return Ok(Expr::Number(0));
     }
-    let Some(node) = program.nodes.get(x) else {
-        return Ok(Expr::Number(0));
-    };
-    match &node.shape {
-        Shape::Atom { weight } => Ok(atom(*weight)),
-        Shape::Union { parts } => union(alloc, program, depth - 1, parts.as_slice()),
-        Shape::Product { parts } => product(alloc, program, depth - 1, parts.as_slice()),
-        Shape::Coll {
-            kind,
-            part,
-            low,
-            high,
-        } => {
-            let inner = inside(alloc, program, depth - 1, *part)?;
-            Ok(Expr::Coll {
-                kind: *kind,
-                inner: Boxed::new(alloc, inner)?,
-                low: *low,
-                high: *high,
-            })
+    match shape_at(program, x) {
+        Some(Shape::Atom { weight }) => Ok(atom(*weight)),
+        Some(Shape::Union { parts }) => union(alloc, program, depth - 1, parts.as_slice()),
+        Some(Shape::Product { parts }) => product(alloc, program, depth - 1, parts.as_slice()),
+        Some(
+            Shape::Coll {
+                kind,
+                part,
+                low,
+                high,
+            },
+        ) => {
+            let inner = inside(alloc, program, depth - 1, part)?;
+            collection(alloc, *kind, inner, *low, *high)
         }
+        None => Ok(Expr::Number(0)),
     }
 }
 
 // A part: a name where a name stands, else the construct.
 #[cycle(nodes)]
-fn inside(alloc: Global, program: &Program, depth: usize, part: Part) -> Result<Expr, NoMemory>
-    ensures { IfOk result (λ e. expr_of e ≡ inside_expr (plain_of program.now) depth part) }
+fn inside(alloc: Global, program: &Program, depth: usize, part: &Part) -> Result<Expr, NoMemory>
+    ensures { IfOk result (λ e. expr_of e ≡ inside_expr (plain_of program.now) depth part.now) }
 {
     match part.name {
         Some(i) => Ok(Expr::Series(i)),
@@ -74,7 +81,7 @@ fn union(alloc: Global, program: &Program, depth: usize, parts: &[Part]) -> Resu
 {
     let mut terms = Items::new(alloc);
     for part in parts {
-        add_term(&mut terms, inside(alloc, program, depth, *part)?)?;
+        add_term(&mut terms, inside(alloc, program, depth, part)?)?;
     }
     Ok(sum_of_terms(terms))
 }
@@ -87,14 +94,14 @@ fn product(alloc: Global, program: &Program, depth: usize, parts: &[Part]) -> Re
 {
     let mut factors = Items::new(alloc);
     for part in parts {
-        add_factor(&mut factors, inside(alloc, program, depth, *part)?)?;
+        add_factor(&mut factors, inside(alloc, program, depth, part)?)?;
     }
     Ok(product_of_factors(factors))
 }
 
 /// A part as it is written in the source.
-pub(crate) fn part_of(alloc: Global, program: &Program, part: Part) -> Result<Expr, NoMemory>
-    ensures { IfOk result (λ e. expr_of e ≡ part_expr (plain_of program.now) part) }
+pub(crate) fn part_of(alloc: Global, program: &Program, part: &Part) -> Result<Expr, NoMemory>
+    ensures { IfOk result (λ e. expr_of e ≡ part_expr (plain_of program.now) part.now) }
 {
     inside(alloc, program, program.nodes.as_slice().len(), part)
 }
@@ -110,7 +117,7 @@ pub(crate) fn add_parts(
         (all_factors (exprs_of (part_expr (plain_of program.now)) parts.now))) }
 {
     for part in parts {
-        add_factor(factors, part_of(alloc, program, *part)?)?;
+        add_factor(factors, part_of(alloc, program, part)?)?;
     }
     Ok(())
 }
@@ -128,7 +135,7 @@ pub(crate) fn add_others(
 {
     for (i, part) in parts.iter().enumerate() {
         if i != but {
-            add_factor(factors, part_of(alloc, program, *part)?)?;
+            add_factor(factors, part_of(alloc, program, part)?)?;
         }
     }
     Ok(())
@@ -151,11 +158,8 @@ pub(crate) fn part_at(parts: &[Part], i: usize) -> Part
 pub(crate) fn factors_at(program: &Program, x: usize) -> &[Part]
     ensures { result.now ≡ factors_in (shape_of (plain_of program.now) x) }
 {
-    let Some(node) = program.nodes.get(x) else {
-        return &[];
-    };
-    match &node.shape {
-        Shape::Product { parts } => parts.as_slice(),
+    match shape_at(program, x) {
+        Some(Shape::Product { parts }) => parts.as_slice(),
         _ => &[],
     }
 }

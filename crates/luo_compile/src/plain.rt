@@ -1,11 +1,13 @@
 // Plain form, made as sums and products are made.
-ghost use Rattle.std.specs.Prelude.{◌≡◌, OnOk};
-ghost use Rattle.luo_equation.specs.Expr.{expr, no_exprs};
+ghost use Rattle.std.specs.Prelude.{◌≡◌, OnOk, IfOk};
+ghost use Rattle.luo_equation.specs.Expr.{Coll, expr, no_exprs};
 ghost use Rattle.luo_equation.specs.View.{expr_of, expr_list};
-ghost use Rattle.luo_system.specs.Plain.{join_exprs, terms_of, factors_of, as_sum, is_zero, has_zero, closed_product};
+ghost use Rattle.luo_system.specs.Plain.{join_exprs, terms_of, factors_of, as_sum, is_zero, has_zero, closed_product, walk_of};
 
 use luo_equation::Expr;
-use luo_num::{Items, NoMemory};
+use luo_model::Kind;
+use luo_num::{Boxed, Items, NoMemory};
+use std::alloc::Global;
 
 // Puts one expression behind a list.
 fn push(list: &mut Items<Expr>, e: Expr) -> Result<(), NoMemory>
@@ -176,4 +178,46 @@ pub(crate) fn product_of_factors(factors: Items<Expr>) -> Expr
         return Expr::Number(1);
     }
     Expr::Prod(left)
+}
+
+/// The collections of components.
+pub(crate) fn collection(
+    alloc: Global,
+    kind: Kind,
+    inner: Expr,
+    low: u32,
+    high: Option<u32>,
+) -> Result<Expr, NoMemory>
+    ensures { IfOk result (λ e. expr_of e ≡ Coll kind (expr_of inner) low high) }
+{
+    Ok(Expr::Coll {
+        kind,
+        inner: Boxed::new(alloc, inner)?,
+        low,
+        high,
+    })
+}
+
+/// A walk with this body over the collections of components, in plain form.
+pub(crate) fn walk_over(
+    alloc: Global,
+    kind: Kind,
+    inner: Expr,
+    low: u32,
+    high: Option<u32>,
+    marked: Expr,
+) -> Result<Expr, NoMemory>
+    ensures { IfOk result (λ e. expr_of e
+        ≡ walk_of kind (expr_of inner) low high (expr_of marked)) }
+{
+    if is_nothing(&marked) {
+        return Ok(Expr::Number(0));
+    }
+    Ok(Expr::Point {
+        kind,
+        inner: Boxed::new(alloc, inner)?,
+        low,
+        high,
+        body: Boxed::new(alloc, marked)?,
+    })
 }

@@ -24,7 +24,7 @@ fn put_definitions(
     for (i, def) in program.defs.as_slice().iter().enumerate() {
         equations.push(Equation {
             left: Left::Series(i),
-            right: part_of(alloc, program, def.whole)?,
+            right: part_of(alloc, program, &def.whole)?,
         })?;
     }
     Ok(())

@@ -1,8 +1,8 @@
-use Rattle.std.proofs.Common.{ap}
-use Rattle.luo_equation.specs.declared.equation.Expr.{Sum, Prod, Coll, Point}
+use Rattle.std.proofs.Common.{ap, refl, arith}
+use Rattle.luo_equation.specs.declared.equation.Expr.{Number, Sum, Prod}
 use Rattle.luo_equation.proofs.ViewLemmas.{product_view}
 use Rattle.luo_system.specs.Plain.{factors_of}
-use Rattle.luo_compile.proofs.CodeLemmas.{one_put, all_put, sum_factor, coll_factor, point_factor}
+use Rattle.luo_compile.proofs.CodeLemmas.{one_put, all_put, none_put, no_factor, sum_factor, coll_factor, point_factor}
 use Rattle.luo_compile.proofs.plain.add_factor.Goals as goal
 
 pub returns-in_ok-append-in-Prod : goal.returns-in_ok-append-in-Prod
@@ -16,3 +16,6 @@ returns-in_ok-push-in-Coll c = one_put factors_of _ _ _ _ c.in-Coll.is (coll_fac
 
 pub returns-in_ok-push-in-Point : goal.returns-in_ok-push-in-Point
 returns-in_ok-push-in-Point c = one_put factors_of _ _ _ _ c.in-Point.is (point_factor c.in-Point.kind c.in-Point.inner c.in-Point.low c.in-Point.high c.in-Point.body) c.in_ok-push-in-Point.ensures
+
+pub returns-else-number-ne1 : goal.returns-else-number-ne1
+returns-else-number-ne1 c = none_put factors_of _ _ _ (Number c.in-Number.number) c.in-Number.is (no_factor c.in-Number.number (let t = c.if-number-ne1.false in omega (arith, t))) refl

@@ -1,8 +1,8 @@
-use Rattle.std.proofs.Common.{ap}
-use Rattle.luo_equation.specs.declared.equation.Expr.{Sum, Prod, Coll, Point}
+use Rattle.std.proofs.Common.{ap, refl, arith}
+use Rattle.luo_equation.specs.declared.equation.Expr.{Number, Sum, Prod}
 use Rattle.luo_equation.proofs.ViewLemmas.{sum_view}
 use Rattle.luo_system.specs.Plain.{terms_of}
-use Rattle.luo_compile.proofs.CodeLemmas.{one_put, all_put, product_term, coll_term, point_term}
+use Rattle.luo_compile.proofs.CodeLemmas.{one_put, all_put, none_put, no_term, product_term, coll_term, point_term}
 use Rattle.luo_compile.proofs.plain.add_term.Goals as goal
 
 pub returns-in_ok-append-in-Sum : goal.returns-in_ok-append-in-Sum
@@ -16,3 +16,6 @@ returns-in_ok-push-in-Coll c = one_put terms_of _ _ _ _ c.in-Coll.is (coll_term 
 
 pub returns-in_ok-push-in-Point : goal.returns-in_ok-push-in-Point
 returns-in_ok-push-in-Point c = one_put terms_of _ _ _ _ c.in-Point.is (point_term c.in-Point.kind c.in-Point.inner c.in-Point.low c.in-Point.high c.in-Point.body) c.in_ok-push-in-Point.ensures
+
+pub returns-else-number-ne0 : goal.returns-else-number-ne0
+returns-else-number-ne0 c = none_put terms_of _ _ _ (Number c.in-Number.number) c.in-Number.is (no_term c.in-Number.number (let t = c.if-number-ne0.false in omega (arith, t))) refl
