@@ -1,0 +1,5 @@
+pub mod Written
+pub mod Nesting
+pub mod Reading
+pub mod Laws
+pub mod inner

@@ -1,0 +1,9 @@
+//! What holds of all texts of structures. Nothing is computed here.
+
+ghost use Rattle.luo_read.specs.Laws.{OneStructure};
+
+/// A text within the limit is the text of at most one structure of a node, though it doesn't say what a labelled atom
+/// weighs.
+pub fn one_structure()
+    ensures { OneStructure }
+{}
