@@ -6,7 +6,8 @@ use Rattle.luo_model.specs.declared.program.Def.{Def}
 use Rattle.luo_model.specs.Tree.{Tree}
 use Rattle.luo_model.specs.Program.{Program, Procedure}
 use Rattle.luo_model.specs.Structures.{IsStructure}
-use Rattle.luo_model.specs.Tables.{IsCount, IsTotal}
+use Rattle.luo_model.specs.declared.table.Row.{Row}
+use Rattle.luo_model.specs.Tables.{IsCount, IsTotal, IsRow}
 use Rattle.luo_equation.specs.Expr.{Table, coef, IsExact}
 use Rattle.luo_equation.specs.Equation.{Equation}
 use Rattle.luo_equation.specs.declared.equation.Left.{Left}
@@ -52,3 +53,20 @@ pub record Describe (p : Program) (es : List Equation) : Type 0 where
   pub exist : HasTable p
   pub hold : AreTrue p es
   pub determine : Determine p es
+
+-- a table has this row of procedure f: its total, and its count where the parameter has the node of a definition
+abbrev pub HasRow : Program → Table → ℕ → Row → Type 0
+HasRow p t f row = (t.y f row.n ≡ pos row.total)
+    × ((i : ℕ) (d : Def) (P : Procedure) → slice_get p.defs i ≡ Some d → slice_get p.procs f ≡ Some P → d.whole.node ≡ P.on.node → t.x i row.n ≡ pos row.count)
+
+-- two tables have the same numbers up to N
+pub record Agree (p : Program) (N : ℕ) (t v : Table) : Type 0 where
+  pub counts : (i : ℕ) (d : Def) → slice_get p.defs i ≡ Some d → (n : ℕ) → n ≤ N → t.x i n ≡ v.x i n
+  pub totals : (f : ℕ) (P : Procedure) → slice_get p.procs f ≡ Some P → (n : ℕ) → n ≤ N → t.y f n ≡ v.y f n
+
+-- the one table of these equations: they hold of it at every size, it has all rows of all procedures, and a table of integers of which
+-- the sides agree, and which starts with zeros, agrees with it
+pub record IsTableOf (p : Program) (es : List Equation) (t : Table) : Type 0 where
+  pub holds : (N : ℕ) → AllHold p.universe es N t
+  pub rows : (f : ℕ) (row : Row) → IsRow p f row → HasRow p t f row
+  pub only : (N : ℕ) (v : Table) → SidesAgree p.universe es N v → ZeroStart p v → Agree p N v t
