@@ -108,8 +108,8 @@ module _ (u : Universe) (t : Table) where
       (bool_or (has_zero (all_factors es)))
 
   -- THE LAW of walks
-  pub coef-walk : (kind : Kind) (inner : Expr) (low : ℕ) (high : Option ℕ) (body : Expr) (n : ℕ)
-      → coef u t (walk_of kind inner low high body) n ≡ point u kind (coef u t inner) (coef u t body) low high n
+  pub coef-walk : (kind : Kind) (inner : Expr) (low : ℕ) (high : Option ℕ) (body : Expr) (n : ℕ) → coef u t (walk_of kind inner low high body) n ≡ point u kind (coef u t inner)
+      (coef u t body) low high n
   unfolding walk_of
   coef-walk kind inner low high body n = ⊎_elim
       (λ y. ap (λ b. coef u t (unless_zero b (Point kind inner low high body)) n) y

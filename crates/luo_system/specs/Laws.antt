@@ -1,8 +1,8 @@
--- Plain form keeps coefficients.
-use Rattle.std.specs.Prelude.{◌≡◌, ℕ, Option}
+-- Plain form keeps coefficients; quotients in coefficients are rounded down.
+use Rattle.std.specs.Prelude.{◌≡◌, ℕ, suc, ◌<◌, Option, ℤ, pos, ◌+ℤ◌, ◌*ℤ◌}
 use Rattle.luo_model.specs.declared.program.Universe.{Universe}
 use Rattle.luo_model.specs.declared.program.Kind.{Kind}
-use Rattle.luo_equation.specs.Series.{point}
+use Rattle.luo_equation.specs.Series.{floor, point}
 use Rattle.luo_equation.specs.Expr.{Expr, Exprs, Table, coef, sum_of_coefs, product_of_coefs}
 use Rattle.luo_system.specs.Plain.{sum_of, product_of, walk_of}
 
@@ -18,3 +18,7 @@ ProductsKeepCoefficients = (u : Universe) (t : Table) (es : Exprs) (n : ℕ) →
 abbrev pub WalksKeepCoefficients : Type 0
 WalksKeepCoefficients = (u : Universe) (t : Table) (kind : Kind) (inner : Expr) (low : ℕ) (high : Option ℕ) (body : Expr) (n : ℕ)
     → coef u t (walk_of kind inner low high body) n ≡ point u kind (coef u t inner) (coef u t body) low high n
+
+-- a quotient by k + 1 leaves a remainder from 0 to k, also where the dividend is negative
+abbrev pub QuotientsRoundDown : Type 0
+QuotientsRoundDown = (z : ℤ) (k : ℕ) → (r : ℕ) × (r < suc k) × (z ≡ pos (suc k) *ℤ floor z (suc k) +ℤ pos r)

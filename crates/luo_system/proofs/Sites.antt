@@ -1,0 +1,122 @@
+-- The sites of a program stand apart, and those of wholes have their nodes.
+use Rattle.std.proofs.Common.{◌≡◌, ℕ, zero, suc, ◌+◌, ◌≤◌, refl, sym, ◌∙◌, ap, arith, subst, Some, inl, inr, List, [], ◌∷◌, ◌++◌, map, slice_get, flat_map}
+use Rattle.std.proofs.lemmas.Option.{get_or_from_slice_get}
+use Rattle.std.proofs.lemmas.List.Concat.{flat_map-cons}
+use Rattle.luo_finite.specs.Listing.{In, NoDouble}
+use Rattle.luo_finite.proofs.Membership.{In-append_left, In-append_right}
+use Rattle.luo_model.specs.declared.program.Site.{Site}
+use Rattle.luo_model.specs.Program.{Program, Procedure, Body, Does, Items, no_items, item, Item, Call, Case, Forall, Arms, no_arms, arm, shape_of, site_node}
+use Rattle.luo_model.specs.Charges.{of_body, of_case, of_walk, works_of_body, works_of_items, works_of_item, works_of_arms, works_of_procedure}
+use Rattle.luo_model.specs.Scopes.{Stand, stands, component, bound_nodes, node_at, FitsBody, FitsItems, FitsItem, FitsArms, body_sites, items_sites, item_sites, arms_sites}
+use Rattle.luo_model.specs.Invariant.{IsProgram, procedure_sites, placed, sites_from, numbered_from}
+use Rattle.luo_model.specs.Laws.{SitesAreApart}
+use Rattle.luo_finite.proofs.Places.{some_same, none_some}
+
+abbrev firsts : {B : Type 0} → List (ℕ × B) → List ℕ
+firsts l = map (λ w. w.0) l
+
+firsts-append : {B : Type 0} (xs ys : List (ℕ × B)) → firsts (xs ++ ys) ≡ firsts xs ++ firsts ys
+firsts-append [] ys = refl
+firsts-append (x ∷ xs) ys = ap (λ l. x.0 ∷ l) (firsts-append xs ys)
+
+node_at_get : (vars : List ℕ) (var x : ℕ) → slice_get vars var ≡ Some x → node_at vars var ≡ x
+node_at_get vars var x e = get_or_from_slice_get vars var x 0 e
+
+module _ (p : Program) where
+  mutual
+    body_firsts : (body : Body) (vars : List ℕ) → FitsBody p vars body → firsts (works_of_body body) ≡ firsts (body_sites p vars body)
+    body_firsts (Does own is) vars w = items_firsts is vars w.1
+
+    items_firsts : (is : Items) (vars : List ℕ) → FitsItems p vars is → firsts (works_of_items is) ≡ firsts (items_sites p vars is)
+    items_firsts no_items vars w = refl
+    items_firsts (item i is) vars w =
+        firsts-append (works_of_item i) (works_of_items is)
+        ∙ ap (λ l. l ++ firsts (works_of_items is)) (item_firsts i vars w.0) ∙ ap (λ l. firsts (item_sites p vars i) ++ l) (items_firsts is vars w.1)
+        ∙ sym (firsts-append (item_sites p vars i) (items_sites p vars is))
+
+    item_firsts : (i : Item) (vars : List ℕ) → FitsItem p vars i → firsts (works_of_item i) ≡ firsts (item_sites p vars i)
+    item_firsts (Call var callee site) vars w = refl
+    item_firsts (Case var arms site) vars w =
+        let x : ℕ = node_at vars var in
+        let fit : FitsArms p (stands x (shape_of p x)) arms = subst (λ y. FitsArms p (stands y (shape_of p y)) arms) (sym (node_at_get vars var w.0 w.1)) w.3 in
+        firsts-append (works_of_arms arms) ((site, of_case arms) ∷ [])
+        ∙ ap (λ l. l ++ site ∷ []) (arms_firsts arms (stands x (shape_of p x)) fit)
+        ∙ sym (firsts-append (arms_sites p (stands x (shape_of p x)) arms) ((site, x) ∷ []))
+    item_firsts (Forall var body body_site site) vars w =
+        let x : ℕ = node_at vars var in
+        let c : ℕ = component (shape_of p x) in
+        let fit : FitsBody p (c ∷ []) body = subst (λ y. FitsBody p (component (shape_of p y) ∷ []) body) (sym (node_at_get vars var w.0 w.1)) w.3 in
+        firsts-append (works_of_body body) ((body_site, of_body body) ∷ ((site, of_walk body) ∷ []))
+        ∙ ap (λ l. l ++ body_site ∷ (site ∷ [])) (body_firsts body (c ∷ []) fit)
+        ∙ sym (firsts-append (body_sites p (c ∷ []) body) ((body_site, c) ∷ ((site, x) ∷ [])))
+
+    arms_firsts : (arms : Arms) (ss : List Stand) → FitsArms p ss arms → firsts (works_of_arms arms) ≡ firsts (arms_sites p ss arms)
+    arms_firsts no_arms [] w = refl
+    arms_firsts no_arms (s ∷ ss) w = refl
+    arms_firsts (arm bind body arms) [] w = absurd w
+    arms_firsts (arm bind body arms) (s ∷ ss) w =
+        firsts-append (works_of_body body) (works_of_arms arms)
+        ∙ ap (λ l. l ++ firsts (works_of_arms arms)) (body_firsts body (bound_nodes p s bind) w.1) ∙ ap (λ l. firsts (body_sites p (bound_nodes p s bind) body) ++ l) (arms_firsts arms ss w.2)
+        ∙ sym (firsts-append (body_sites p (bound_nodes p s bind) body) (arms_sites p ss arms))
+
+  procedure_firsts : (P : Procedure) → FitsBody p (P.on.node ∷ []) P.body → firsts (works_of_procedure P) ≡ firsts (procedure_sites p P)
+  procedure_firsts P w =
+      firsts-append (works_of_body P.body) ((P.site, of_body P.body) ∷ [])
+      ∙ ap (λ l. l ++ P.site ∷ []) (body_firsts P.body (P.on.node ∷ []) w)
+      ∙ sym (firsts-append (body_sites p (P.on.node ∷ []) P.body) ((P.site, P.on.node) ∷ []))
+
+  placed_firsts : (caller place : ℕ) (l : List (ℕ × ℕ)) → firsts (placed caller place l) ≡ firsts l
+  placed_firsts caller place [] = refl
+  placed_firsts caller place (x ∷ l) = ap (λ m. x.0 ∷ m) (placed_firsts caller (place + 1) l)
+
+  all_firsts : (Ps : List Procedure) (k : ℕ) → ((j : ℕ) (P : Procedure) → slice_get Ps j ≡ Some P → FitsBody p (P.on.node ∷ []) P.body) → firsts (flat_map works_of_procedure Ps) ≡ firsts
+      (sites_from p k Ps)
+  all_firsts [] k h = refl
+  all_firsts (P ∷ Ps) k h =
+      ap firsts (flat_map-cons works_of_procedure P Ps) ∙ firsts-append (works_of_procedure P) (flat_map works_of_procedure Ps)
+      ∙ ap (λ l. l ++ firsts (flat_map works_of_procedure Ps)) (procedure_firsts P (h 0 P refl) ∙ sym (placed_firsts k 0 (procedure_sites p P)))
+      ∙ ap (λ l. firsts (placed k 0 (procedure_sites p P)) ++ l) (all_firsts Ps (k + 1) (λ j Q e. h (suc j) Q e))
+      ∙ sym (firsts-append (placed k 0 (procedure_sites p P)) (sites_from p (k + 1) Ps))
+
+numbered_above : (k : ℕ) (l : List Site) (x : ℕ) → In x (firsts (numbered_from k l)) → k ≤ x
+numbered_above k [] x i = absurd i
+numbered_above k (s ∷ l) x (inl e) = omega (arith, e)
+numbered_above k (s ∷ l) x (inr i) = let h : k + 1 ≤ x = numbered_above (k + 1) l x i in omega (arith, h)
+
+numbered_apart : (k : ℕ) (l : List Site) → NoDouble (firsts (numbered_from k l))
+numbered_apart k [] = tt
+numbered_apart k (s ∷ l) = ((λ i. let h : k + 1 ≤ k = numbered_above (k + 1) l k i in omega (arith, h)), numbered_apart (k + 1) l)
+
+numbered_get : (k : ℕ) (l : List Site) (x : ℕ) (s : Site) → In (x, s) (numbered_from k l) → (j : ℕ) × (x ≡ k + j) × (slice_get l j ≡ Some s)
+numbered_get k [] x s i = absurd i
+numbered_get k (y ∷ l) x s (inl e) = (0, ap (λ w. w.0) e ∙ (let z : k ≡ k + 0 = omega arith in z), ap Some (sym (ap (λ w. w.1) e)))
+numbered_get k (y ∷ l) x s (inr i) = let r = numbered_get (k + 1) l x s i in (suc r.0, omega (arith, r.1), r.2)
+
+placed_in : (caller place : ℕ) (l : List (ℕ × ℕ)) (x y : ℕ) → In (x, y) l → (k : ℕ) × In (x, record { node = y; caller = caller; place = k }) (placed caller place l)
+placed_in caller place [] x y i = absurd i
+placed_in caller place (w ∷ l) x y (inl e) = (place, inl (λ i. ((e i).0, record { node = (e i).1; caller = caller; place = place })))
+placed_in caller place (w ∷ l) x y (inr i) = let r = placed_in caller (place + 1) l x y i in (r.0, inr r.1)
+
+site_in : (p : Program) (Ps : List Procedure) (k g : ℕ) (P : Procedure) → slice_get Ps g ≡ Some P → (s : Site) × In (P.site, s) (sites_from p k Ps) × (s.node ≡ P.on.node)
+site_in p [] k g P e = absurd (none_some P e)
+site_in p (Q ∷ Ps) k zero P e =
+    let same : Q ≡ P = some_same Q P e in
+    let r = placed_in k 0 (procedure_sites p Q) Q.site Q.on.node (In-append_right (Q.site, Q.on.node) (body_sites p (Q.on.node ∷ []) Q.body) ((Q.site, Q.on.node) ∷ []) (inl refl)) in
+    let s : Site = record { node = Q.on.node; caller = k; place = r.0 } in (
+      s,
+      subst (λ (R : Procedure). In (R.site, s) (sites_from p k (Q ∷ Ps))) same (In-append_left (Q.site, s) (placed k 0 (procedure_sites p Q)) (sites_from p (k + 1) Ps) r.1),
+      ap
+          (λ (R : Procedure). R.on.node) same,
+    )
+site_in p (Q ∷ Ps) k (suc g) P e = let r = site_in p Ps (k + 1) g P e in (r.0, In-append_right (P.site, r.0) (placed k 0 (procedure_sites p Q)) (sites_from p (k + 1) Ps) r.1, r.2)
+
+-- THE LAWS
+pub sites_apart : (p : Program) → IsProgram p → SitesAreApart p
+sites_apart p q = subst NoDouble (sym (all_firsts p p.procs 0 (λ g P e. (q.procedures g P e).1) ∙ ap firsts q.sites)) (numbered_apart 0 p.sites)
+
+pub whole_site : (p : Program) → IsProgram p → (g : ℕ) (P : Procedure) → slice_get p.procs g ≡ Some P → site_node p P.site ≡ P.on.node
+whole_site p q g P e =
+    let r = site_in p p.procs 0 g P e in
+    let n = numbered_get 0 p.sites P.site r.0 (subst (In (P.site, r.0)) q.sites r.1) in
+    let at : slice_get p.sites P.site ≡ Some r.0 = subst (λ j. slice_get p.sites j ≡ Some r.0) (let z : n.0 ≡ P.site = omega (arith, n.1) in z) n.2 in
+    ap (λ (s : Site). s.node) (get_or_from_slice_get p.sites P.site r.0 (record { node = 0; caller = 0; place = 0 }) at) ∙ r.2

@@ -1,0 +1,54 @@
+-- Tables: which are right, and of which equations hold.
+use Rattle.std.specs.Prelude.{◌≡◌, ℕ, ◌≤◌, List, slice_get, Some, ℤ, pos}
+use Rattle.luo_finite.specs.Listing.{In}
+use Rattle.luo_model.specs.declared.program.Universe.{Universe}
+use Rattle.luo_model.specs.declared.program.Def.{Def}
+use Rattle.luo_model.specs.Tree.{Tree}
+use Rattle.luo_model.specs.Program.{Program, Procedure}
+use Rattle.luo_model.specs.Structures.{IsStructure}
+use Rattle.luo_model.specs.Tables.{IsCount, IsTotal}
+use Rattle.luo_equation.specs.Expr.{Table, coef, IsExact}
+use Rattle.luo_equation.specs.Equation.{Equation}
+use Rattle.luo_equation.specs.declared.equation.Left.{Left}
+use Rattle.luo_equation.specs.declared.equation.Left.TheVariants as left
+
+-- the number at size n of what an equation defines
+abbrev pub left_number : Table → Left → ℕ → ℤ
+left_number t (left.Series i) n = t.x i n
+left_number t (left.Tau f) n = t.y f n
+
+-- both sides of each of these equations have equal coefficients at each size up to N
+abbrev pub SidesAgree : Universe → List Equation → ℕ → Table → Type 0
+SidesAgree u es N t = (e : Equation) → In e es → (n : ℕ) → n ≤ N → left_number t e.left n ≡ coef u t e.right n
+
+-- these equations hold up to N: their sides agree, and no quotient leaves a remainder
+abbrev pub AllHold : Universe → List Equation → ℕ → Table → Type 0
+AllHold u es N t = (e : Equation) → In e es → (n : ℕ) → n ≤ N → (left_number t e.left n ≡ coef u t e.right n) × IsExact u t e.right n
+
+-- a right table up to N: its numbers are the counts of the definitions' nodes and the totals of the procedures' wholes
+pub record IsRight (p : Program) (N : ℕ) (t : Table) : Type 0 where
+  pub counts : (i : ℕ) (d : Def) → slice_get p.defs i ≡ Some d → (n : ℕ) → n ≤ N → (c : ℕ) × IsCount p d.whole.node n c × (t.x i n ≡ pos c)
+  pub totals : (f : ℕ) (P : Procedure) → slice_get p.procs f ≡ Some P → (n : ℕ) → n ≤ N → (c : ℕ) × IsTotal p P.site n c × (t.y f n ≡ pos c)
+
+-- where a definition's node has no structure of size 0, its number at size 0 is 0
+abbrev pub ZeroStart : Program → Table → Type 0
+ZeroStart p t = (i : ℕ) (d : Def) → slice_get p.defs i ≡ Some d → ((s : Tree) → IsStructure p d.whole.node 0 s → ⊥) → t.x i 0 ≡ pos 0
+
+-- these equations are true of a program: they hold of every right table, at every size
+abbrev pub AreTrue : Program → List Equation → Type 0
+AreTrue p es = (N : ℕ) (t : Table) → IsRight p N t → AllHold p.universe es N t
+
+-- they determine its numbers: a table of integers of which the sides agree, and which starts with zeros, is right
+abbrev pub Determine : Program → List Equation → Type 0
+Determine p es = (N : ℕ) (t : Table) → SidesAgree p.universe es N t → ZeroStart p t → IsRight p N t
+
+-- there is a table that is right at every size
+abbrev pub HasTable : Program → Type 0
+HasTable p = (t : Table) × ((N : ℕ) → IsRight p N t)
+
+-- the three together: these equations hold of the counts and totals of the program, at every size, and of no other numbers that start
+-- with zeros
+pub record Describe (p : Program) (es : List Equation) : Type 0 where
+  pub exist : HasTable p
+  pub hold : AreTrue p es
+  pub determine : Determine p es
