@@ -31,7 +31,8 @@ appended xs more new n = ap expr_list n ∙ join_list xs more
 
 module _ (open' : made.Expr → Exprs) (old new : List Expr) (e : Expr) where
   -- an expression that stays as it is
-  pub one_put : (f : Expr) → e ≡ f → open' (expr_of f) ≡ expr (expr_of f) no_exprs → expr_list new ≡ join_exprs (expr_list old) (expr (expr_of f) no_exprs) → expr_list new ≡ join_exprs (expr_list old) (open' (expr_of e))
+  pub one_put : (f : Expr) → e ≡ f → open' (expr_of f) ≡ expr (expr_of f) no_exprs → expr_list new ≡ join_exprs (expr_list old) (expr (expr_of f) no_exprs)
+      → expr_list new ≡ join_exprs (expr_list old) (open' (expr_of e))
   one_put f is stays n = n ∙ ap (λ l. join_exprs (expr_list old) l) (sym stays ∙ ap (λ g. open' (expr_of g)) (sym is))
 
   -- one that is left out
@@ -39,7 +40,8 @@ module _ (open' : made.Expr → Exprs) (old new : List Expr) (e : Expr) where
   none_put f is goes n = ap expr_list n ∙ sym (join_none (expr_list old)) ∙ ap (λ l. join_exprs (expr_list old) l) (sym goes ∙ ap (λ g. open' (expr_of g)) (sym is))
 
   -- one that is opened
-  pub all_put : (f : Expr) (more : List Expr) → e ≡ f → open' (expr_of f) ≡ expr_list more → expr_list new ≡ join_exprs (expr_list old) (expr_list more) → expr_list new ≡ join_exprs (expr_list old) (open' (expr_of e))
+  pub all_put : (f : Expr) (more : List Expr) → e ≡ f → open' (expr_of f) ≡ expr_list more → expr_list new ≡ join_exprs (expr_list old) (expr_list more)
+      → expr_list new ≡ join_exprs (expr_list old) (open' (expr_of e))
   all_put f more is opens n = n ∙ ap (λ l. join_exprs (expr_list old) l) (sym opens ∙ ap (λ g. open' (expr_of g)) (sym is))
 
 pub some_term : (c : ℕ) → (c ≡ 0 → ⊥) → terms_of (made.Number c) ≡ expr (made.Number c) no_exprs
@@ -70,7 +72,8 @@ void_at (y ∷ xs) (suc i) x h e z = or_has (is_zero (expr_of y)) (has_zero (exp
     or_has true c e = refl
     or_has false c e = e
 
-void-more : (xs : List Expr) (i : ℕ) (x : Expr) → i < length xs → x ≡ get_or xs i x → is_zero (expr_of x) ≡ false → has_zero (expr_list (take i xs)) ≡ false → has_zero (expr_list (take (suc i) xs)) ≡ false
+void-more : (xs : List Expr) (i : ℕ) (x : Expr) → i < length xs → x ≡ get_or xs i x → is_zero (expr_of x) ≡ false → has_zero (expr_list (take i xs)) ≡ false
+    → has_zero (expr_list (take (suc i) xs)) ≡ false
 void-more [] i x h e z n = refl
 void-more (y ∷ xs) zero x h e z n = ap (λ d. d || false) (sym (ap (λ g. is_zero (expr_of g)) e) ∙ z)
 void-more (y ∷ xs) (suc i) x h e z n =
@@ -81,7 +84,8 @@ void-more (y ∷ xs) (suc i) x h e z n =
     neither true c e = absurd (cc)
     neither false c e = (refl, e)
 
-pub void_more : (xs : List Expr) (i : ℕ) (x : Expr) → i < length xs → x ≡ get_or xs i x → is_zero (expr_of x) ≡ false → has_zero (expr_list (take i xs)) ≡ false → has_zero (expr_list (take (i + 1) xs)) ≡ false
+pub void_more : (xs : List Expr) (i : ℕ) (x : Expr) → i < length xs → x ≡ get_or xs i x → is_zero (expr_of x) ≡ false → has_zero (expr_list (take i xs)) ≡ false
+    → has_zero (expr_list (take (i + 1) xs)) ≡ false
 void_more xs i x h e z n = rw add-one (void-more xs i x h e z n)
 
 -- ---- a sum and a product of several
@@ -127,7 +131,8 @@ read_again [] i d h = absurd (omega (arith, h))
 read_again (x ∷ xs) zero d h = refl
 read_again (x ∷ xs) (suc i) d h = read_again xs i d (omega (arith, h))
 
-exprs-take : {X : Type 0} (g : X → made.Expr) (xs : List X) (i : ℕ) (x : X) → i < length xs → x ≡ get_or xs i x → exprs_of g (take (suc i) xs) ≡ join_exprs (exprs_of g (take i xs)) (expr (g x) no_exprs)
+exprs-take : {X : Type 0} (g : X → made.Expr) (xs : List X) (i : ℕ) (x : X) → i < length xs → x ≡ get_or xs i x
+    → exprs_of g (take (suc i) xs) ≡ join_exprs (exprs_of g (take i xs)) (expr (g x) no_exprs)
 exprs-take g [] i x h e = absurd (omega (arith, h))
 exprs-take g (y ∷ xs) zero x h e = ap (λ z. expr (g z) no_exprs) (sym e)
 exprs-take g (y ∷ xs) (suc i) x h e = ap (λ l. expr (g y) l) (exprs-take g xs i x (omega (arith, h)) e)
@@ -186,7 +191,8 @@ module _ (kind : Kind) (inner : Expr) where
   unfolding walk_of
   no_walk low high marked z = ap (λ b. unless_zero b (made.Point kind (expr_of inner) low high (expr_of marked))) (sym z)
 
-  pub some_walk : (boxed : Expr) (low : ℕ) (high : Option ℕ) (marked other : Expr) → is_zero (expr_of marked) ≡ false → boxed ≡ inner → other ≡ marked → expr_of (Point kind boxed low high other) ≡ walk_of kind (expr_of inner) low high (expr_of marked)
+  pub some_walk : (boxed : Expr) (low : ℕ) (high : Option ℕ) (marked other : Expr) → is_zero (expr_of marked) ≡ false → boxed ≡ inner → other ≡ marked
+      → expr_of (Point kind boxed low high other) ≡ walk_of kind (expr_of inner) low high (expr_of marked)
   unfolding walk_of
   some_walk boxed low high marked other z b o =
       point_view kind boxed low high other ∙ ap (λ e. made.Point kind (expr_of e) low high (expr_of other)) b ∙ ap (λ e. made.Point kind (expr_of inner) low high (expr_of e)) o
@@ -201,8 +207,10 @@ pub product_done : (es factors : Exprs) (e : made.Expr) → factors ≡ opened f
 unfolding product_of
 product_done es factors e h n = n ∙ ap closed_product h
 
-pub sum_end : {X : Type 0} (g : X → made.Expr) (xs : List X) (i : ℕ) (now : Exprs) (e : made.Expr) → length xs ≤ i → now ≡ opened terms_of (exprs_of g (take i xs)) → e ≡ as_sum now → e ≡ sum_of (exprs_of g xs)
+pub sum_end : {X : Type 0} (g : X → made.Expr) (xs : List X) (i : ℕ) (now : Exprs) (e : made.Expr) → length xs ≤ i → now ≡ opened terms_of (exprs_of g (take i xs)) → e ≡ as_sum now
+    → e ≡ sum_of (exprs_of g xs)
 sum_end g xs i now e l h n = sum_done (exprs_of g xs) now e (put_end terms_of g xs i no_exprs now l h) n
 
-pub product_end : {X : Type 0} (g : X → made.Expr) (xs : List X) (i : ℕ) (now : Exprs) (e : made.Expr) → length xs ≤ i → now ≡ opened factors_of (exprs_of g (take i xs)) → e ≡ closed_product now → e ≡ product_of (exprs_of g xs)
+pub product_end : {X : Type 0} (g : X → made.Expr) (xs : List X) (i : ℕ) (now : Exprs) (e : made.Expr) → length xs ≤ i → now ≡ opened factors_of (exprs_of g (take i xs))
+    → e ≡ closed_product now → e ≡ product_of (exprs_of g xs)
 product_end g xs i now e l h n = product_done (exprs_of g xs) now e (put_end factors_of g xs i no_exprs now l h) n

@@ -27,18 +27,21 @@ product-returns t c =
 pub node-returns-in-Some-Union : goal.node-returns-in-Some-Union
 node-returns-in-Some-Union t c =
     let p = plain_of c.args.program.now in
-    same_as c.union.result _ _ (union_node p c.args.depth c.args.x c.if-depth-eq0.false c.in-Some-Union.field-0.now c.in-Some-Union.ensures.some c.in-Some-Union.parts c.as_slice.result.now c.in-Some-Union.field-0-is c.as_slice.ensures) c.union.ensures
+    same_as c.union.result _ _ (union_node p c.args.depth c.args.x c.if-depth-eq0.false c.in-Some-Union.field-0.now c.in-Some-Union.ensures.some c.in-Some-Union.parts
+    c.as_slice.result.now c.in-Some-Union.field-0-is c.as_slice.ensures) c.union.ensures
 
 pub node-returns-in-Some-Product : goal.node-returns-in-Some-Product
 node-returns-in-Some-Product t c =
     let p = plain_of c.args.program.now in
-    same_as c.product.result _ _ (product_node p c.args.depth c.args.x c.if-depth-eq0.false c.in-Some-Product.field-0.now c.in-Some-Product.ensures.some c.in-Some-Product.parts c.as_slice-in-Some-Product.result.now c.in-Some-Product.field-0-is
+    same_as c.product.result _ _ (product_node p c.args.depth c.args.x c.if-depth-eq0.false c.in-Some-Product.field-0.now c.in-Some-Product.ensures.some c.in-Some-Product.parts
+    c.as_slice-in-Some-Product.result.now c.in-Some-Product.field-0-is
     c.as_slice-in-Some-Product.ensures) c.product.ensures
 
 pub node-returns-in_ok-inner-in-Some-Coll : goal.node-returns-in_ok-inner-in-Some-Coll
 node-returns-in_ok-inner-in-Some-Coll t c =
     let p = plain_of c.args.program.now in
-    same_as c.collection.result _ _ (coll_node p c.args.depth c.args.x c.if-depth-eq0.false c.in-Some-Coll.field-0.now c.in-Some-Coll.ensures.some c.in-Some-Coll.kind c.in-Some-Coll.part c.in-Some-Coll.low c.in-Some-Coll.high _ c.in-Some-Coll.field-0-is
+    same_as c.collection.result _ _ (coll_node p c.args.depth c.args.x c.if-depth-eq0.false c.in-Some-Coll.field-0.now c.in-Some-Coll.ensures.some c.in-Some-Coll.kind
+    c.in-Some-Coll.part c.in-Some-Coll.low c.in-Some-Coll.high _ c.in-Some-Coll.field-0-is
     c.in_ok-inner-in-Some-Coll.ensures) c.collection.ensures
 
 pub node-returns-in-None : goal.node-returns-in-None

@@ -15,7 +15,8 @@ loop-i-preserved c =
     let g = part_expr (plain_of c.args.program.now) in
     elim c.if-i-but.branch [
       | then-i-but+in_ok-part_of+in_ok-add_factor w ↦ ap expr_list w.factors-is
-          ∙ put_other g c.args.parts.now c.args.but c.loop-i.i (get_or c.args.parts.now c.loop-i.i no_part) _ (expr_list c.args.factors.now) _ _ c.loop-i-test.true (read_again c.args.parts.now c.loop-i.i no_part c.loop-i-test.true) w.if-i-but.true w.in_ok-part_of.ensures w.in_ok-add_factor.ensures c.loop-i.invariant
+          ∙ put_other g c.args.parts.now c.args.but c.loop-i.i (get_or c.args.parts.now c.loop-i.i no_part) _ (expr_list c.args.factors.now) _ _ c.loop-i-test.true
+          (read_again c.args.parts.now c.loop-i.i no_part c.loop-i-test.true) w.if-i-but.true w.in_ok-part_of.ensures w.in_ok-add_factor.ensures c.loop-i.invariant
       | else-i-but w ↦ ap expr_list w.factors-is ∙ put_same g c.args.parts.now c.args.but c.loop-i.i (expr_list c.args.factors.now) _ w.if-i-but.false c.loop-i.invariant
     ]
 
