@@ -23,7 +23,7 @@ use Rattle.luo_equation.proofs.UpTo.{coef-up, exact-up}
 use Rattle.luo_system.specs.System.{system, part_expr, descriptor, defs_from, procs_from}
 use Rattle.luo_equation.specs.Equation.{Equation}
 use Rattle.luo_equation.specs.declared.equation.Left.TheVariants as left
-use Rattle.luo_system.specs.Holding.{AllHold, SidesAgree, IsRight, ZeroStart, left_number, Agree}
+use Rattle.luo_system.specs.Holding.{Holds, SidesAgree, IsRight, HasZeroStart, left_number, Agree}
 use Rattle.luo_system.proofs.Counts.{count_of, count_is, count_one}
 use Rattle.luo_system.proofs.Unique.{one_table}
 use Rattle.luo_system.proofs.Right.{total_of, right_of, right_series, right_tau, other_series, other_tau, right_parts, taus_right, series_right, all_right}
@@ -71,7 +71,7 @@ module _ (p : Program) (q : IsProgram p) (f : IsFounded p) where
     same_y g m l = ⊎_elim (λ s. right_tau p q f t g s.0 s.1 m ∙ sym (r.totals g s.0 s.1 m l)) (λ e. other_tau p q f t g m e) (option_or (slice_get p.procs g))
 
     -- THE THEOREM: the equations hold in a right table
-    pub equations_hold : AllHold p.universe (system p) N t
+    pub equations_hold : Holds p.universe (system p) N t
     equations_hold e i n l = ⊎_elim
         (λ h.
         let d = defs_back p p.defs 0 e h in
@@ -105,7 +105,7 @@ module _ (p : Program) (q : IsProgram p) (f : IsFounded p) where
   right_is_true N t = record { counts = λ i d e n l. right_series p q f t i d e n; totals = λ g P e n l. right_tau p q f t g P e n }
 
   -- THE THEOREM: where the equations hold, and the table starts with zeros, it is right
-  pub table_true : (N : ℕ) (t : Table) → SidesAgree p.universe (system p) N t → ZeroStart p t → IsTrue N t
+  pub table_true : (N : ℕ) (t : Table) → SidesAgree p.universe (system p) N t → HasZeroStart p t → IsTrue N t
   table_true N t h z =
       let v : Table = right_of p q f t in
       let r = one_table p q f N t v h (λ e i n l. (equations_hold N v (right_is_true N t) e i n l).0) z (λ i d e o. right_series p q f t i d e 0 ∙ ap pos (no_structure d.whole.node o)) in

@@ -23,8 +23,8 @@ abbrev pub SidesAgree : Universe → List Equation → ℕ → Table → Type 0
 SidesAgree u es N t = (e : Equation) → In e es → (n : ℕ) → n ≤ N → left_number t e.left n ≡ coef u t e.right n
 
 -- these equations hold up to N: their sides agree, and no quotient leaves a remainder
-abbrev pub AllHold : Universe → List Equation → ℕ → Table → Type 0
-AllHold u es N t = (e : Equation) → In e es → (n : ℕ) → n ≤ N → (left_number t e.left n ≡ coef u t e.right n) × IsExact u t e.right n
+abbrev pub Holds : Universe → List Equation → ℕ → Table → Type 0
+Holds u es N t = (e : Equation) → In e es → (n : ℕ) → n ≤ N → (left_number t e.left n ≡ coef u t e.right n) × IsExact u t e.right n
 
 -- a right table up to N: its numbers are the counts of the definitions' nodes and the totals of the procedures' wholes
 pub record IsRight (p : Program) (N : ℕ) (t : Table) : Type 0 where
@@ -32,16 +32,16 @@ pub record IsRight (p : Program) (N : ℕ) (t : Table) : Type 0 where
   pub totals : (f : ℕ) (P : Procedure) → slice_get p.procs f ≡ Some P → (n : ℕ) → n ≤ N → (c : ℕ) × IsTotal p P.site n c × (t.y f n ≡ pos c)
 
 -- where a definition's node has no structure of size 0, its number at size 0 is 0
-abbrev pub ZeroStart : Program → Table → Type 0
-ZeroStart p t = (i : ℕ) (d : Def) → slice_get p.defs i ≡ Some d → ((s : Tree) → IsStructure p d.whole.node 0 s → ⊥) → t.x i 0 ≡ pos 0
+abbrev pub HasZeroStart : Program → Table → Type 0
+HasZeroStart p t = (i : ℕ) (d : Def) → slice_get p.defs i ≡ Some d → ((s : Tree) → IsStructure p d.whole.node 0 s → ⊥) → t.x i 0 ≡ pos 0
 
 -- these equations are true of a program: they hold of every right table, at every size
 abbrev pub AreTrue : Program → List Equation → Type 0
-AreTrue p es = (N : ℕ) (t : Table) → IsRight p N t → AllHold p.universe es N t
+AreTrue p es = (N : ℕ) (t : Table) → IsRight p N t → Holds p.universe es N t
 
 -- they determine its numbers: a table of integers of which the sides agree, and which starts with zeros, is right
 abbrev pub Determine : Program → List Equation → Type 0
-Determine p es = (N : ℕ) (t : Table) → SidesAgree p.universe es N t → ZeroStart p t → IsRight p N t
+Determine p es = (N : ℕ) (t : Table) → SidesAgree p.universe es N t → HasZeroStart p t → IsRight p N t
 
 -- there is a table that is right at every size
 abbrev pub HasTable : Program → Type 0
@@ -67,6 +67,6 @@ pub record Agree (p : Program) (N : ℕ) (t v : Table) : Type 0 where
 -- the one table of these equations: they hold of it at every size, it has all rows of all procedures, and a table of integers of which
 -- the sides agree, and which starts with zeros, agrees with it
 pub record IsTableOf (p : Program) (es : List Equation) (t : Table) : Type 0 where
-  pub holds : (N : ℕ) → AllHold p.universe es N t
+  pub holds : (N : ℕ) → Holds p.universe es N t
   pub rows : (f : ℕ) (row : Row) → IsRow p f row → HasRow p t f row
-  pub only : (N : ℕ) (v : Table) → SidesAgree p.universe es N v → ZeroStart p v → Agree p N v t
+  pub only : (N : ℕ) (v : Table) → SidesAgree p.universe es N v → HasZeroStart p v → Agree p N v t
