@@ -24,7 +24,7 @@ use Rattle.luo_counting.proofs.TreeCharges.{plain}
 use Rattle.luo_equation.specs.Expr.{Expr, Table, coef}
 use Rattle.luo_equation.proofs.Local.{coll-low}
 use Rattle.luo_system.specs.System.{named, node_expr, part_expr}
-use Rattle.luo_system.specs.Holding.{ZeroStart}
+use Rattle.luo_system.specs.Holding.{HasZeroStart}
 use Rattle.luo_system.proofs.Steps.{by_size_and_step}
 use Rattle.luo_system.proofs.Values.{sums_in, shape_value, shape-exprs, shape-same, products-low}
 use Rattle.luo_system.proofs.Counts.{count_of, count_is, zero_or_none, solid_part, CZ, C, node_value, sums-pos, products-pos}
@@ -77,7 +77,7 @@ module _ (p : Program) (q : IsProgram p) (f : IsFounded p) (t : Table) (N : ℕ)
     part_right part h n k = part_holds part h n k (node_expr p (length p.nodes) part.node) (λ v. node_holds (length p.nodes) part.node h.0 (omega arith) n k) part.name refl
 
   -- ---- and nothing else does
-  module _ (hold : (i : ℕ) (d : Def) → slice_get p.defs i ≡ Some d → (n : ℕ) → n ≤ N → t.x i n ≡ coef p.universe t (part_expr p d.whole) n) (starts : ZeroStart p t) where
+  module _ (hold : (i : ℕ) (d : Def) → slice_get p.defs i ≡ Some d → (n : ℕ) → n ≤ N → t.x i n ≡ coef p.universe t (part_expr p d.whole) n) (starts : HasZeroStart p t) where
     -- a name has the number of its definition's node
     name_value : (i : ℕ) → NamingEnds p i → (d : Def) → slice_get p.defs i ≡ Some d → (n : ℕ) → n ≤ N → t.x i n ≡ coef p.universe t (node_expr p (length p.nodes) d.whole.node) n
     name_value i (at_construct e g h) d k n l =

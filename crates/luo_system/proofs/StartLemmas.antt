@@ -7,7 +7,8 @@ use Rattle.luo_model.specs.declared.program.Shape.TheVariants as shape
 use Rattle.luo_model.specs.declared.program.Part.{Part}
 use Rattle.luo_model.specs.declared.program.Def.{Def}
 use Rattle.luo_model.specs.declared.program.Node.{Node}
-use Rattle.luo_model.specs.Invariant.{IsProgram, IsPart, IsWhole, IsAllowed, Holds, bare, inner_parts, NamingEnds, at_construct}
+use Rattle.luo_model.specs.Invariant as invariant
+use Rattle.luo_model.specs.Invariant.{IsProgram, IsPart, IsWhole, IsAllowed, bare, inner_parts, NamingEnds, at_construct}
 use Rattle.luo_model.specs.Founded.{IsFounded, BuiltWithin, IsInhabited, SameSize, BreaksW2}
 use Rattle.luo_model.specs.Examples.{part}
 use Rattle.luo_founded.proofs.FactLemmas.{no_circle_falling}
@@ -17,7 +18,7 @@ use Rattle.luo_equation.specs.Equation.{Equation}
 use Rattle.luo_equation.specs.declared.equation.Left.TheVariants as left
 use Rattle.luo_system.specs.Plain.{sum_of, product_of}
 use Rattle.luo_system.specs.System.{system, part_expr}
-use Rattle.luo_system.specs.Holding.{left_number, AllHold}
+use Rattle.luo_system.specs.Holding.{left_number, Holds}
 use Rattle.luo_system.specs.Facts.{by_name, def}
 use Rattle.luo_system.specs.Starts.{pairs, started_at_one, PairsHoldFromOne, StartsAreNeeded}
 
@@ -53,10 +54,10 @@ is_part x l = (l, tt)
 is_named : IsPart pairs (by_name 0 0)
 is_named = (omega arith, (def (part 0), refl, refl))
 
-holds_leaf : Holds pairs 0 1
+holds_leaf : invariant.Holds pairs 0 1
 holds_leaf = record { node = whole; inner = leaf; is_node = refl; is_inner = refl; part = inl refl; behind = omega arith; together = refl; not_first = λ e. omega (arith, e) }
 
-holds_pair : Holds pairs 0 2
+holds_pair : invariant.Holds pairs 0 2
 holds_pair = record { node = whole; inner = pair; is_node = refl; is_inner = refl; part = inr (inl refl); behind = omega arith; together = refl; not_first = λ e. omega (arith, e) }
 
 -- what holds a node is node 0
@@ -88,10 +89,10 @@ pairs_are = record {
   first_place = refl;
   in_order = (inl (refl, refl), (inl (refl, refl), tt));
   wholes_first = at_def (λ i d. IsWhole pairs i d.whole) (inl (refl, (whole, refl, refl, refl)));
-  held = at_node (λ y node. (node.place ≡ 0 → ⊥) → (x : ℕ) × Holds pairs x y × ((z : ℕ) → Holds pairs z y → z ≡ x)) (λ o. absurd (o refl))
+  held = at_node (λ y node. (node.place ≡ 0 → ⊥) → (x : ℕ) × invariant.Holds pairs x y × ((z : ℕ) → invariant.Holds pairs z y → z ≡ x)) (λ o. absurd (o refl))
       (λ o. (0, holds_leaf, λ z h. only_whole 1 z h.node h.is_node h.part)) (λ o. (0, holds_pair, λ z h. only_whole 2 z h.node h.is_node h.part));
-  bare_held = λ x y node e. at_node (λ x node. In (bare y) (inner_parts node.shape) → Holds pairs x y)
-      (λ i. ⊎_elim (λ k. subst (λ (q : Part). Holds pairs 0 q.node) (sym k) holds_leaf) (λ j. ⊎_elim (λ k. subst (λ (q : Part). Holds pairs 0 q.node) (sym k) holds_pair) (λ z. absurd z) j) i)
+  bare_held = λ x y node e. at_node (λ x node. In (bare y) (inner_parts node.shape) → invariant.Holds pairs x y)
+      (λ i. ⊎_elim (λ k. subst (λ (q : Part). invariant.Holds pairs 0 q.node) (sym k) holds_leaf) (λ j. ⊎_elim (λ k. subst (λ (q : Part). invariant.Holds pairs 0 q.node) (sym k) holds_pair) (λ z. absurd z) j) i)
       (λ i. absurd i) (λ i. absurd (⊎_elim (λ k. unnamed y k) (λ j. ⊎_elim (λ k. unnamed y k) (λ z. z) j) i)) x node e;
   one_place = at_node (λ x node. (y i j : ℕ) → slice_get (inner_parts node.shape) i ≡ Some (bare y) → slice_get (inner_parts node.shape) j ≡ Some (bare y) → i ≡ j) one_place_whole
       (λ y i j e. absurd (none_some (bare y) e)) (λ y i j e. absurd (no_place_pair y i e));
@@ -159,7 +160,7 @@ keep (suc zero) l = (refl, (tt, ((tt, (tt, tt)), tt)))
 keep (suc (suc zero)) l = (refl, (tt, ((tt, (tt, tt)), tt)))
 keep (suc (suc (suc n))) l = absurd (omega (arith, l))
 
-all_keep : AllHold Unlabelled (system pairs) 2 started_at_one
+all_keep : Holds Unlabelled (system pairs) 2 started_at_one
 all_keep e i n l = ⊎_elim
     (λ g. subst (λ (y : Equation). (left_number started_at_one y.left n ≡ coef Unlabelled started_at_one y.right n) × IsExact Unlabelled started_at_one y.right n) (sym g) (keep n l))
     (λ z. absurd z) i

@@ -23,13 +23,13 @@ use Rattle.luo_equation.proofs.UpTo.{coef-up, exact-up}
 use Rattle.luo_system.specs.System.{system, part_expr, descriptor, defs_from, procs_from}
 use Rattle.luo_equation.specs.Equation.{Equation}
 use Rattle.luo_equation.specs.declared.equation.Left.TheVariants as left
-use Rattle.luo_system.specs.Holding.{AllHold, SidesAgree, IsRight, ZeroStart, left_number}
+use Rattle.luo_system.specs.Holding.{Holds, SidesAgree, IsRight, HasZeroStart, left_number, Agree}
 use Rattle.luo_system.proofs.Counts.{count_of, count_is, count_one}
 use Rattle.luo_system.proofs.Unique.{one_table}
 use Rattle.luo_system.proofs.Right.{total_of, right_of, right_series, right_tau, other_series, other_tau, right_parts, taus_right, series_right, all_right}
 use Rattle.luo_system.proofs.Charging.{charge_of, charge_is}
 use Rattle.luo_system.proofs.Sites.{sites_apart, whole_site}
-use Rattle.luo_system.specs.Truth.{RightTablesHold, RightTablesExist, HoldingTablesAreRight, SystemsDescribe, RightTablesHaveRows}
+use Rattle.luo_system.specs.Truth.{RightTablesHold, RightTablesExist, HoldingTablesAreRight, SystemsDescribe, RightTablesHaveRows, SystemsHaveTables}
 use Rattle.luo_system.proofs.Exact.{part_exact, body_exact}
 
 -- ---- each equation is that of a definition or of a procedure
@@ -71,7 +71,7 @@ module _ (p : Program) (q : IsProgram p) (f : IsFounded p) where
     same_y g m l = ⊎_elim (λ s. right_tau p q f t g s.0 s.1 m ∙ sym (r.totals g s.0 s.1 m l)) (λ e. other_tau p q f t g m e) (option_or (slice_get p.procs g))
 
     -- THE THEOREM: the equations hold in a right table
-    pub equations_hold : AllHold p.universe (system p) N t
+    pub equations_hold : Holds p.universe (system p) N t
     equations_hold e i n l = ⊎_elim
         (λ h.
         let d = defs_back p p.defs 0 e h in
@@ -105,7 +105,7 @@ module _ (p : Program) (q : IsProgram p) (f : IsFounded p) where
   right_is_true N t = record { counts = λ i d e n l. right_series p q f t i d e n; totals = λ g P e n l. right_tau p q f t g P e n }
 
   -- THE THEOREM: where the equations hold, and the table starts with zeros, it is right
-  pub table_true : (N : ℕ) (t : Table) → SidesAgree p.universe (system p) N t → ZeroStart p t → IsTrue N t
+  pub table_true : (N : ℕ) (t : Table) → SidesAgree p.universe (system p) N t → HasZeroStart p t → IsTrue N t
   table_true N t h z =
       let v : Table = right_of p q f t in
       let r = one_table p q f N t v h (λ e i n l. (equations_hold N v (right_is_true N t) e i n l).0) z (λ i d e o. right_series p q f t i d e 0 ∙ ap pos (no_structure d.whole.node o)) in
@@ -167,4 +167,28 @@ right-tables_rows p q N t r f row w l =
           let s : P ≡ Q = some_same P Q (sym w.1 ∙ g) in
           let x : d.whole.node ≡ P.on.node = o ∙ ap (λ (y : Procedure). y.on.node) (sym s) in
           k.2 ∙ ap pos (Counts-unique (IsStructure p P.on.node row.n) k.0 row.count (subst (λ y. IsCount p y row.n k.0) x k.1) w.2),
+    )
+
+pub right-tables_agree : (p : Program) → IsProgram p → (N : ℕ) (t v : Table) → IsRight p N t → IsRight p N v → Agree p N t v
+right-tables_agree p q N t v r s = record {
+  counts = λ i d e n l.
+      let a = r.counts i d e n l in
+      let b = s.counts i d e n l in
+      a.2 ∙ ap pos (Counts-unique (IsStructure p d.whole.node n) a.0 b.0 a.1 b.1) ∙ sym b.2;
+  totals = λ f P e n l.
+      let a = r.totals f P e n l in
+      let b = s.totals f P e n l in
+      a.2 ∙ ap pos (totals_are_single p (sites_apart p q) P.site n a.0 b.0 a.1 b.1) ∙ sym b.2;
+}
+
+pub systems-tables : SystemsHaveTables
+systems-tables p q f es e =
+    let d = systems-describe p q f es e in
+    let t = d.exist in (
+      t.0,
+      record {
+        holds = λ N. d.hold N t.0 (t.1 N);
+        rows = λ g row w. right-tables_rows p q row.n t.0 (t.1 row.n) g row w (omega arith);
+        only = λ N v h z. right-tables_agree p q N v t.0 (d.determine N v h z) (t.1 N);
+      },
     )

@@ -13,7 +13,7 @@ use Rattle.luo_equation.specs.Expr.{Expr, Table, coef}
 use Rattle.luo_equation.proofs.UpTo.{coef-up}
 use Rattle.luo_system.specs.System.{system, part_expr, descriptor, defs_from, procs_from}
 use Rattle.luo_equation.specs.declared.equation.Left.TheVariants as left
-use Rattle.luo_system.specs.Holding.{SidesAgree, ZeroStart}
+use Rattle.luo_system.specs.Holding.{SidesAgree, HasZeroStart}
 use Rattle.luo_system.proofs.Steps.{by_relation, by_size_and_step, call_there}
 use Rattle.luo_system.proofs.Counts.{count_of, CZ}
 use Rattle.luo_system.proofs.Definitions.{part_right, series_one}
@@ -130,7 +130,7 @@ module _ (p : Program) (q : IsProgram p) (f : IsFounded p) where
     taus_one g P k n l = (by_size_and_step p f IsOne (λ n x known same l. (agree_here n x l known same, behind n x l known same)) n P.on.node l).0 g P k refl
 
 -- THE THEOREM: two tables of which the equations hold, and which start with zeros, agree
-pub one_table : (p : Program) → IsProgram p → IsFounded p → (N : ℕ) (t v : Table) → SidesAgree p.universe (system p) N t → SidesAgree p.universe (system p) N v → ZeroStart p t → ZeroStart p v
+pub one_table : (p : Program) → IsProgram p → IsFounded p → (N : ℕ) (t v : Table) → SidesAgree p.universe (system p) N t → SidesAgree p.universe (system p) N v → HasZeroStart p t → HasZeroStart p v
     → ((i : ℕ) (d : Def) → slice_get p.defs i ≡ Some d → (n : ℕ) → n ≤ N → t.x i n ≡ v.x i n) × ((g : ℕ) (P : Procedure) → slice_get p.procs g ≡ Some P → (n : ℕ) → n ≤ N → t.y g n ≡ v.y g n)
 one_table p q f N t v ht hv zt zv =
     let rt = series_one p q f t N (series_hold p N t ht) zt in

@@ -8,7 +8,7 @@ use Rattle.luo_model.specs.Founded.{IsFounded}
 use Rattle.luo_model.specs.Examples.{part}
 use Rattle.luo_equation.specs.Expr.{Table}
 use Rattle.luo_system.specs.System.{system}
-use Rattle.luo_system.specs.Holding.{AllHold, IsRight}
+use Rattle.luo_system.specs.Holding.{Holds, IsRight}
 use Rattle.luo_system.specs.Facts.{by_name, def}
 
 -- t = atom(1) | product(t, t), so t(z) = z + t(z)*t(z)
@@ -33,8 +33,8 @@ abbrev pub started_at_one : Table
 started_at_one = record { x = λ i. from_one; y = λ f n. pos 0 }
 
 abbrev pub PairsHoldFromOne : Type 0
-PairsHoldFromOne = IsProgram pairs × IsFounded pairs × AllHold Unlabelled (system pairs) 2 started_at_one
+PairsHoldFromOne = IsProgram pairs × IsFounded pairs × Holds Unlabelled (system pairs) 2 started_at_one
 
 -- it isn't so that each table in which the equations hold is right
 abbrev pub StartsAreNeeded : Type 0
-StartsAreNeeded = ((p : Program) → IsProgram p → IsFounded p → (N : ℕ) (t : Table) → AllHold p.universe (system p) N t → IsRight p N t) → ⊥
+StartsAreNeeded = ((p : Program) → IsProgram p → IsFounded p → (N : ℕ) (t : Table) → Holds p.universe (system p) N t → IsRight p N t) → ⊥

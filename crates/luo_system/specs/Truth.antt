@@ -1,15 +1,14 @@
 -- The equations of a founded program: they hold of its counts and totals, and of nothing else that starts with zeros.
-use Rattle.std.specs.Prelude.{◌≡◌, ℕ, ◌≤◌, List, slice_get, Some, pos}
-use Rattle.luo_model.specs.declared.program.Def.{Def}
+use Rattle.std.specs.Prelude.{◌≡◌, ℕ, ◌≤◌, List}
 use Rattle.luo_model.specs.declared.table.Row.{Row}
-use Rattle.luo_model.specs.Program.{Program, Procedure}
+use Rattle.luo_model.specs.Program.{Program}
 use Rattle.luo_model.specs.Invariant.{IsProgram}
 use Rattle.luo_model.specs.Tables.{IsRow}
 use Rattle.luo_model.specs.Founded.{IsFounded}
 use Rattle.luo_equation.specs.Expr.{Table}
 use Rattle.luo_equation.specs.Equation.{Equation}
 use Rattle.luo_system.specs.System.{system}
-use Rattle.luo_system.specs.Holding.{IsRight, AreTrue, Determine, HasTable, Describe}
+use Rattle.luo_system.specs.Holding.{IsRight, AreTrue, Determine, HasTable, Describe, HasRow, IsTableOf}
 
 -- the equations hold of a right table, and no quotient leaves a remainder
 abbrev pub RightTablesHold : Type 0
@@ -27,8 +26,10 @@ HoldingTablesAreRight = (p : Program) → IsProgram p → IsFounded p → Determ
 abbrev pub SystemsDescribe : Type 0
 SystemsDescribe = (p : Program) → IsProgram p → IsFounded p → (es : List Equation) → es ≡ system p → Describe p es
 
--- a right table has the totals of the rows of a procedure, and their counts where the parameter has the node of a definition
+-- a right table has the rows of its sizes
 abbrev pub RightTablesHaveRows : Type 0
-RightTablesHaveRows = (p : Program) → IsProgram p → (N : ℕ) (t : Table) → IsRight p N t → (f : ℕ) (row : Row) → IsRow p f row → row.n ≤ N
-    → (t.y f row.n ≡ pos row.total)
-    × ((i : ℕ) (d : Def) (P : Procedure) → slice_get p.defs i ≡ Some d → slice_get p.procs f ≡ Some P → d.whole.node ≡ P.on.node → t.x i row.n ≡ pos row.count)
+RightTablesHaveRows = (p : Program) → IsProgram p → (N : ℕ) (t : Table) → IsRight p N t → (f : ℕ) (row : Row) → IsRow p f row → row.n ≤ N → HasRow p t f row
+
+-- there is one table of the equations, and it has all rows
+abbrev pub SystemsHaveTables : Type 0
+SystemsHaveTables = (p : Program) → IsProgram p → IsFounded p → (es : List Equation) → es ≡ system p → (t : Table) × IsTableOf p es t

@@ -2,7 +2,7 @@
 ghost use Rattle.luo_system.specs.Laws.{SumsKeepCoefficients, ProductsKeepCoefficients};
 ghost use Rattle.luo_system.specs.Laws.{WalksKeepCoefficients, QuotientsRoundDown};
 ghost use Rattle.luo_system.specs.Truth.{RightTablesHold, RightTablesExist, HoldingTablesAreRight};
-ghost use Rattle.luo_system.specs.Truth.{SystemsDescribe, RightTablesHaveRows};
+ghost use Rattle.luo_system.specs.Truth.{SystemsDescribe, RightTablesHaveRows, SystemsHaveTables};
 ghost use Rattle.luo_system.specs.Facts.{SystemOfTrees, SystemOfRooted};
 ghost use Rattle.luo_system.specs.FactsCases.{SystemOfCases};
 ghost use Rattle.luo_system.specs.Evaluated.{SystemOfCollections, PermutationsGive, PartitionsGive};
@@ -54,6 +54,12 @@ pub fn systems_describe()
 /// The counts and totals in a right table are those of the rows of its procedures.
 pub fn right_tables_have_rows()
     ensures { RightTablesHaveRows }
+{}
+
+/// The equations of a founded program have one table: they hold of it at every size, it has all rows
+/// of all procedures, and each table of integers that satisfies them and starts with zeros is it.
+pub fn systems_have_tables()
+    ensures { SystemsHaveTables }
 {}
 
 /// The equations of binary trees.
