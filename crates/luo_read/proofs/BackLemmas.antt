@@ -115,20 +115,29 @@ same_byte a b e = grind arith
 module _ (os : List Open) (t : Tree) (h : AreOpen os) (w : IsWritten t) where
   tuple_back : (ts : List Tree) → EachWritten ts → 1 ≤ length ts → IsBack (((before os ++ 40 ∷ ended ts) ++ structure_text t) ++ 41 ∷ []) (closed os (Tup (from_list (ts ++ t ∷ []))))
   tuple_back ts v l =
-      let r = closed_back os (Tup (from_list (ts ++ t ∷ []))) h (omega (arith, l, ap length (to_from (ts ++ t ∷ [])), length-append ts (t ∷ [])), are_written (ts ++ t ∷ []) (each_written ts t v w)) in
-      (r.0, r.1 ∙ ap (λ l. before os ++ 40 ∷ (l ++ 41 ∷ [])) (joined_more ts t) ∙ ap (λ l. before os ++ 40 ∷ l) (append_assoc (ended ts) (structure_text t) (41 ∷ [])) ∙ sym (three (before os) (40 ∷ ended ts) (structure_text t) (41 ∷ [])))
+      let r = closed_back os (Tup (from_list (ts ++ t ∷ []))) h
+      (omega (arith, l, ap length (to_from (ts ++ t ∷ [])), length-append ts (t ∷ [])), are_written (ts ++ t ∷ []) (each_written ts t v w)) in (
+        r.0,
+        r.1 ∙ ap (λ l. before os ++ 40 ∷ (l ++ 41 ∷ [])) (joined_more ts t) ∙ ap (λ l. before os ++ 40 ∷ l) (append_assoc (ended ts) (structure_text t) (41 ∷ []))
+            ∙ sym (three (before os) (40 ∷ ended ts) (structure_text t) (41 ∷ [])),
+      )
 
   collection_back : (ts : List Tree) → EachWritten ts → IsBack (((before os ++ 91 ∷ ended ts) ++ structure_text t) ++ 93 ∷ []) (closed os (Coll (from_list (ts ++ t ∷ []))))
   collection_back ts v =
-      let r = closed_back os (Coll (from_list (ts ++ t ∷ []))) h (are_written (ts ++ t ∷ []) (each_written ts t v w)) in
-      (r.0, r.1 ∙ ap (λ l. before os ++ 91 ∷ (l ++ 93 ∷ [])) (joined_more ts t) ∙ ap (λ l. before os ++ 91 ∷ l) (append_assoc (ended ts) (structure_text t) (93 ∷ [])) ∙ sym (three (before os) (91 ∷ ended ts) (structure_text t) (93 ∷ [])))
+      let r = closed_back os (Coll (from_list (ts ++ t ∷ []))) h (are_written (ts ++ t ∷ []) (each_written ts t v w)) in (
+        r.0,
+        r.1 ∙ ap (λ l. before os ++ 91 ∷ (l ++ 93 ∷ [])) (joined_more ts t) ∙ ap (λ l. before os ++ 91 ∷ l) (append_assoc (ended ts) (structure_text t) (93 ∷ []))
+            ∙ sym (three (before os) (91 ∷ ended ts) (structure_text t) (93 ∷ [])),
+      )
 
   comma_back : (bracket : ℕ) (ts : List Tree) → (before os ++ bracket ∷ ended (ts ++ t ∷ [])) ++ [] ≡ ((before os ++ bracket ∷ ended ts) ++ structure_text t) ++ 44 ∷ []
-  comma_back bracket ts = append-nil (before os ++ bracket ∷ ended (ts ++ t ∷ [])) ∙ ap (λ l. before os ++ bracket ∷ l) (ended_more ts t) ∙ sym (three (before os) (bracket ∷ ended ts) (structure_text t) (44 ∷ []))
+  comma_back bracket ts = append-nil (before os ++ bracket ∷ ended (ts ++ t ∷ [])) ∙ ap (λ l. before os ++ bracket ∷ l) (ended_more ts t)
+      ∙ sym (three (before os) (bracket ∷ ended ts) (structure_text t) (44 ∷ []))
 
   tuple_closed_back : (ts : List Tree) (s : State) → EachWritten ts → tuple_closed os ts t ≡ Some s → IsBack (((before os ++ 40 ∷ ended ts) ++ structure_text t) ++ 41 ∷ []) s
   tuple_closed_back [] s v e = nowhere (IsBack (((before os ++ 40 ∷ ended []) ++ structure_text t) ++ 41 ∷ [])) s e
-  tuple_closed_back (u ∷ us) s v e = reached (IsBack (((before os ++ 40 ∷ ended (u ∷ us)) ++ structure_text t) ++ 41 ∷ [])) (closed os (Tup (from_list ((u ∷ us) ++ t ∷ [])))) s e (tuple_back (u ∷ us) v (omega arith))
+  tuple_closed_back (u ∷ us) s v e = reached (IsBack (((before os ++ 40 ∷ ended (u ∷ us)) ++ structure_text t) ++ 41 ∷ [])) (closed os (Tup (from_list ((u ∷ us) ++ t ∷ [])))) s e
+      (tuple_back (u ∷ us) v (omega arith))
 
 pub passed_back : (os : List Open) (t : Tree) (b : ℕ) (s : State) → AreOpen os → IsWritten t → passed os t b ≡ Some s → IsBack ((before os ++ structure_text t) ++ b ∷ []) s
 passed_back [] t b s h w e = nowhere (IsBack (structure_text t ++ b ∷ [])) s e
@@ -228,7 +237,8 @@ count_back o b n e =
 -- ---- the first byte of a structure
 
 module _ (os : List Open) (h : AreOpen os) where
-  numbered_back : (front : List ℕ) (o : Option ℕ) (b : ℕ) (s : State) → numbered os o ≡ Some s → ((n : ℕ) → o ≡ Some n → (1 ≤ n) × (n ≤ 999999) × (decimal n ≡ front ++ b ∷ [])) → IsBack (before os ++ (front ++ b ∷ [])) s
+  numbered_back : (front : List ℕ) (o : Option ℕ) (b : ℕ) (s : State) → numbered os o ≡ Some s → ((n : ℕ) → o ≡ Some n → (1 ≤ n) × (n ≤ 999999) × (decimal n ≡ front ++ b ∷ []))
+      → IsBack (before os ++ (front ++ b ∷ [])) s
   numbered_back front None b s e k = nowhere (IsBack (before os ++ (front ++ b ∷ []))) s e
   numbered_back front (Some n) b s e k =
       let r = k n refl in
@@ -237,7 +247,8 @@ module _ (os : List Open) (h : AreOpen os) where
   pub begun_back : (b : ℕ) (s : State) → begun os b ≡ Some s → IsBack (before os ++ b ∷ []) s
   begun_back b s e =
       let P : State → Type 0 = IsBack (before os ++ b ∷ []) in
-      let byte : (x : State) (k : ℕ) → nat_eq b k ≡ true → IsBack (before os ++ k ∷ []) x → IsBack (before os ++ b ∷ []) x = λ x k f r. subst (λ c. IsBack (before os ++ c ∷ []) x) (sym (same_byte b k f)) r in
+      let byte : (x : State) (k : ℕ) → nat_eq b k ≡ true → IsBack (before os ++ k ∷ []) x
+      → IsBack (before os ++ b ∷ []) x = λ x k f r. subst (λ c. IsBack (before os ++ c ∷ []) x) (sym (same_byte b k f)) r in
       chosen P (nat_eq b 40) (state (Tuple [] ∷ os) Begin) _ s e
       (λ f. byte (state (Tuple [] ∷ os) Begin) 40 f (((tt, h), tt), append-nil (before os ++ 40 ∷ [])))
       (λ f e1. chosen P (nat_eq b 91) (state (Collection [] ∷ os) First) _ s e1
@@ -271,10 +282,12 @@ module _ (os : List Open) (b : ℕ) (s : State) (h : AreOpen os) where
       back_at s _ _ (ap (λ l. l ++ b ∷ []) r.1) (passed_from_back (closed os (Atom w 0)) b s r.0 e)
   weighed_back None (Some n) v f e =
       let r = longer_back None b n f in
-      reached (IsBack (text_of (state os (Weight None)) ++ b ∷ [])) (state os (Weight (Some n))) s e ((h, r.0), ap (λ l. before os ++ 97 ∷ l) r.1 ∙ sym (append_assoc (before os) (97 ∷ []) (b ∷ [])))
+      reached (IsBack (text_of (state os (Weight None)) ++ b ∷ [])) (state os (Weight (Some n))) s e
+      ((h, r.0), ap (λ l. before os ++ 97 ∷ l) r.1 ∙ sym (append_assoc (before os) (97 ∷ []) (b ∷ [])))
   weighed_back (Some w) (Some n) v f e =
       let r = longer_back (Some w) b n f in
-      reached (IsBack (text_of (state os (Weight (Some w))) ++ b ∷ [])) (state os (Weight (Some n))) s e ((h, r.0), ap (λ l. before os ++ 97 ∷ l) r.1 ∙ sym (append_assoc (before os) (97 ∷ decimal w) (b ∷ [])))
+      reached (IsBack (text_of (state os (Weight (Some w))) ++ b ∷ [])) (state os (Weight (Some n))) s e
+      ((h, r.0), ap (λ l. before os ++ 97 ∷ l) r.1 ∙ sym (append_assoc (before os) (97 ∷ decimal w) (b ∷ [])))
 
   labelled_back : (o n : Option ℕ) → IsStage os (Label o) → longer_count o b ≡ n → labelled os o b n ≡ Some s → IsBack (text_of (state os (Label o)) ++ b ∷ []) s
   labelled_back None None v f e = nowhere (IsBack (text_of (state os (Label None)) ++ b ∷ [])) s e
@@ -284,10 +297,12 @@ module _ (os : List Open) (b : ℕ) (s : State) (h : AreOpen os) where
       back_at s _ _ (ap (λ l. l ++ b ∷ []) r.1) (passed_from_back (closed os (Atom 1 (suc w))) b s r.0 e)
   labelled_back None (Some n) v f e =
       let r = count_back None b n f in
-      reached (IsBack (text_of (state os (Label None)) ++ b ∷ [])) (state os (Label (Some n))) s e ((h, (r.0, r.1)), ap (λ l. before os ++ 35 ∷ l) r.2 ∙ sym (append_assoc (before os) (35 ∷ []) (b ∷ [])))
+      reached (IsBack (text_of (state os (Label None)) ++ b ∷ [])) (state os (Label (Some n))) s e
+      ((h, (r.0, r.1)), ap (λ l. before os ++ 35 ∷ l) r.2 ∙ sym (append_assoc (before os) (35 ∷ []) (b ∷ [])))
   labelled_back (Some w) (Some n) v f e =
       let r = count_back (Some w) b n f in
-      reached (IsBack (text_of (state os (Label (Some w))) ++ b ∷ [])) (state os (Label (Some n))) s e ((h, (r.0, r.1)), ap (λ l. before os ++ 35 ∷ l) r.2 ∙ sym (append_assoc (before os) (35 ∷ decimal w) (b ∷ [])))
+      reached (IsBack (text_of (state os (Label (Some w))) ++ b ∷ [])) (state os (Label (Some n))) s e
+      ((h, (r.0, r.1)), ap (λ l. before os ++ 35 ∷ l) r.2 ∙ sym (append_assoc (before os) (35 ∷ decimal w) (b ∷ [])))
 
 pub step_back : (x : State) (b : ℕ) (s : State) → IsSound x → step x b ≡ Some s → IsBack (text_of x ++ b ∷ []) s
 step_back (state os Begin) b s h e = back_at s _ _ (ap (λ l. l ++ b ∷ []) (sym (append-nil (before os)))) (begun_back os h.0 b s e)
@@ -299,15 +314,21 @@ step_back (state os (Weight o)) b s h e = weighed_back os b s h.0 o (longer_numb
 step_back (state os (Label o)) b s h e = labelled_back os b s h.0 o (longer_count o b) h.1 refl e
 step_back (state os (Number n)) b s h e =
     chosen (IsBack ((before os ++ decimal n) ++ b ∷ [])) (nat_eq b 58) (state (Branch n ∷ os) Begin) (numbered os (longer_number (Some n) b)) s e
-    (λ f. ((((h.1.0, h.1.1), h.0), tt), append-nil (before os ++ (decimal n ++ 58 ∷ [])) ∙ sym (append_assoc (before os) (decimal n) (58 ∷ [])) ∙ ap (λ c. (before os ++ decimal n) ++ c ∷ []) (sym (same_byte b 58 f))))
-    (λ f g. back_at s _ _ (sym (append_assoc (before os) (decimal n) (b ∷ []))) (numbered_back os h.0 (decimal n) (longer_number (Some n) b) b s g (λ m q. let r = longer_back (Some n) b m q in (positive n b m h.1.0 q, r.0, r.1))))
+    (λ f. (
+      (((h.1.0, h.1.1), h.0), tt),
+      append-nil (before os ++ (decimal n ++ 58 ∷ [])) ∙ sym (append_assoc (before os) (decimal n) (58 ∷ []))
+          ∙ ap (λ c. (before os ++ decimal n) ++ c ∷ []) (sym (same_byte b 58 f)),
+    ))
+    (λ f g. back_at s _ _ (sym (append_assoc (before os) (decimal n) (b ∷ [])))
+    (numbered_back os h.0 (decimal n) (longer_number (Some n) b) b s g (λ m q. let r = longer_back (Some n) b m q in (positive n b m h.1.0 q, r.0, r.1))))
   where
     positive : (n b m : ℕ) → 1 ≤ n → longer_number (Some n) b ≡ Some m → 1 ≤ m
     positive zero b m l q = absurd (omega arith)
     positive (suc n) b m l q = let r = if_if_some (is_digit b) (nat_le (suc n) 99999) (10 * suc n + (b - 48)) m q in omega (arith, r.2)
 step_back (state os (Behind t)) b s h e = passed_back os t b s h.0 h.1 e
 
-run_on : (b : ℕ) (bs : List ℕ) (x s : State) (o : Option State) → IsSound x → step x b ≡ o → run_from o bs ≡ Some s → ((y : State) → IsSound y → run y bs ≡ Some s → IsBack (text_of y ++ bs) s) → IsBack (text_of x ++ b ∷ bs) s
+run_on : (b : ℕ) (bs : List ℕ) (x s : State) (o : Option State) → IsSound x → step x b ≡ o → run_from o bs ≡ Some s
+    → ((y : State) → IsSound y → run y bs ≡ Some s → IsBack (text_of y ++ bs) s) → IsBack (text_of x ++ b ∷ bs) s
 run_on b bs x s None h f g next = nowhere (IsBack (text_of x ++ b ∷ bs)) s (sym (stuck bs) ∙ g)
 run_on b bs x s (Some y) h f g next =
     let r = step_back x b y h f in

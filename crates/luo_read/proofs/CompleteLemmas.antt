@@ -35,14 +35,18 @@ inside a b c d e f =
 filled_text : (os : List Open) (t : Tree) → AreOpen os → IsWritten t → IsWritten (filled os t) × (structure_text (filled os t) ≡ (before os ++ structure_text t) ++ rest_of os)
 filled_text [] t h w = (w, sym (nil (structure_text t)))
 filled_text (Branch n ∷ os) t h w =
-    let r = filled_text os (Inj n t) h.1 (h.0.0, h.0.1, w) in
-    (r.0, r.1 ∙ ap (λ l. l ++ rest_of os) (sym (append_assoc (before os) (decimal n ++ 58 ∷ []) (structure_text t) ∙ ap (λ l. before os ++ l) (append_assoc (decimal n) (58 ∷ []) (structure_text t)))))
+    let r = filled_text os (Inj n t) h.1 (h.0.0, h.0.1, w) in (
+      r.0,
+      r.1 ∙ ap (λ l. l ++ rest_of os) (sym (append_assoc (before os) (decimal n ++ 58 ∷ []) (structure_text t)
+          ∙ ap (λ l. before os ++ l) (append_assoc (decimal n) (58 ∷ []) (structure_text t)))),
+    )
 filled_text (Tuple [] ∷ os) t h w =
     let r = filled_text os (Tup (more t (more (Atom 0 0) none))) h.1 (omega arith, (w, (omega arith, tt))) in (
       r.0,
       r.1 ∙ ap (λ l. (before os ++ 40 ∷ ((structure_text t ++ 44 ∷ (97 ∷ (l ++ []))) ++ 41 ∷ [])) ++ rest_of os) (decimal_digit 0 (omega arith))
           ∙ inside (before os) (40 ∷ []) (structure_text t) (44 ∷ (97 ∷ (48 ∷ []))) (41 ∷ []) (rest_of os)
-          ∙ append_assoc (before os ++ 40 ∷ structure_text t) (44 ∷ (97 ∷ (48 ∷ []))) (41 ∷ rest_of os) ∙ ap (λ l. l ++ 44 ∷ (97 ∷ (48 ∷ (41 ∷ rest_of os)))) (sym (append_assoc (before os) (40 ∷ []) (structure_text t))),
+          ∙ append_assoc (before os ++ 40 ∷ structure_text t) (44 ∷ (97 ∷ (48 ∷ []))) (41 ∷ rest_of os)
+          ∙ ap (λ l. l ++ 44 ∷ (97 ∷ (48 ∷ (41 ∷ rest_of os)))) (sym (append_assoc (before os) (40 ∷ []) (structure_text t))),
     )
 filled_text (Tuple (u ∷ us) ∷ os) t h w =
     let ts = (u ∷ us) ++ t ∷ [] in
@@ -60,7 +64,8 @@ completed os at extra t h w e =
       (
         filled os t,
         r.0,
-        r.1 ∙ ap (λ l. (before os ++ l) ++ rest_of os) (sym e) ∙ ap (λ l. l ++ rest_of os) (sym (append_assoc (before os) (stage_text at) extra)) ∙ append_assoc (before os ++ stage_text at) extra (rest_of os),
+        r.1 ∙ ap (λ l. (before os ++ l) ++ rest_of os) (sym e) ∙ ap (λ l. l ++ rest_of os) (sym (append_assoc (before os) (stage_text at) extra))
+            ∙ append_assoc (before os ++ stage_text at) extra (rest_of os),
       ),
     )
 

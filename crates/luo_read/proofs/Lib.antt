@@ -7,3 +7,4 @@ pub mod NestingLemmas
 pub mod ReadLemmas
 pub mod MemberLemmas
 pub mod AnswerLemmas
+pub mod FactLemmas

@@ -2,7 +2,7 @@
 use Rattle.std.proofs.Common.{◌≡◌, ◌↔◌, ◌⊎◌, inl, inr, ⊎_elim, ℕ, zero, suc, ◌+◌, ◌-◌, ◌≤◌, ◌<◌, List, [], ◌∷◌, ◌++◌, Bool, true, false, IsTrue, length, get_or, take, replicate, set, refl, sym, ap, subst, ◌∙◌, arith, add-one}
 use Rattle.std.proofs.lemmas.List.{length-replicate}
 use Rattle.luo_finite.specs.Listing.{In}
-use Rattle.luo_model.specs.Tree.{Tree, label_list, labels_of, all_labels_of}
+use Rattle.luo_model.specs.Tree.{Tree, labels_of, all_labels_of}
 use Rattle.luo_struct.specs.declared.structure.Structure.{Structure}
 use Rattle.luo_struct.specs.View.{tree_of, tree_list}
 use Rattle.luo_read.specs.inner.Marks.{mark, mark_all, AllMarked, HasTo}
@@ -10,10 +10,6 @@ use Rattle.luo_read.specs.inner.Marks.{mark, mark_all, AllMarked, HasTo}
 pub mark_append : (ms : List Bool) (xs ys : List ℕ) → mark_all ms (xs ++ ys) ≡ mark_all (mark_all ms xs) ys
 mark_append ms [] ys = refl
 mark_append ms (x ∷ xs) ys = mark_append (mark ms x) xs ys
-
-pub mark_one : (ms : List Bool) (label : ℕ) → mark_all ms (label_list label) ≡ mark ms label
-mark_one ms zero = refl
-mark_one ms (suc label) = refl
 
 mark_place : (ms : List Bool) (place : ℕ) → place < length ms → set ms place true ≡ mark ms (suc place)
 mark_place [] place h = absurd (omega arith)
@@ -41,7 +37,8 @@ pub marked_next : (ss : List Structure) (i : ℕ) (s : Structure) (ms were now :
     → were ≡ mark_all ms (all_labels_of (tree_list (take i ss))) → now ≡ mark_all were (labels_of (tree_of s)) → now ≡ mark_all ms (all_labels_of (tree_list (take (i + 1) ss)))
 marked_next ss i s ms were now l e w n = n ∙ ap (λ z. mark_all z (labels_of (tree_of s))) w ∙ rw add-one (go ss i s ms l e)
   where
-    go : (ss : List Structure) (i : ℕ) (s : Structure) (ms : List Bool) → i < length ss → s ≡ get_or ss i s → mark_all (mark_all ms (all_labels_of (tree_list (take i ss)))) (labels_of (tree_of s)) ≡ mark_all ms (all_labels_of (tree_list (take (suc i) ss)))
+    go : (ss : List Structure) (i : ℕ) (s : Structure) (ms : List Bool) → i < length ss → s ≡ get_or ss i s
+        → mark_all (mark_all ms (all_labels_of (tree_list (take i ss)))) (labels_of (tree_of s)) ≡ mark_all ms (all_labels_of (tree_list (take (suc i) ss)))
     go [] i s ms l e = absurd (omega arith)
     go (x ∷ ss) zero s ms l e = ap (λ z. mark_all ms (labels_of (tree_of z))) e ∙ sym (mark_append ms (labels_of (tree_of x)) [])
     go (x ∷ ss) (suc i) s ms l e =

@@ -117,8 +117,11 @@ module _ (p : Program) (inv : IsProgram p) where
 
     components_written : (part : Part) (ts : Trees) → FitEach p part ts → AreLow (all_labels_of ts) → AreWritten ts
     components_written part none h low = tt
-    components_written part (more t ts) h low =
-        (fits_written (shape_of p part.node) t (fine part.node) h.0 (λ e x i. low e x (In-append_left x (labels_of t) (all_labels_of ts) i)), components_written part ts h.1 (λ e x i. low e x (In-append_right x (labels_of t) (all_labels_of ts) i)))
+    components_written part (more t ts) h low = (
+      fits_written (shape_of p part.node) t (fine part.node) h.0 (λ e x i. low e x (In-append_left x (labels_of t) (all_labels_of ts) i)),
+      components_written part ts h.1
+          (λ e x i. low e x (In-append_right x (labels_of t) (all_labels_of ts) i)),
+    )
 
   -- in the labelled universe a structure has no more atoms than its text has bytes
   module _ (u : p.universe ≡ Labelled) where
@@ -160,7 +163,8 @@ module _ (p : Program) (inv : IsProgram p) where
     named_written : (t : Tree) → IsNamed p x text t → IsWritten t
     named_written t n =
         fits_written (shape_of p x) t (fine x) n.0.0
-        (λ u y i. let h = subst (λ v. Carries v (labels_from 1 (size_of t)) t) u n.0.2 in omega (arith, labels_below 1 (size_of t) y (h.1 y i), fits_long u (shape_of p x) t (fine x) n.0.0, ap length n.1, l))
+        (λ u y i. let h = subst (λ v. Carries v (labels_from 1 (size_of t)) t) u n.0.2 in omega
+        (arith, labels_below 1 (size_of t) y (h.1 y i), fits_long u (shape_of p x) t (fine x) n.0.0, ap length n.1, l))
 
     -- the structure that is read is the one
     pub named_read : (r t : Tree) → IsRead text r → IsNamed p x text t → t ≡ r

@@ -11,7 +11,9 @@ use Rattle.luo_read.proofs.BackLemmas.{before, text_of, AreOpen, IsSound}
 
 -- ---- a text that ends where something opens is run over
 
-ended_run : (ts : List Tree) (open' : List Tree → Open) (os : List Open) → ((ds : List Tree) (v : Tree) → step (state (open' ds ∷ os) (Behind v)) 44 ≡ Some (state (open' (ds ++ v ∷ []) ∷ os) Begin)) → ((ds : List Tree) (v : Tree) → closed (open' ds ∷ os) v ≡ state (open' ds ∷ os) (Behind v))
+ended_run : (ts : List Tree) (open' : List Tree → Open) (os : List Open)
+    → ((ds : List Tree) (v : Tree) → step (state (open' ds ∷ os) (Behind v)) 44 ≡ Some (state (open' (ds ++ v ∷ []) ∷ os) Begin))
+    → ((ds : List Tree) (v : Tree) → closed (open' ds ∷ os) v ≡ state (open' ds ∷ os) (Behind v))
     → (done : List Tree) → EachWritten ts → (top : List Tree) × (run (state (open' done ∷ os) Begin) (ended ts) ≡ Some (state (open' top ∷ os) Begin))
 ended_run [] open' os comma stays done w = (done, refl)
 ended_run (t ∷ ts) open' os comma stays done w =
@@ -118,7 +120,8 @@ module _ (n : ℕ) where
       ends (u ∷ us) g = is (closed os (Tup (from_list ((u ∷ us) ++ t ∷ [])))) s g (inl (omega (arith, l, closed_depth os (Tup (from_list ((u ∷ us) ++ t ∷ []))))))
   passed_depth (Collection ts ∷ os) t b s l e =
       picks (nat_eq b 44) (Some (state (Collection (ts ++ t ∷ []) ∷ os) Begin)) _ s e (λ f. is (state (Collection (ts ++ t ∷ []) ∷ os) Begin) s f (inl (omega (arith, l))))
-      (λ f. picks (nat_eq b 93) (Some (closed os (Coll (from_list (ts ++ t ∷ []))))) None s f (λ g. is (closed os (Coll (from_list (ts ++ t ∷ [])))) s g (inl (omega (arith, l, closed_depth os (Coll (from_list (ts ++ t ∷ []))))))) (λ g. nowhere s g))
+      (λ f. picks (nat_eq b 93) (Some (closed os (Coll (from_list (ts ++ t ∷ []))))) None s f
+      (λ g. is (closed os (Coll (from_list (ts ++ t ∷ [])))) s g (inl (omega (arith, l, closed_depth os (Coll (from_list (ts ++ t ∷ []))))))) (λ g. nowhere s g))
 
   passed_from_depth : (x : State) (b : ℕ) (s : State) → depth x ≤ n → passed_from x b ≡ Some s → Opens n s
   passed_from_depth (state os Begin) b s l e = nowhere s e
@@ -162,7 +165,8 @@ module _ (n : ℕ) where
   step_depth (state os (Weight o)) b s l e = weighed_depth os o b (longer_number o b) s l e
   step_depth (state os (Label o)) b s l e = labelled_depth os o b (longer_count o b) s l e
   step_depth (state os (Number k)) b s l e =
-      picks (nat_eq b 58) (Some (state (Branch k ∷ os) Begin)) (numbered os (longer_number (Some k) b)) s e (λ f. is (state (Branch k ∷ os) Begin) s f (inr tt)) (λ f. numbered_depth os (longer_number (Some k) b) s l f)
+      picks (nat_eq b 58) (Some (state (Branch k ∷ os) Begin)) (numbered os (longer_number (Some k) b)) s e (λ f. is (state (Branch k ∷ os) Begin) s f (inr tt))
+      (λ f. numbered_depth os (longer_number (Some k) b) s l f)
   step_depth (state os (Behind t)) b s l e = passed_depth os t b s l e
 
 -- ---- what is open, the outermost first

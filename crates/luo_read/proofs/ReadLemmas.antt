@@ -31,10 +31,6 @@ same x y e = cc
 never : (x : State) → None ≡ Some x → ⊥
 never x e = cc
 
-pub within_start : (text : List ℕ) → WithinTo text 0
-within_start text zero l s e = omega (arith, ap depth (same start s e))
-within_start text (suc k) l s e = absurd (omega arith)
-
 take_next : (text : List ℕ) (i b : ℕ) → i < length text → b ≡ get_or text i 0 → take (i + 1) text ≡ take i text ++ b ∷ []
 take_next text i b l e = rw add-one (go text i l e)
   where
@@ -48,7 +44,8 @@ module _ (text : List ℕ) (at b : ℕ) (s : State) (within : at < length text) 
   run_next = ap (run start) (take_next text at b within byte) ∙ run_append (Some start) (take at text) (b ∷ []) ∙ ap (λ o. run_from o (b ∷ [])) ran
 
   within_next : (q : State) → step s b ≡ Some q → depth q ≤ 1000 → WithinTo text at → WithinTo text (at + 1)
-  within_next q e d w k l z r = ⊎_elim (λ (h : k ≤ at). w k h z r) (λ (h : k ≡ at + 1). omega (arith, d, ap depth (same q z (sym e ∙ sym run_next ∙ ap (λ m. run start (take m text)) (sym h) ∙ r)))) (cases k at l)
+  within_next q e d w k l z r = ⊎_elim (λ (h : k ≤ at). w k h z r)
+      (λ (h : k ≡ at + 1). omega (arith, d, ap depth (same q z (sym e ∙ sym run_next ∙ ap (λ m. run start (take m text)) (sym h) ∙ r)))) (cases k at l)
     where
       cases : (k at : ℕ) → k ≤ at + 1 → (k ≤ at) ⊎ (k ≡ at + 1)
       cases k at l = grind arith
@@ -92,7 +89,8 @@ module _ (text : List ℕ) (at b : ℕ) (s : State) (inside : at < length text) 
       further k l h g =
           let z = begins_run (take k text) g in
           let p = take_split text (at + 1) k (omega (arith, l)) h in
-          never z.0 (sym (stuck p.0) ∙ ap (λ o. run_from o p.0) (sym (run_next text at b s inside byte ran ∙ e)) ∙ sym (run_append (Some start) (take (at + 1) text) p.0) ∙ ap (run start) (sym p.1) ∙ z.1)
+          never z.0 (sym (stuck p.0) ∙ ap (λ o. run_from o p.0) (sym (run_next text at b s inside byte ran ∙ e)) ∙ sym (run_append (Some start) (take (at + 1) text) p.0)
+          ∙ ap (run start) (sym p.1) ∙ z.1)
 
   stops_deep : depth s ≤ 1000 → (q : State) → step s b ≡ Some q → depth q ≡ 1001 → Stops text (stopped_as stop.Deep at)
   stops_deep d q e n =

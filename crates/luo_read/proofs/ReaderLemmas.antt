@@ -35,20 +35,21 @@ longer more fs f e = omega (arith, ap length e, length-append fs (f ∷ []))
 
 -- ---- behind a structure
 
-pub branch_closed : (fs less : List Frame) (number : ℕ) (s inner made : Structure) → fs ≡ less ++ frame.Branch number ∷ [] → made ≡ Inj number inner → inner ≡ s → closed (opens_of less) (tree_of made) ≡ closed (opens_of fs) (tree_of s)
+pub branch_closed : (fs less : List Frame) (number : ℕ) (s inner made : Structure) → fs ≡ less ++ frame.Branch number ∷ [] → made ≡ Inj number inner → inner ≡ s
+    → closed (opens_of less) (tree_of made) ≡ closed (opens_of fs) (tree_of s)
 branch_closed fs less number s inner made e m i =
-    ap (closed (opens_of less)) (branch_tree made number inner inner m refl ∙ ap (λ z. tree.Inj number (tree_of z)) i) ∙ ap (λ os. closed os (tree_of s)) (sym (opens_pushed less fs (frame.Branch number) e))
+    ap (closed (opens_of less)) (branch_tree made number inner inner m refl ∙ ap (λ z. tree.Inj number (tree_of z)) i)
+    ∙ ap (λ os. closed os (tree_of s)) (sym (opens_pushed less fs (frame.Branch number) e))
 
-pub tuple_stays : (fs less more : List Frame) (parts : List Structure) (s : Structure) → fs ≡ less ++ frame.Tuple parts ∷ [] → more ≡ less ++ frame.Tuple parts ∷ [] → state (opens_of more) (Behind (tree_of s)) ≡ closed (opens_of fs) (tree_of s)
+pub tuple_stays : (fs less more : List Frame) (parts : List Structure) (s : Structure) → fs ≡ less ++ frame.Tuple parts ∷ [] → more ≡ less ++ frame.Tuple parts ∷ []
+    → state (opens_of more) (Behind (tree_of s)) ≡ closed (opens_of fs) (tree_of s)
 tuple_stays fs less more parts s e m =
     ap (λ os. state os (Behind (tree_of s))) (opens_pushed less more (frame.Tuple parts) m) ∙ ap (λ os. closed os (tree_of s)) (sym (opens_pushed less fs (frame.Tuple parts) e))
 
-pub collection_stays : (fs less more : List Frame) (parts : List Structure) (s : Structure) → fs ≡ less ++ frame.Collection parts ∷ [] → more ≡ less ++ frame.Collection parts ∷ [] → state (opens_of more) (Behind (tree_of s)) ≡ closed (opens_of fs) (tree_of s)
+pub collection_stays : (fs less more : List Frame) (parts : List Structure) (s : Structure) → fs ≡ less ++ frame.Collection parts ∷ [] → more ≡ less ++ frame.Collection parts ∷ []
+    → state (opens_of more) (Behind (tree_of s)) ≡ closed (opens_of fs) (tree_of s)
 collection_stays fs less more parts s e m =
     ap (λ os. state os (Behind (tree_of s))) (opens_pushed less more (frame.Collection parts) m) ∙ ap (λ os. closed os (tree_of s)) (sym (opens_pushed less fs (frame.Collection parts) e))
-
-pub empty_stays : (fs less : List Frame) (s : Structure) → fs ≡ [] → less ≡ [] → state (opens_of less) (Behind (tree_of s)) ≡ closed (opens_of fs) (tree_of s)
-empty_stays fs less s e m = ap (λ l. state (opens_of l) (Behind (tree_of s))) m ∙ ap (λ l. closed (opens_of l) (tree_of s)) (sym e)
 
 -- ---- the parts of a structure
 
@@ -74,7 +75,8 @@ whole_collection parts = collection_tree (Coll parts) parts parts refl refl ∙ 
 
 -- ---- how a reader goes on
 
-pub goes : (o : Option State) (st : State) (n : ℕ) (r : Result Reader Stop) → o ≡ Some st → n ≤ 1000 → IfOk r (λ x. (state_of x ≡ st) × (length x.frames ≤ n)) → IfErr r (λ e. e ≡ stop.NoMemory) → Goes o r
+pub goes : (o : Option State) (st : State) (n : ℕ) (r : Result Reader Stop) → o ≡ Some st → n ≤ 1000 → IfOk r (λ x. (state_of x ≡ st) × (length x.frames ≤ n))
+    → IfErr r (λ e. e ≡ stop.NoMemory) → Goes o r
 goes o st n (Ok x) e l h k = (e ∙ ap Some (sym h.0), omega (arith, h.1, l))
 goes o st n (Err x) e l h k = subst (Halts o) (sym k) tt
 
@@ -89,13 +91,19 @@ opens_few fs = omega (arith, opens_long [] fs)
 module _ (fs : List Frame) (parts : List Structure) (s : Structure) (b : ℕ) (few : length fs < 1000) where
   pub tuple_comma : (more : List Structure) (next : List Frame) → b ≡ 44 → more ≡ parts ++ s ∷ [] → next ≡ fs ++ frame.Tuple more ∷ []
       → (passed (Tuple (map tree_of parts) ∷ opens_of fs) (tree_of s) b ≡ Some (state (opens_of next) Begin)) × (length next ≤ 1000)
-  tuple_comma more next e m n =
-      (ap (passed (Tuple (map tree_of parts) ∷ opens_of fs) (tree_of s)) e ∙ ap (λ l. Some (state (Tuple l ∷ opens_of fs) Begin)) (sym (parts_snoc parts more s m)) ∙ ap (λ os. Some (state os Begin)) (sym (opens_pushed fs next (frame.Tuple more) n)), omega (arith, few, longer next fs (frame.Tuple more) n))
+  tuple_comma more next e m n = (
+    ap (passed (Tuple (map tree_of parts) ∷ opens_of fs) (tree_of s)) e ∙ ap (λ l. Some (state (Tuple l ∷ opens_of fs) Begin)) (sym (parts_snoc parts more s m))
+        ∙ ap (λ os. Some (state os Begin)) (sym (opens_pushed fs next (frame.Tuple more) n)),
+    omega (arith, few, longer next fs (frame.Tuple more) n),
+  )
 
   pub collection_comma : (more : List Structure) (next : List Frame) → b ≡ 44 → more ≡ parts ++ s ∷ [] → next ≡ fs ++ frame.Collection more ∷ []
       → (passed (Collection (map tree_of parts) ∷ opens_of fs) (tree_of s) b ≡ Some (state (opens_of next) Begin)) × (length next ≤ 1000)
-  collection_comma more next e m n =
-      (ap (passed (Collection (map tree_of parts) ∷ opens_of fs) (tree_of s)) e ∙ ap (λ l. Some (state (Collection l ∷ opens_of fs) Begin)) (sym (parts_snoc parts more s m)) ∙ ap (λ os. Some (state os Begin)) (sym (opens_pushed fs next (frame.Collection more) n)), omega (arith, few, longer next fs (frame.Collection more) n))
+  collection_comma more next e m n = (
+    ap (passed (Collection (map tree_of parts) ∷ opens_of fs) (tree_of s)) e ∙ ap (λ l. Some (state (Collection l ∷ opens_of fs) Begin)) (sym (parts_snoc parts more s m))
+        ∙ ap (λ os. Some (state os Begin)) (sym (opens_pushed fs next (frame.Collection more) n)),
+    omega (arith, few, longer next fs (frame.Collection more) n),
+  )
 
   pub tuple_end : (more : List Structure) (r : Result Reader Stop) → b ≡ 41 → 1 ≤ length parts → more ≡ parts ++ s ∷ []
       → IfOk r (λ x. (state_of x ≡ closed (opens_of fs) (tree_of (Tup more))) × (length x.frames ≤ length fs)) → IfErr r (λ e. e ≡ stop.NoMemory)
@@ -104,7 +112,8 @@ module _ (fs : List Frame) (parts : List Structure) (s : Structure) (b : ℕ) (f
       goes _ (closed (opens_of fs) (tree_of (Tup more))) (length fs) r
       (ap (passed (Tuple (map tree_of parts) ∷ opens_of fs) (tree_of s)) e ∙ two parts l ∙ ap (λ t. Some (closed (opens_of fs) t)) (sym (tuple_of parts more s m))) (omega (arith, few)) h k
     where
-      two : (ps : List Structure) → 1 ≤ length ps → passed (Tuple (map tree_of ps) ∷ opens_of fs) (tree_of s) 41 ≡ Some (closed (opens_of fs) (tree.Tup (from_list (map tree_of ps ++ tree_of s ∷ []))))
+      two : (ps : List Structure) → 1 ≤ length ps → passed (Tuple (map tree_of ps) ∷ opens_of fs) (tree_of s) 41 ≡ Some
+          (closed (opens_of fs) (tree.Tup (from_list (map tree_of ps ++ tree_of s ∷ []))))
       two [] l = absurd (omega arith)
       two (p ∷ ps) l = refl
 
@@ -116,7 +125,8 @@ module _ (fs : List Frame) (parts : List Structure) (s : Structure) (b : ℕ) (f
       (ap (passed (Collection (map tree_of parts) ∷ opens_of fs) (tree_of s)) e ∙ ap (λ t. Some (closed (opens_of fs) t)) (sym (collection_of parts more s m))) (omega (arith, few)) h k
 
 -- the byte behind a structure, by what is open innermost
-pub passed_top : (fs less : List Frame) (f : Frame) (s : Structure) (b : ℕ) (r : Result Reader Stop) → fs ≡ less ++ f ∷ [] → Goes (passed (open_of f ∷ opens_of less) (tree_of s) b) r → Goes (passed (opens_of fs) (tree_of s) b) r
+pub passed_top : (fs less : List Frame) (f : Frame) (s : Structure) (b : ℕ) (r : Result Reader Stop) → fs ≡ less ++ f ∷ [] → Goes (passed (open_of f ∷ opens_of less) (tree_of s) b) r
+    → Goes (passed (opens_of fs) (tree_of s) b) r
 passed_top fs less f s b r e h = goes_same _ _ r (ap (λ os. passed os (tree_of s) b) (opens_pushed less fs f e)) h
 
 pub not_empty : {X : Type 0} (xs : List X) (r : Bool) → (IsTrue r ↔ (xs ≡ [])) → r ≡ false → 1 ≤ length xs
@@ -143,3 +153,9 @@ not_end r st e n t f = n (sym (opens_few r.frames) ∙ ap depth (e ∙ f))
 
 pub few_open : (r : Reader) → length r.frames ≤ 1000 → depth (state_of r) ≤ 1000
 few_open r l = omega (arith, l, depth_frames r)
+
+pub still_few : (fs same : List Frame) (r : Bool) → length fs ≤ 1000 → same ≡ fs → (IsTrue r ↔ (length same ≡ 1000)) → r ≡ false → length fs < 1000
+still_few fs same r l e d f = below (length fs) l (λ n. failed r d f (ap length e ∙ n))
+  where
+    below : (n : ℕ) → n ≤ 1000 → (n ≡ 1000 → ⊥) → n < 1000
+    below n l h = omega (arith, l, h)

@@ -46,10 +46,12 @@ settled_steps (state os Begin) b e = refl
 settled_steps (state os First) b e = refl
 settled_steps (state os (Weight None)) b e = refl
 settled_steps (state os (Weight (Some zero))) b e = closed_steps os (Atom 0 0) b
-settled_steps (state os (Weight (Some (suc n)))) b e = closed_steps os (Atom (suc n) 0) b ∙ ap (λ t. weighed os (Some (suc n)) b (if t then (if nat_le (suc n) 99999 then Some (10 * suc n + (b - 48)) else None) else None)) (sym e)
+settled_steps (state os (Weight (Some (suc n)))) b e = closed_steps os (Atom (suc n) 0) b
+    ∙ ap (λ t. weighed os (Some (suc n)) b (if t then (if nat_le (suc n) 99999 then Some (10 * suc n + (b - 48)) else None) else None)) (sym e)
 settled_steps (state os (Label None)) b e = refl
 settled_steps (state os (Label (Some zero))) b e = closed_steps os (Atom 1 0) b
-settled_steps (state os (Label (Some (suc n)))) b e = closed_steps os (Atom 1 (suc n)) b ∙ ap (λ t. labelled os (Some (suc n)) b (not_zero (if t then (if nat_le (suc n) 99999 then Some (10 * suc n + (b - 48)) else None) else None))) (sym e)
+settled_steps (state os (Label (Some (suc n)))) b e = closed_steps os (Atom 1 (suc n)) b
+    ∙ ap (λ t. labelled os (Some (suc n)) b (not_zero (if t then (if nat_le (suc n) 99999 then Some (10 * suc n + (b - 48)) else None) else None))) (sym e)
 settled_steps (state os (Number n)) b e = refl
 settled_steps (state os (Behind t)) b e = refl
 
@@ -94,13 +96,15 @@ chosen false false false false u v w x y e f g h = refl
 
 branch_first : (os : List Open) (d : ℕ) → 1 ≤ d → d < 10 → step (state os Begin) (48 + d) ≡ Some (state os (Number d))
 branch_first os d l h =
-    chosen (nat_eq (48 + d) 40) (nat_eq (48 + d) 91) (nat_eq (48 + d) 97) (nat_eq (48 + d) 35) (Some (state (Tuple [] ∷ os) Begin)) (Some (state (Collection [] ∷ os) First)) (Some (state os (Weight None))) (Some (state os (Label None))) (numbered os (longer_count None (48 + d)))
+    chosen (nat_eq (48 + d) 40) (nat_eq (48 + d) 91) (nat_eq (48 + d) 97) (nat_eq (48 + d) 35) (Some (state (Tuple [] ∷ os) Begin)) (Some (state (Collection [] ∷ os) First))
+    (Some (state os (Weight None))) (Some (state os (Label None))) (numbered os (longer_count None (48 + d)))
     (eq_false (48 + d) 40 (λ e. omega (arith, e))) (eq_false (48 + d) 91 (λ e. omega (arith, e))) (eq_false (48 + d) 97 (λ e. omega (arith, e))) (eq_false (48 + d) 35 (λ e. omega (arith, e)))
     ∙ ap (λ o. numbered os (not_zero o)) (first_is d h) ∙ ap (numbered os) (counts d l)
 
 pub branch_run : (os : List Open) (n : ℕ) → 1 ≤ n → n ≤ 999999 → run (state os Begin) (decimal n) ≡ Some (state os (Number n))
 branch_run os n l h = number_run os Begin Number 1 (omega arith) (branch_first os)
-    (λ m d l g k. ap (λ t. if t then Some (state (Branch m ∷ os) Begin) else numbered os (longer_number (Some m) (48 + d))) (eq_false (48 + d) 58 (λ e. omega (arith, e))) ∙ ap (numbered os) (next_is m d l g k)) n n (omega arith) l h
+    (λ m d l g k. ap (λ t. if t then Some (state (Branch m ∷ os) Begin) else numbered os (longer_number (Some m) (48 + d))) (eq_false (48 + d) 58 (λ e. omega (arith, e)))
+    ∙ ap (numbered os) (next_is m d l g k)) n n (omega arith) l h
 
 from_to : (ts : Trees) → from_list (to_list ts) ≡ ts
 from_to none = refl
@@ -135,14 +139,16 @@ collection_ends os done u (v ∷ vs) = collection_ends os (done ++ u ∷ []) v v
 pub branch_run_first : (os : List Open) (n : ℕ) → 1 ≤ n → n ≤ 999999 → run (state os First) (decimal n) ≡ Some (state os (Number n))
 branch_run_first os n l h = number_run os First Number 1 (omega arith)
     (λ d l k. ap (λ t. if t then emptied os else begun os (48 + d)) (eq_false (48 + d) 93 (λ e. omega (arith, e))) ∙ branch_first os d l k)
-    (λ m d l g k. ap (λ t. if t then Some (state (Branch m ∷ os) Begin) else numbered os (longer_number (Some m) (48 + d))) (eq_false (48 + d) 58 (λ e. omega (arith, e))) ∙ ap (numbered os) (next_is m d l g k)) n n (omega arith) l h
+    (λ m d l g k. ap (λ t. if t then Some (state (Branch m ∷ os) Begin) else numbered os (longer_number (Some m) (48 + d))) (eq_false (48 + d) 58 (λ e. omega (arith, e)))
+    ∙ ap (numbered os) (next_is m d l g k)) n n (omega arith) l h
 
 -- the first component of a collection is read as any structure
 pub first_run : (t : Tree) (os : List Open) → IsWritten t → run (state os First) (structure_text t) ≡ run (state os Begin) (structure_text t)
 first_run (Atom weight zero) os w = refl
 first_run (Atom weight (suc label)) os w = refl
 first_run (Inj branch t) os w =
-    run_append (Some (state os First)) (decimal branch) (58 ∷ structure_text t) ∙ ap (λ o. run_from o (58 ∷ structure_text t)) (branch_run_first os branch w.0 w.1 ∙ sym (branch_run os branch w.0 w.1))
+    run_append (Some (state os First)) (decimal branch) (58 ∷ structure_text t)
+    ∙ ap (λ o. run_from o (58 ∷ structure_text t)) (branch_run_first os branch w.0 w.1 ∙ sym (branch_run os branch w.0 w.1))
     ∙ sym (run_append (Some (state os Begin)) (decimal branch) (58 ∷ structure_text t))
 first_run (Tup ts) os w = refl
 first_run (Coll ts) os w = refl
@@ -166,7 +172,8 @@ mutual
         ran = ap (λ l. run (state (Tuple [] ∷ os) Begin) l) (append_assoc (structure_text t) (followed (more u ts)) (41 ∷ []))
             ∙ run_append (Some (state (Tuple [] ∷ os) Begin)) (structure_text t) (followed (more u ts) ++ 41 ∷ []) ∙ ap (λ o. run_from o (followed (more u ts) ++ 41 ∷ [])) one.ran
             ∙ run_append (Some one.at) (followed (more u ts)) (41 ∷ []) ∙ ap (λ o. run_from o (41 ∷ [])) rest.ran
-            ∙ sym (settled_steps rest.at 41 refl) ∙ ap (λ s. step s 41) rest.stands ∙ tuple_ends os [] (normal t) (normal u) (to_list (all_normal ts)) ∙ ap (λ us. Some (closed os (Tup (more (normal t) (more (normal u) us))))) (from_to (all_normal ts));
+            ∙ sym (settled_steps rest.at 41 refl) ∙ ap (λ s. step s 41) rest.stands ∙ tuple_ends os [] (normal t) (normal u) (to_list (all_normal ts))
+            ∙ ap (λ us. Some (closed os (Tup (more (normal t) (more (normal u) us))))) (from_to (all_normal ts));
         stands = closed_settled os (Tup (all_normal (more t (more u ts))));
       }
   tree_run (Coll none) os w = record { at = closed os (Coll none); ran = refl; stands = closed_settled os (Coll none) }
@@ -175,13 +182,17 @@ mutual
       let rest = parts_run ts Collection os (λ ds v. refl) (λ ds v. refl) [] (normal t) one.at one.stands w.1 in record {
         at = closed os (Coll (all_normal (more t ts)));
         ran = ap (λ l. run (state (Collection [] ∷ os) First) l) (append_assoc (structure_text t) (followed ts) (93 ∷ []))
-            ∙ run_append (Some (state (Collection [] ∷ os) First)) (structure_text t) (followed ts ++ 93 ∷ []) ∙ ap (λ o. run_from o (followed ts ++ 93 ∷ [])) (first_run t (Collection [] ∷ os) w.0 ∙ one.ran)
+            ∙ run_append (Some (state (Collection [] ∷ os) First)) (structure_text t) (followed ts ++ 93 ∷ [])
+            ∙ ap (λ o. run_from o (followed ts ++ 93 ∷ [])) (first_run t (Collection [] ∷ os) w.0 ∙ one.ran)
             ∙ run_append (Some one.at) (followed ts) (93 ∷ []) ∙ ap (λ o. run_from o (93 ∷ [])) rest.ran
-            ∙ sym (settled_steps rest.at 93 refl) ∙ ap (λ s. step s 93) rest.stands ∙ collection_ends os [] (normal t) (to_list (all_normal ts)) ∙ ap (λ us. Some (closed os (Coll (more (normal t) us)))) (from_to (all_normal ts));
+            ∙ sym (settled_steps rest.at 93 refl) ∙ ap (λ s. step s 93) rest.stands ∙ collection_ends os [] (normal t) (to_list (all_normal ts))
+            ∙ ap (λ us. Some (closed os (Coll (more (normal t) us)))) (from_to (all_normal ts));
         stands = closed_settled os (Coll (all_normal (more t ts)));
       }
 
-  parts_run : (ts : Trees) (open' : List Tree → Open) (os : List Open) → ((ds : List Tree) (v : Tree) → step (state (open' ds ∷ os) (Behind v)) 44 ≡ Some (state (open' (ds ++ v ∷ []) ∷ os) Begin)) → ((ds : List Tree) (v : Tree) → closed (open' ds ∷ os) v ≡ state (open' ds ∷ os) (Behind v))
+  parts_run : (ts : Trees) (open' : List Tree → Open) (os : List Open)
+      → ((ds : List Tree) (v : Tree) → step (state (open' ds ∷ os) (Behind v)) 44 ≡ Some (state (open' (ds ++ v ∷ []) ∷ os) Begin))
+      → ((ds : List Tree) (v : Tree) → closed (open' ds ∷ os) v ≡ state (open' ds ∷ os) (Behind v))
       → (done : List Tree) (u : Tree) (s : State) → settled s ≡ state (open' done ∷ os) (Behind u) → AreWritten ts → Leads s (followed ts) (behind_parts open' os done u (to_list (all_normal ts)))
   parts_run none open' os comma stays done u s e w = record { at = s; ran = refl; stands = e }
   parts_run (more t ts) open' os comma stays done u s e w =

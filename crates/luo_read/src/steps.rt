@@ -1,5 +1,5 @@
 // A reader goes on by a byte.
-ghost use Rattle.std.specs.Prelude.{◌≡◌, ◌≤◌, ◌<◌, Some, [], ◌∷◌, map, length, IfOk, IfErr};
+ghost use Rattle.std.specs.Prelude.{◌≡◌, ◌≤◌, ◌<◌, ◌↔◌, IsTrue, Some, [], ◌∷◌, map, length, IfOk, IfErr};
 ghost use Rattle.luo_num.specs.declared.limits.TheConstants.{NESTING_LIMIT};
 ghost use Rattle.luo_model.specs.Tree.{Atom};
 ghost use Rattle.luo_struct.specs.View.{tree_of};
@@ -88,12 +88,19 @@ fn behind(alloc: Global, frames: Items<Frame>, s: Structure) -> Result<Reader, S
     })
 }
 
+// Whether as many are open as may be.
+fn is_full(frames: &[Frame]) -> bool
+    ensures { IsTrue result ↔ (length frames.now ≡ NESTING_LIMIT) }
+{
+    frames.len() == NESTING_LIMIT
+}
+
 // Opens one more.
 fn opened(mut frames: Items<Frame>, frame: Frame, stage: Stage) -> Result<Reader, Stop>
     requires few { length frames ≤ NESTING_LIMIT }
     ensures { Goes (Some (state (open_of frame ∷ opens_of frames) (stage_of stage))) result }
 {
-    if frames.len() == NESTING_LIMIT {
+    if is_full(frames.as_slice()) {
         return Err(Stop::Deep);
     }
     frames.push(frame)?;

@@ -16,7 +16,8 @@ returns-then-not-member c = record {
 pub returns-in-Unlabelled : goal.returns-in-Unlabelled
 returns-in-Unlabelled c = record {
   of_program = subst (λ (h : Held). IsProgram (plain_of h)) c.program.view_is c.program.invariant;
-  is = whole_unlabelled (plain_of c.args.program.now) c.args.node (tree_of c.args.s.now) (c.member.ensures.0 c.if-not-member.false) (sym (ap (λ (h : Held). h.universe) c.program.view_is) ∙ c.in-Unlabelled.is);
+  is = whole_unlabelled (plain_of c.args.program.now) c.args.node (tree_of c.args.s.now) (c.member.ensures.0 c.if-not-member.false)
+      (sym (ap (λ (h : Held). h.universe) c.program.view_is) ∙ c.in-Unlabelled.is);
 }
 
 pub returns-in-Labelled : goal.returns-in-Labelled

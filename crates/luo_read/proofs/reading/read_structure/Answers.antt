@@ -12,14 +12,16 @@ returns-in_err-s-clause-always c =
     let p = plain_of c.args.program.now in
     let e = c.in_err-s.field-0.0 in
     λ t r. passed_on c.from_residual.result e (λ s. tree_of s ≡ t) WantsMemory c.from_residual.ensures.1
-    (early_always p c.args.node c.args.text.now e (stops_early p c.args.node c.args.text.now e c.in_err-s.ensures) (stops_refuses p c.args.node c.args.text.now e c.if-text-gt-STRUCTURE_TEXT_LIMIT.false c.in_err-s.ensures) t r)
+    (early_always p c.args.node c.args.text.now e (stops_early p c.args.node c.args.text.now e c.in_err-s.ensures)
+    (stops_refuses p c.args.node c.args.text.now e c.if-text-gt-STRUCTURE_TEXT_LIMIT.false c.in_err-s.ensures) t r)
 
 pub returns-in_err-s-clause-first : goal.returns-in_err-s-clause-first
 returns-in_err-s-clause-first c =
     let p = plain_of c.args.program.now in
     let e = c.in_err-s.field-0.0 in
     λ f h. passed_on c.from_residual.result e (λ s. ⊥) (Answers f) c.from_residual.ensures.1
-    (early_first p c.args.node c.args.text.now e (stops_early p c.args.node c.args.text.now e c.in_err-s.ensures) (stops_refuses p c.args.node c.args.text.now e c.if-text-gt-STRUCTURE_TEXT_LIMIT.false c.in_err-s.ensures) f h)
+    (early_first p c.args.node c.args.text.now e (stops_early p c.args.node c.args.text.now e c.in_err-s.ensures)
+    (stops_refuses p c.args.node c.args.text.now e c.if-text-gt-STRUCTURE_TEXT_LIMIT.false c.in_err-s.ensures) f h)
 
 pub is_structure-requires : goal.is_structure-requires
 is_structure-requires c = record { small = read_small c.args.text.now (tree_of c.in_ok-s.s) c.in_ok-s.ensures c.if-text-gt-STRUCTURE_TEXT_LIMIT.false }

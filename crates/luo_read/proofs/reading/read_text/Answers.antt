@@ -7,11 +7,14 @@ use Rattle.luo_read.proofs.reading.read_text.Goals as goal
 pub returns-in-Err : goal.returns-in-Err
 returns-in-Err c =
     subst (Stops c.args.text.now) (sym c.stopped.ensures)
-    (stops_at c.args.text.now c.loop-at.at (get_or c.args.text.now c.loop-at.at 0) (state_of c.loop-at.reader) c.loop-at-test.true refl c.loop-at.invariant.ran c.loop-at.invariant.within (few_open c.loop-at.reader c.loop-at.invariant.few) c.in-Err.stop c.in-Err.ensures)
+    (stops_at c.args.text.now c.loop-at.at (get_or c.args.text.now c.loop-at.at 0)
+    (state_of c.loop-at.reader) c.loop-at-test.true refl c.loop-at.invariant.ran c.loop-at.invariant.within (few_open c.loop-at.reader c.loop-at.invariant.few) c.in-Err.stop c.in-Err.ensures)
 
 pub loop-at-preserved : goal.loop-at-preserved
 loop-at-preserved c =
-    let r = next_read c.args.text.now c.loop-at.at (get_or c.args.text.now c.loop-at.at 0) (state_of c.loop-at.reader) c.loop-at-test.true refl c.loop-at.invariant.ran c.loop-at.invariant.within (state_of c.in-Ok.next) c.in-Ok.ensures.0 (few_open c.in-Ok.next c.in-Ok.ensures.1) in
+    let r = next_read c.args.text.now c.loop-at.at (get_or c.args.text.now c.loop-at.at 0)
+    (state_of c.loop-at.reader) c.loop-at-test.true refl c.loop-at.invariant.ran c.loop-at.invariant.within (state_of c.in-Ok.next) c.in-Ok.ensures.0
+    (few_open c.in-Ok.next c.in-Ok.ensures.1) in
     record { ran = r.0; few = c.in-Ok.ensures.1; within = r.1 }
 
 pub returns-in-Ok-finished : goal.returns-in-Ok-finished

@@ -2,7 +2,9 @@ use Rattle.luo_read.proofs.ReaderLemmas.{collection_comma, collection_end}
 use Rattle.luo_read.proofs.steps.collection_passed.Goals as goal
 
 pub returns-in_ok-push-in-44-2 : goal.returns-in_ok-push-in-44-2
-returns-in_ok-push-in-44-2 c = collection_comma c.args.frames c.args.parts c.args.s c.args.byte c.requires.few c.push.new.self c.push-in-44.new.self c.in-44.is c.in_ok-push-in-44.ensures.ok c.in_ok-push-in-44-2.ensures.ok
+returns-in_ok-push-in-44-2 c =
+    collection_comma c.args.frames c.args.parts c.args.s c.args.byte c.requires.few c.push.new.self c.push-in-44.new.self
+    c.in-44.is c.in_ok-push-in-44.ensures.ok c.in_ok-push-in-44-2.ensures.ok
 
 pub returns-in_ok-push-in-93 : goal.returns-in_ok-push-in-93
 returns-in_ok-push-in-93 c =

@@ -11,8 +11,10 @@ returns-in-Branch c =
 
 pub returns-in-Tuple : goal.returns-in-Tuple
 returns-in-Tuple c =
-    passed_top c.args.frames c.pop.new.self (Tuple c.in-Tuple.parts) c.args.s c.args.byte c.tuple_passed.result (c.in-Some.ensures ∙ ap (λ f. c.pop.new.self ++ f ∷ []) c.in-Tuple.is) c.tuple_passed.ensures
+    passed_top c.args.frames c.pop.new.self (Tuple c.in-Tuple.parts) c.args.s c.args.byte c.tuple_passed.result
+    (c.in-Some.ensures ∙ ap (λ f. c.pop.new.self ++ f ∷ []) c.in-Tuple.is) c.tuple_passed.ensures
 
 pub returns-in-Collection : goal.returns-in-Collection
 returns-in-Collection c =
-    passed_top c.args.frames c.pop.new.self (Collection c.in-Collection.parts) c.args.s c.args.byte c.collection_passed.result (c.in-Some.ensures ∙ ap (λ f. c.pop.new.self ++ f ∷ []) c.in-Collection.is) c.collection_passed.ensures
+    passed_top c.args.frames c.pop.new.self (Collection c.in-Collection.parts) c.args.s c.args.byte c.collection_passed.result
+    (c.in-Some.ensures ∙ ap (λ f. c.pop.new.self ++ f ∷ []) c.in-Collection.is) c.collection_passed.ensures

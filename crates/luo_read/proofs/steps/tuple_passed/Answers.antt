@@ -2,7 +2,9 @@ use Rattle.luo_read.proofs.ReaderLemmas.{tuple_comma, tuple_end, not_empty}
 use Rattle.luo_read.proofs.steps.tuple_passed.Goals as goal
 
 pub returns-in_ok-push-in-44-2 : goal.returns-in_ok-push-in-44-2
-returns-in_ok-push-in-44-2 c = tuple_comma c.args.frames c.args.parts c.args.s c.args.byte c.requires.few c.push.new.self c.push-in-44.new.self c.in-44.is c.in_ok-push-in-44.ensures.ok c.in_ok-push-in-44-2.ensures.ok
+returns-in_ok-push-in-44-2 c =
+    tuple_comma c.args.frames c.args.parts c.args.s c.args.byte c.requires.few c.push.new.self c.push-in-44.new.self
+    c.in-44.is c.in_ok-push-in-44.ensures.ok c.in_ok-push-in-44-2.ensures.ok
 
 pub returns-in_ok-push-in-41 : goal.returns-in_ok-push-in-41
 returns-in_ok-push-in-41 c =
