@@ -174,7 +174,8 @@ fn collection_passed(
     byte: u8,
 ) -> Result<Reader, Stop>
     requires few { length frames < NESTING_LIMIT }
-    ensures { Goes (passed (Collection (map tree_of parts) ∷ opens_of frames) (tree_of s) byte) result }
+    ensures { Goes (passed (Collection (map tree_of parts) ∷ opens_of frames) (tree_of s) byte)
+        result }
 {
     match byte {
         b',' => {
