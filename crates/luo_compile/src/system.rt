@@ -1,10 +1,11 @@
 // The equations of a program.
 ghost use Rattle.std.specs.Prelude.{◌≡◌, ◌++◌, IfOk, OnOk, map};
 ghost use Rattle.luo_model.specs.View.{plain_of};
+ghost use Rattle.luo_equation.specs.Expr.{Table};
 ghost use Rattle.luo_equation.specs.View.{equation_of};
 ghost use Rattle.luo_model.specs.Founded.{IsFounded};
 ghost use Rattle.luo_system.specs.System.{defs_from, procs_from, system};
-ghost use Rattle.luo_system.specs.Holding.{Describe};
+ghost use Rattle.luo_system.specs.Holding.{Describe, IsTableOf};
 
 use crate::bodies::body_descriptor;
 use crate::parts::part_of;
@@ -55,13 +56,17 @@ fn put_procedures(
 /// The equations of a program in plain form: for each definition that of its series, then for each
 /// procedure that of its descriptor, the generating function of its charges (Flajolet, Salvy and
 /// Zimmermann 1991). In a founded program they hold of its counts and totals at every size, and no
-/// other numbers that start with zeros satisfy them.
+/// other numbers that start with zeros satisfy them; so one table of integers has the rows of all
+/// procedures, and is the one of these equations.
 pub fn descriptors(alloc: Global, program: &Program) -> Result<Vec<Equation>, NoMemory>
     ensures equations { IfOk result (λ es.
         map equation_of es.items ≡ system (plain_of program.now)) }
     ensures describe { IfOk result (λ es.
         IsFounded (plain_of program.now)
         → Describe (plain_of program.now) (map equation_of es.items)) }
+    ensures table { IfOk result (λ es.
+        IsFounded (plain_of program.now)
+        → (t : Table) × IsTableOf (plain_of program.now) (map equation_of es.items) t) }
 {
     // A field that is read gives what holds of every program.
     let _universe = program.universe;
