@@ -5,3 +5,5 @@ pub mod Both
 pub mod ListPlaces
 pub mod BagPlaces
 pub mod TreePlaces
+pub mod Someone
+pub mod Tails

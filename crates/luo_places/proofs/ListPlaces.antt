@@ -4,6 +4,7 @@ use Rattle.std.proofs.lemmas.List.Concat.{flat_map-cons}
 use Rattle.luo_finite.specs.Listing.{In, Sums, Pairwise}
 use Rattle.luo_finite.specs.Range.{sum_below}
 use Rattle.luo_finite.proofs.Sums.{Sums-iff, Sums-map}
+use Rattle.luo_finite.proofs.Ranges.{Sums-by_key}
 use Rattle.luo_model.specs.declared.program.Universe.{Universe}
 use Rattle.luo_model.specs.declared.program.Universe.TheVariants.{Labelled}
 use Rattle.luo_model.specs.declared.program.Kind.TheVariants.{Sequence}
@@ -22,11 +23,11 @@ use Rattle.luo_counting.proofs.Two.{IsSized, PairOn, Sums-two}
 use Rattle.luo_counting.proofs.Rows.{rows_sized, cons_one}
 use Rattle.luo_counting.proofs.Led.{first_has, has_first}
 use Rattle.luo_finite.specs.Places.{IsPlace, Lex, Lexical, IsChoice}
-use Rattle.luo_places.specs.Numbers.{ways, pair_place, IsPart, ListBefore, one_less, AllowsOne}
+use Rattle.luo_places.specs.Numbers.{ways, led_ways, pair_place, IsPart, ListBefore, one_less, AllowsOne}
 use Rattle.luo_finite.proofs.OrderedPlaces.{Place-iff, Place-map}
 use Rattle.luo_places.proofs.Orderings.{IsByRoom, In-sorted, sorted_In}
 use Rattle.luo_finite.proofs.Choices.{led_place, led_counted, none_led}
-use Rattle.luo_places.proofs.Pairs.{labelled_place, both_counted}
+use Rattle.luo_places.proofs.Pairs.{labelled_place, size_group, both_counted}
 use Rattle.luo_places.proofs.Both.{Place-two}
 
 -- bounds behind one component
@@ -142,30 +143,38 @@ module _ {A : Type 0} (M : A → Type 0) (size : A → ℕ) (lab : A → List �
           let k = (heads x xs m.1.0 m.1.1 h).0 m.2 in
           ((x, xs), ((m.1.0, (within_rest low high (length xs) m.0, m.1.1, k.1), m.3, h), sorted_In (lab x) l k.0), refl)
 
-      -- the ways to choose k labels of n of which the least is one
-      abbrev pub led_ways : ℕ → ℕ
-      led_ways zero = 0
-      led_ways (suc k) = choose (length L) k
-
-      led_choices : (k : ℕ) → Sums (λ D. IsChoice (l ∷ L) k D × In l D) (λ D. 1) (led_ways k)
+      led_choices : (k : ℕ) → Sums (λ D. IsChoice (l ∷ L) k D × In l D) (λ D. 1) (led_ways n k)
       led_choices zero = none_led l L
-      led_choices (suc k) = led_counted l L k room.0
+      led_choices (suc k) = subst (λ m. Sums (λ D. IsChoice (l ∷ L) (suc k) D × In l D) (λ D. 1) (choose m k)) (let e : length L ≡ n - 1 = omega (arith, room.1) in e) (led_counted l L k room.0)
 
       -- THE LAW of sets and cycles
       pub Place-led : ((k : ℕ) → k ≤ n → (U : List ℕ) → IsRoom Labelled U k → Sums (On Labelled M size lab U k) (λ v. 1) (a k)) → ((k : ℕ) → k ≤ n → (U : List ℕ) → IsRoom Labelled U k → Sums (Rests U k) (λ v. 1) (b k))
           → (i j q r s : ℕ) (x : A) (xs : List A) (C T : List ℕ) → suc i + j ≡ n → In (C, T) (splits L) → IsPlace (IsChoice L i) Lexical q C → In (l ∷ C, T) (splits (l ∷ L))
-          → IsPlace (On Labelled M size lab (l ∷ C) (suc i)) Before r x → IsPlace (Rests T j) (ListBefore Before) s xs → IsPlace Wholes (ListBefore Before) (pair_place led_ways a b n (suc i) q r s) (x ∷ xs)
+          → IsPlace (On Labelled M size lab (l ∷ C) (suc i)) Before r x → IsPlace (Rests T j) (ListBefore Before) s xs → IsPlace Wholes (ListBefore Before) (pair_place (led_ways n) a b n (suc i) q r s) (x ∷ xs)
       unfolding LedPairs pair_place
       Place-led known rest i j q r s x xs C T e split chosen split_too m k =
           let g : 1 ≤ n = omega (arith, e) in
-          subst (λ h. IsPlace Wholes (ListBefore Before) (sum_below (λ k. (a k * b (n - k)) * led_ways k) (suc i) + ((a (suc i) * b (n - suc i)) * q + (r * b h + s))) (x ∷ xs)) (let f : j ≡ n - suc i = omega (arith, e) in f)
-          (Place-iff (Listed LedPairs) Wholes (ListBefore Before) (ListBefore Before) (sum_below (λ k. (a k * b (n - k)) * led_ways k) (suc i) + ((a (suc i) * b (n - suc i)) * q + (r * b j + s))) (x ∷ xs)
+          subst (λ h. IsPlace Wholes (ListBefore Before) (sum_below (λ k. (a k * b (n - k)) * led_ways n k) (suc i) + ((a (suc i) * b (n - suc i)) * q + (r * b h + s))) (x ∷ xs)) (let f : j ≡ n - suc i = omega (arith, e) in f)
+          (Place-iff (Listed LedPairs) Wholes (ListBefore Before) (ListBefore Before) (sum_below (λ k. (a k * b (n - k)) * led_ways n k) (suc i) + ((a (suc i) * b (n - suc i)) * q + (r * b j + s))) (x ∷ xs)
           to_whole (of_whole g) (λ y p h. h) (λ y p h. h)
-          (joined LedPairs (sum_below (λ k. (a k * b (n - k)) * led_ways k) (suc i) + ((a (suc i) * b (n - suc i)) * q + (r * b j + s))) x xs
-          (labelled_place M (Behind Tail) size (total size) lab (flat_map lab) Before (ListBefore Before) o a b n (λ D. In l D) led_ways (l ∷ L) room sized (rows_sized Labelled M size lab (Behind Tail) (λ xs m. m.1) sized) known
+          (joined LedPairs (sum_below (λ k. (a k * b (n - k)) * led_ways n k) (suc i) + ((a (suc i) * b (n - suc i)) * q + (r * b j + s))) x xs
+          (labelled_place M (Behind Tail) size (total size) lab (flat_map lab) Before (ListBefore Before) o a b n (λ D. In l D) (led_ways n) (l ∷ L) room sized (rows_sized Labelled M size lab (Behind Tail) (λ xs m. m.1) sized) known
           (λ h g U t. rest_counted Labelled Tail Rests h U (b h) (λ xs m. ((m.0, m.1, m.2), m.3, m.4)) (λ xs m. (m.0.0, m.0.1, m.0.2, m.1, m.2)) (rest h g U t))
           (suc i) j q r s x xs (l ∷ C) T e split_too (λ h d. led_choices h) (led_place l L i q C room.0 chosen) m
           (Place-iff (Rests T j) (On Labelled (Behind Tail) (total size) (flat_map lab) T j) (ListBefore Before) (ListBefore Before) s xs (λ xs m. ((m.0, m.1, m.2), m.3, m.4)) (λ xs m. (m.0.0, m.0.1, m.0.2, m.1, m.2)) (λ y p h. h) (λ y p h. h) k))))
+
+      -- how many there are
+      pub wholes_counted : 1 ≤ n → ((k : ℕ) → k ≤ n → (U : List ℕ) → IsRoom Labelled U k → Sums (On Labelled M size lab U k) (λ v. 1) (a k))
+          → ((k : ℕ) → k ≤ n → (U : List ℕ) → IsRoom Labelled U k → Sums (Rests U k) (λ v. 1) (b k)) → Sums Wholes (λ v. 1) (sum_below (λ k. (a k * b (n - k)) * led_ways n k) (suc n))
+      unfolding LedPairs
+      wholes_counted g known rest =
+          let t : ℕ → ℕ = λ k. (a k * b (n - k)) * led_ways n k in
+          Sums-iff (Listed LedPairs) Wholes (λ v. 1) (sum_below t (suc n)) to_whole (of_whole g)
+          (Sums-map LedPairs (λ v. v.0 ∷ v.1) (λ v. 1) (sum_below t (suc n)) (λ y z q w e. cons_one y z e)
+          (Sums-by_key LedPairs (λ v. size v.0) (λ v. 1) t (suc n) (λ v m. omega (arith, m.0.2))
+          (λ k j. size_group M (Behind Tail) size (total size) lab (flat_map lab) Before (ListBefore Before) o a b n (λ D. In l D) (led_ways n) (l ∷ L) room sized (rows_sized Labelled M size lab (Behind Tail) (λ xs m. m.1) sized) known
+          (λ h g U t. rest_counted Labelled Tail Rests h U (b h) (λ xs m. ((m.0, m.1, m.2), m.3, m.4)) (λ xs m. (m.0.0, m.0.1, m.0.2, m.1, m.2)) (rest h g U t))
+          k (omega (arith, j)) (led_choices k))))
 
   -- sets and cycles stand so
   module _ (l : ℕ) (L : List ℕ) (n : ℕ) (room : IsRoom Labelled (l ∷ L) n) (sized : IsSized Labelled M size lab) where

@@ -14,6 +14,7 @@ use Rattle.luo_model.proofs.OrderLemmas.{order_equal, order_itself}
 use Rattle.luo_finite.proofs.Orders.{nat_less, nat_itself, list_itself, lists_ordered}
 use Rattle.luo_counting.proofs.Orders.{trees_ordered}
 use Rattle.luo_finite.specs.Places.{Lexical, Lex}
+use Rattle.luo_places.specs.Numbers.{PartsBefore}
 
 pub then_cases : (a b : Ordering) → then_by a b ≡ Less → (a ≡ Less) ⊎ ((a ≡ Equal) × (b ≡ Less))
 then_cases Less b e = inl refl
@@ -110,9 +111,6 @@ same_room s t e f = ap (λ o. then_by o (by_form s t))
     ∙ subst (λ l. slice_cmp nat_cmp (sorted (labels_of s)) l ≡ Equal) f (list_itself (sorted (labels_of s))))
 
 -- lists of structures, as pairs of the first and the rest
-abbrev pub PartsBefore : Trees → Trees → Type 0
-PartsBefore ss ts = by_parts ss ts ≡ Less
-
 pub parts_lex : (s t : Tree) (ss ts : Trees) → PartsBefore (more s ss) (more t ts) → Lex IsBefore PartsBefore (s, ss) (t, ts)
 unfolding order_of
 parts_lex s t ss ts e = ⊎_elim (λ l. inl l) (λ k. inr (trees_equal s t k.0, k.1)) (then_cases (then_by (by_size_and_labels s t) (by_form s t)) (by_parts ss ts) e)

@@ -112,7 +112,7 @@ module _ {A B : Type 0} (M : A → Type 0) (N : B → Type 0) (size : A → ℕ)
           (known k l C (rises.0, c.0.1, λ z i. room.2 z (c.0.2 z i))) (rest (n - k) (omega arith) T (rises.1, long, λ z i. room.2 z (split-right L (C, T) z t.1 i))))
 
       -- those of one size of the first
-      size_group : (k : ℕ) → k ≤ n → Sums (λ C. IsChoice L k C × F C) (λ C. 1) (ways k) → Sums (λ (z : A × B). Shared z × (size z.0 ≡ k)) (λ z. 1) ((a k * b (n - k)) * ways k)
+      pub size_group : (k : ℕ) → k ≤ n → Sums (λ C. IsChoice L k C × F C) (λ C. 1) (ways k) → Sums (λ (z : A × B). Shared z × (size z.0 ≡ k)) (λ z. 1) ((a k * b (n - k)) * ways k)
       size_group k l s =
           Sums-keyed (λ (z : A × B). Shared z × (size z.0 ≡ k)) (λ z. sorted (la z.0)) (λ C. IsChoice L k C × F C) (λ C. a k * b (n - k)) ((a k * b (n - k)) * ways k)
           (λ z p. chosen_labels k z p.0 p.1) (λ C c. group_of k l C c) (Sums-constant (λ C. IsChoice L k C × F C) (a k * b (n - k)) (ways k) s)

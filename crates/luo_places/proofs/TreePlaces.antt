@@ -27,9 +27,9 @@ use Rattle.luo_counting.proofs.Rows.{nothing_borne}
 use Rattle.luo_finite.proofs.Orders.{nat_less, nat_equal, less_nat, nat_itself}
 use Rattle.luo_counting.proofs.TreeCollections.{carries_bears, bears_carries, members_sized, all_labels, Components, coll_of, components_in, in_components, one_coll}
 use Rattle.luo_finite.specs.Places.{IsPlace, Lex}
-use Rattle.luo_places.specs.Numbers.{ways, pair_place, IsPart, ListBefore}
+use Rattle.luo_places.specs.Numbers.{ways, pair_place, IsPart, ListBefore, PartsBefore}
 use Rattle.luo_finite.proofs.OrderedPlaces.{Place-iff, Place-key, Place-map, Place-alone}
-use Rattle.luo_places.proofs.Orderings.{then_cases, then_less, then_more, sorted_is, same_room, PartsBefore, parts_lex, lex_parts, trees_by_room}
+use Rattle.luo_places.proofs.Orderings.{then_cases, then_less, then_more, sorted_is, same_room, parts_lex, lex_parts, trees_by_room}
 use Rattle.luo_places.proofs.Pairs.{both_counted}
 use Rattle.luo_places.proofs.Both.{Place-two}
 
@@ -37,6 +37,19 @@ use Rattle.luo_places.proofs.Both.{Place-two}
 nothing_in : (l : List ℕ) → ((y : ℕ) → In y l → ⊥) → l ≡ []
 nothing_in [] h = refl
 nothing_in (x ∷ l) h = absurd (h x (inl refl))
+
+-- lists of structures, and trees in a row
+pub list_order : (xs ys : List Tree) → by_parts (from_list xs) (from_list ys) ≡ Less → ListBefore IsBefore xs ys
+list_order [] [] e = absurd (cc)
+list_order [] (y ∷ ys) e = tt
+list_order (x ∷ xs) [] e = absurd (cc)
+list_order (x ∷ xs) (y ∷ ys) e = ⊎_elim (λ l. inl l) (λ k. inr (k.0, list_order xs ys k.1)) (parts_lex x y (from_list xs) (from_list ys) e)
+
+pub order_list : (xs ys : List Tree) → ListBefore IsBefore xs ys → by_parts (from_list xs) (from_list ys) ≡ Less
+order_list [] [] e = absurd e
+order_list [] (y ∷ ys) e = refl
+order_list (x ∷ xs) [] e = absurd e
+order_list (x ∷ xs) (y ∷ ys) e = lex_parts x y (from_list xs) (from_list ys) (⊎_elim (λ l. inl l) (λ k. inr (k.0, order_list xs ys k.1)) e)
 
 module _ (p : Program) (u : p.universe ≡ Unlabelled) where
   mutual
@@ -177,18 +190,6 @@ module _ (p : Program) (x n : ℕ) (L : List ℕ) (room : IsRoom p.universe L n)
 
   -- COLLECTIONS: the place of the components
   module _ (kind : Kind) (part : Part) (low : ℕ) (high : Option ℕ) (is : shape_of p x ≡ shape.Coll kind part low high) where
-    list_order : (xs ys : List Tree) → by_parts (from_list xs) (from_list ys) ≡ Less → ListBefore IsBefore xs ys
-    list_order [] [] e = absurd (cc)
-    list_order [] (y ∷ ys) e = tt
-    list_order (x ∷ xs) [] e = absurd (cc)
-    list_order (x ∷ xs) (y ∷ ys) e = ⊎_elim (λ l. inl l) (λ k. inr (k.0, list_order xs ys k.1)) (parts_lex x y (from_list xs) (from_list ys) e)
-
-    order_list : (xs ys : List Tree) → ListBefore IsBefore xs ys → by_parts (from_list xs) (from_list ys) ≡ Less
-    order_list [] [] e = absurd e
-    order_list [] (y ∷ ys) e = refl
-    order_list (x ∷ xs) [] e = absurd e
-    order_list (x ∷ xs) (y ∷ ys) e = lex_parts x y (from_list xs) (from_list ys) (⊎_elim (λ l. inl l) (λ k. inr (k.0, order_list xs ys k.1)) e)
-
     pub Place-coll : (r : ℕ) (xs : List Tree) → IsPlace (Components p x kind part low high is L n) (ListBefore IsBefore) r xs → IsPlace (IsStructureOn p x L n) IsBefore r (Coll (from_list xs))
     Place-coll r xs m =
         Place-iff (λ s. (ys : List Tree) × Components p x kind part low high is L n ys × (s ≡ coll_of p x kind part low high is L n ys)) (IsStructureOn p x L n) IsBefore IsBefore r (Coll (from_list xs))

@@ -5,6 +5,9 @@ use Rattle.luo_finite.specs.Range.{sum_below}
 use Rattle.luo_model.specs.declared.program.Universe.{Universe}
 use Rattle.luo_model.specs.declared.program.Universe.TheVariants.{Unlabelled, Labelled}
 use Rattle.luo_finite.specs.Binomial.{choose}
+use Rattle.std.specs.declared.cmp.Ordering.TheVariants.{Less}
+use Rattle.luo_model.specs.Tree.{Trees}
+use Rattle.luo_model.specs.Order.{by_parts}
 use Rattle.luo_counting.specs.Sharing.{splits}
 use Rattle.luo_finite.specs.Places.{IsPlace, IsChoice, Lexical}
 
@@ -12,6 +15,11 @@ use Rattle.luo_finite.specs.Places.{IsPlace, IsChoice, Lexical}
 abbrev pub ways : Universe → ℕ → ℕ → ℕ
 ways Unlabelled n k = 1
 ways Labelled n k = choose n k
+
+-- the ways to choose k of n labels, the least among them
+abbrev pub led_ways : ℕ → ℕ → ℕ
+led_ways n zero = 0
+led_ways n (suc k) = choose (n - 1) k
 
 -- the place of a pair: the first has size i, labels with place q, and place r, and the second has place s; w k ways to choose k labels
 unfoldable pub pair_place : (ℕ → ℕ) → (ℕ → ℕ) → (ℕ → ℕ) → ℕ → ℕ → ℕ → ℕ → ℕ → ℕ
@@ -44,3 +52,7 @@ cut a zero i zero = i
 cut a zero i (suc m) = 0
 cut a (suc d) i zero = a 0
 cut a (suc d) i (suc m) = cut (λ k. a (suc k)) d i m
+
+-- lists of structures by their first difference
+abbrev pub PartsBefore : Trees → Trees → Type 0
+PartsBefore ss ts = by_parts ss ts ≡ Less
