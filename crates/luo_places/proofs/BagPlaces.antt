@@ -19,6 +19,7 @@ use Rattle.luo_finite.proofs.Falling.{IsOrder}
 use Rattle.luo_counting.proofs.Choices.{NotAbove, Below}
 use Rattle.luo_counting.proofs.Counts.{Measures-collections}
 use Rattle.luo_finite.specs.Places.{IsPlace}
+use Rattle.luo_finite.proofs.OrderedPlaces.{Sums-le}
 use Rattle.luo_places.specs.Numbers.{ListBefore, one_less, AllowsOne, cut}
 use Rattle.luo_finite.proofs.OrderedPlaces.{Place-iff}
 use Rattle.luo_places.proofs.Orderings.{le_or, less_or}
@@ -354,6 +355,67 @@ module _ {A : Type 0} (M : A → Type 0) (size : A → ℕ) (lab : A → List �
           (Falling M size Before solid (λ x. M x × Before x t) (Below Before) (low - 1) (one_less high) m) (λ v. 1) e
           (λ xs w. (w.0, w.1, w.2, w.3)) (λ xs w. (w.0, w.1, w.2, w.3, tt))
           (colls_counted (λ x. Before x t) d i one_of_t small_lower lower_small lower_top Powerset tt (low - 1) (one_less high) m (λ k h g. known k (omega (arith, g, n_is))))))
+
+      -- the first collections of the rest are those that may stand behind t
+      abbrev Rests : Kind → List A → Type 0
+      Rests kind xs = IsCollectionOf Unlabelled M size lab Before kind (low - 1) (one_less high) [] m xs
+
+      abbrev RestsUnder : Kind → (A → Type 0) → List A → Type 0
+      RestsUnder kind T xs = IsCollectionOf Unlabelled (λ x. M x × T x) size lab Before kind (low - 1) (one_less high) [] m xs
+
+      under_rests : (kind : Kind) (T : A → Type 0) (xs : List A) → RestsUnder kind T xs → Rests kind xs
+      under_rests kind T xs w = (w.0, Each-into (λ x. M x × T x) M xs (λ x q. q.0) w.1, w.2, w.3, w.4)
+
+      rest_stands : (kind : Kind) (R : A → A → Type 0) → Falls M size Before solid R → ((xs : List A) → Rests kind xs → Pairwise R xs) → ((y : A) → R t y ⊎ ((z : A) → R t z → Before z y))
+          → (c s : ℕ) (ts : List A) → Sums (RestsUnder kind (R t)) (λ v. 1) c → s < c → IsPlace (Rests kind) (ListBefore Before) s ts → (y : A) → In y ts → R t y
+      rest_stands kind R f falls decide c s [] sums l q y j = absurd j
+      rest_stands kind R f falls decide c s (x ∷ xs) sums l q y j = ⊎_elim all_stand none_stands (decide x)
+        where
+          all_stand : R t x → R t y
+          all_stand r = ⊎_elim (λ (e : y ≡ x). subst (R t) (sym e) r) (λ k. f.through t x y r ((falls (x ∷ xs) q.there).0 y k)) j
+
+          ahead : ((z : A) → R t z → Before z x) → (us : List A) → RestsUnder kind (R t) us → ListBefore Before us (x ∷ xs)
+          ahead u [] w = tt
+          ahead u (z ∷ zs) w = inl (u z w.1.0.1)
+
+          none_stands : ((z : A) → R t z → Before z x) → R t y
+          none_stands u = absurd (let k : c ≤ s = Sums-le (RestsUnder kind (R t)) (λ us. Rests kind us × ListBefore Before us (x ∷ xs)) c s (λ us w. (under_rests kind (R t) us w, ahead u us w)) sums q.before in omega (arith, k, l))
+
+      multiset_decides : (y : A) → NotAbove Before t y ⊎ ((z : A) → NotAbove Before t z → Before z y)
+      multiset_decides y = ⊎_elim (λ b. inr (λ z r. ⊎_elim (λ l. order.through z t y l b) (λ (e : z ≡ t). subst (λ v. Before v y) (sym e) b) (not_below z r)))
+          (λ k. inl (λ g. ⊎_elim (λ (e : t ≡ y). let h : Before t t = subst (Before t) (sym e) g in order.one_way t t h h) (λ b. order.one_way t y g b) k)) (order.either t y)
+
+      powerset_decides : (y : A) → Below Before t y ⊎ ((z : A) → Below Before t z → Before z y)
+      powerset_decides y = ⊎_elim (λ b. inl b) (λ k. inr (λ z r. ⊎_elim (λ (e : y ≡ t). subst (Before z) (sym e) r) (λ b. order.through z t y r b) k)) (order.either y t)
+
+      -- WHAT IS FOUND: t and the rest, where the place is among the collections that begin with t
+      pub multiset_found : (rank : ℕ) → coll_count Unlabelled Multiset (cut a d i) low high n ≤ rank → rank < coll_count Unlabelled Multiset (cut a d (suc i)) low high n
+          → ((c : ℕ) → Sums (Rests Multiset) (λ v. 1) c → rank - coll_count Unlabelled Multiset (cut a d i) low high n < c)
+          × ((ts : List A) → IsPlace (Rests Multiset) (ListBefore Before) (rank - coll_count Unlabelled Multiset (cut a d i) low high n) ts
+          → IsPlace (IsCollectionOf Unlabelled M size lab Before Multiset low high [] n) (ListBefore Before) rank (t ∷ ts))
+      multiset_found rank from to =
+          let f = coll_count Unlabelled Multiset (cut a d i) low high n in
+          let e = coll_count Unlabelled Multiset (cut a d (suc i)) (low - 1) (one_less high) m in
+          let sums : Sums (RestsUnder Multiset (NotAbove Before t)) (λ v. 1) e = colls_counted (NotAbove Before t) d (suc i) one_of_t small_under under_small under_top Multiset tt (low - 1) (one_less high) m (λ k h g. known k (omega (arith, g, n_is))) in
+          let inside : rank - f < e = omega (arith, multiset_step, from, to) in (
+            (λ c all. let k : e ≤ c = Sums-le (RestsUnder Multiset (NotAbove Before t)) (Rests Multiset) e c (under_rests Multiset (NotAbove Before t)) sums all in omega (arith, k, inside)),
+            λ ts q. subst (λ r. IsPlace (IsCollectionOf Unlabelled M size lab Before Multiset low high [] n) (ListBefore Before) r (t ∷ ts)) (let w : f + (rank - f) ≡ rank = omega (arith, from) in w)
+                (Place-multiset (rank - f) ts (rest_stands Multiset (NotAbove Before) multisets_fall (λ xs w. w.2) multiset_decides e (rank - f) ts sums inside q) q),
+          )
+
+      pub powerset_found : (rank : ℕ) → coll_count Unlabelled Powerset (cut a d i) low high n ≤ rank → rank < coll_count Unlabelled Powerset (cut a d (suc i)) low high n
+          → ((c : ℕ) → Sums (Rests Powerset) (λ v. 1) c → rank - coll_count Unlabelled Powerset (cut a d i) low high n < c)
+          × ((ts : List A) → IsPlace (Rests Powerset) (ListBefore Before) (rank - coll_count Unlabelled Powerset (cut a d i) low high n) ts
+          → IsPlace (IsCollectionOf Unlabelled M size lab Before Powerset low high [] n) (ListBefore Before) rank (t ∷ ts))
+      powerset_found rank from to =
+          let f = coll_count Unlabelled Powerset (cut a d i) low high n in
+          let e = coll_count Unlabelled Powerset (cut a d i) (low - 1) (one_less high) m in
+          let sums : Sums (RestsUnder Powerset (Below Before t)) (λ v. 1) e = colls_counted (λ x. Before x t) d i one_of_t small_lower lower_small lower_top Powerset tt (low - 1) (one_less high) m (λ k h g. known k (omega (arith, g, n_is))) in
+          let inside : rank - f < e = omega (arith, powerset_step, from, to) in (
+            (λ c all. let k : e ≤ c = Sums-le (RestsUnder Powerset (Below Before t)) (Rests Powerset) e c (under_rests Powerset (Below Before t)) sums all in omega (arith, k, inside)),
+            λ ts q. subst (λ r. IsPlace (IsCollectionOf Unlabelled M size lab Before Powerset low high [] n) (ListBefore Before) r (t ∷ ts)) (let w : f + (rank - f) ≡ rank = omega (arith, from) in w)
+                (Place-powerset (rank - f) ts (rest_stands Powerset (Below Before) powersets_fall (λ xs w. w.2) powerset_decides e (rank - f) ts sums inside q) q),
+          )
 
 -- one size after the other
 pub cut-join : (a : ℕ → ℕ) (d : ℕ) → cut a (suc d) 0 ≡ cut a d (a d)

@@ -30,13 +30,16 @@ use Rattle.luo_counting.proofs.Two.{IsSized, share-is_binomial}
 use Rattle.luo_counting.proofs.Orders.{trees_ordered, trees_by_size}
 use Rattle.luo_counting.proofs.Counts.{Ready, Measures-collections}
 use Rattle.luo_counting.proofs.TreeCollections.{list_back, back_list, members_sized, components_ready}
-use Rattle.luo_places.specs.Numbers.{ways, pair_place, IsPart, ListBefore, one_less, AllowsOne, PartsBefore}
-use Rattle.luo_places.specs.Tails.{Tail, factors, items, kind_behind, behind_first, first_node, TailOn, tail_count, head_ways, IsHead, AreNumbers, IsThere, IsSpread, GoesOn, Ends, IsFirst}
+use Rattle.luo_places.specs.Numbers.{ways, pair_place, IsPart, ListBefore, one_less, AllowsOne, PartsBefore, cut}
+use Rattle.luo_places.specs.Tails.{Tail, factors, items, kind_behind, behind_first, first_node, TailOn, tail_count, head_ways, IsHead, AreNumbers, IsThere, IsSpread, GoesOn, Ends, IsFirst, IsBag}
 use Rattle.luo_places.proofs.Orderings.{IsByRoom, trees_by_room}
 use Rattle.luo_places.proofs.ListPlaces.{Place-sequence, sequences_counted, Place-led, wholes_counted, set_heads, cycle_heads, LeastsRise}
 use Rattle.luo_places.proofs.TreePlaces.{Place-parts, parts_counted, no_parts_counted, Place-no_parts, as_item, items_counted, Place-product, Place-coll, list_order, order_list}
 use Rattle.luo_places.proofs.Someone.{some_of}
 use Rattle.luo_counting.proofs.Numbered.{room_of}
+use Rattle.luo_finite.proofs.Falling.{IsOrder}
+use Rattle.luo_finite.proofs.PlacesExist.{some_place}
+use Rattle.luo_places.proofs.BagPlaces.{multiset_found, powerset_found}
 
 -- lists of trees, and trees in a row
 pub as_trees : (P : List Tree → Type 0) (r : ℕ) (ts : Trees) → IsPlace P (ListBefore IsBefore) r (to_list ts) → IsPlace (λ us. P (to_list us)) PartsBefore r ts
@@ -269,3 +272,58 @@ pub collection_place : (p : Program) (x n : ℕ) (L : List ℕ) → IsRoom p.uni
 collection_place p x n L room kind part low high is r ts m =
     subst (λ us. IsPlace (IsStructureOn p x L n) IsBefore r (Coll us)) (list_back ts)
     (Place-coll p x n L room kind part low high is r (to_list ts) (as_list (IsCollectionOf p.universe (Member p part.node) size_of labels_of IsBefore kind low high L n) r ts m))
+
+-- MULTISETS AND POWERSETS, over items of any type
+module _ {A : Type 0} (M : A → Type 0) (size : A → ℕ) (lab : A → List ℕ) (Before : A → A → Type 0) (order : IsOrder Before) (by_size : (x y : A) → size x < size y → Before x y) (solid : (x : A) → M x → size x ≡ 0 → ⊥) (a : ℕ → ℕ) (no_count : a 0 ≡ 0)
+    (y low : ℕ) (high : Option ℕ) (one : AllowsOne high) (n d i rank : ℕ) (within : d ≤ n) (there : i < a d) where
+  -- what is known of the collections that begin with the item at place i of size d
+  abbrev BagFound : Universe → Kind → Type 0
+  BagFound u kind = let f = coll_count Unlabelled kind (cut a d i) low high n in
+      (0 < head_ways u (items kind y low high) n d)
+      × ((c : ℕ) (U : List ℕ) → Sums (IsCollectionOf u M size lab Before (kind_behind kind) (low - 1) (one_less high) U (n - d)) (λ v. 1) c → rank - f < c)
+      × ((L S T : List ℕ) (x : A) (xs : List A) → IsPlace (On u M size lab S d) Before i x → IsPlace (IsCollectionOf u M size lab Before (kind_behind kind) (low - 1) (one_less high) T (n - d)) (ListBefore Before) (rank - f) xs
+      → IsPlace (IsCollectionOf u M size lab Before kind low high L n) (ListBefore Before) rank (x ∷ xs))
+
+  pub bag_found : (u : Universe) (kind : Kind) → IsBag kind → Suits u kind low → ((k : ℕ) → k ≤ n → (U : List ℕ) → IsRoom u U k → Sums (On u M size lab U k) (λ v. 1) (a k))
+      → coll_count Unlabelled kind (cut a d i) low high n ≤ rank → rank < coll_count Unlabelled kind (cut a d (suc i)) low high n → BagFound u kind
+  bag_found Unlabelled Multiset bag su firsts from to =
+      let t = some_place (On Unlabelled M size lab [] d) Before order (a d) (firsts d within [] tt) i there in
+      let e : n ≡ d + (n - d) = omega (arith, within) in
+      let k = multiset_found M size lab Before order by_size solid a no_count d i t.0 t.1 low high one n (n - d) e (λ k l. firsts k l [] tt) rank from to in (
+        omega arith,
+        (λ c U s. k.0 c s),
+        λ L S T x xs m r. (multiset_found M size lab Before order by_size solid a no_count d i x m low high one n (n - d) e (λ k l. firsts k l [] tt) rank from to).1 xs r,
+      )
+  bag_found Unlabelled Powerset bag su firsts from to =
+      let t = some_place (On Unlabelled M size lab [] d) Before order (a d) (firsts d within [] tt) i there in
+      let e : n ≡ d + (n - d) = omega (arith, within) in
+      let k = powerset_found M size lab Before order by_size solid a no_count d i t.0 t.1 low high one n (n - d) e (λ k l. firsts k l [] tt) rank from to in (
+        omega arith,
+        (λ c U s. k.0 c s),
+        λ L S T x xs m r. (powerset_found M size lab Before order by_size solid a no_count d i x m low high one n (n - d) e (λ k l. firsts k l [] tt) rank from to).1 xs r,
+      )
+  bag_found Labelled Multiset bag su firsts from to = absurd su
+  bag_found Labelled Powerset bag su firsts from to = absurd su
+  bag_found u Sequence bag su firsts from to = absurd bag
+  bag_found u Set bag su firsts from to = absurd bag
+  bag_found u Cycle bag su firsts from to = absurd bag
+
+module _ (p : Program) (nodes last : ℕ) (a : ℕ → ℕ → ℕ) (t : AreNumbers p nodes last a) where
+  -- of structures
+  pub bag_first : (kind : Kind) (y low : ℕ) (high : Option ℕ) (n d i rank : ℕ) → IsThere p nodes (items kind y low high) → IsBag kind → AllowsOne high → n ≤ last → d ≤ n → i < a y d
+      → coll_count Unlabelled kind (cut (a y) d i) low high n ≤ rank → rank < coll_count Unlabelled kind (cut (a y) d (suc i)) low high n
+      → IsFirst p a (items kind y low high) n rank d 0 i (rank - coll_count Unlabelled kind (cut (a y) d i) low high n)
+  bag_first kind y low high n d i rank there bag one l within inside from to =
+      let b = there_behind p nodes last a t (items kind y low high) there in
+      let f = bag_found (Member p y) size_of labels_of IsBefore trees_ordered trees_by_size there.2 (a y) (nothing p nodes last a t y there.0 there.2) y low high one n d i rank within inside p.universe kind bag there.1 (known p nodes last a t y there.0 there.2 n l) from to in
+      record {
+        sizes = within;
+        ways = f.0;
+        first = inside;
+        second = f.1 (coll_count p.universe (kind_behind kind) (a y) (low - 1) (one_less high) (n - d)) (labels_from 1 (n - d))
+            (colls_counted p nodes last a t y b.0 b.2 (kind_behind kind) (low - 1) (one_less high) b.1 (n - d) (omega (arith, l)) (labels_from 1 (n - d)) (room_of p.universe (n - d)));
+        step = λ L S T room h x xs m k.
+            as_trees (IsCollectionOf p.universe (Member p y) size_of labels_of IsBefore kind low high L n) rank (more x xs)
+            (f.2 L S T x (to_list xs) (as_item p t.light y d S i x m)
+            (as_list (IsCollectionOf p.universe (Member p y) size_of labels_of IsBefore (kind_behind kind) (low - 1) (one_less high) T (n - d)) (rank - coll_count Unlabelled kind (cut (a y) d i) low high n) xs k));
+      }

@@ -118,3 +118,9 @@ pub record IsFirst (p : Program) (a : ℕ → ℕ → ℕ) (tail : Tail) (n rank
   pub second : back < tail_count p.universe a (behind_first tail) (n - size)
   pub step : (L S T : List ℕ) → IsRoom p.universe L n → IsHead p.universe tail L size q S T → (t : Tree) (ts : Trees) → IsPlace (IsStructureOn p (first_node tail) S size) IsBefore place t
       → IsPlace (TailOn p (behind_first tail) T (n - size)) PartsBefore back ts → IsPlace (TailOn p tail L n) PartsBefore rank (more t ts)
+
+-- the components stand by the order
+abbrev pub IsBag : Kind → Type 0
+IsBag Multiset = Unit {0}
+IsBag Powerset = Unit {0}
+IsBag _ = ⊥
