@@ -1,8 +1,6 @@
 -- What is counted is there, and has a place.
-use Rattle.std.proofs.Common.{◌≡◌, ℕ, ◌<◌, List, [], ◌∷◌, inl, refl, arith, sum_by, Some, slice_get}
+use Rattle.std.proofs.Common.{◌≡◌, ℕ, ◌<◌, List, [], ◌∷◌, inl, refl, arith, sum_by}
 use Rattle.luo_finite.specs.Listing.{Lists, Sums}
-use Rattle.luo_finite.specs.Places.{IsPlace}
-use Rattle.luo_finite.proofs.Falling.{IsOrder, falling_listing}
 
 -- where more than nothing is counted, there is something
 pub some_of : {A : Type 0} (P : A → Type 0) (c r : ℕ) → Sums P (λ x. 1) c → r < c → (x : A) × P x

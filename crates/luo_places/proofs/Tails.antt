@@ -1,5 +1,5 @@
 -- Places of what is left to choose, from the first and the rest.
-use Rattle.std.proofs.Common.{◌≡◌, ℕ, zero, suc, ◌+◌, ◌*◌, ◌-◌, ◌≤◌, ◌<◌, List, [], ◌∷◌, ◌⊎◌, inl, inr, ⊎_elim, length, refl, sym, ◌∙◌, ap, subst, arith, Option, Some, None, map}
+use Rattle.std.proofs.Common.{◌≡◌, ℕ, zero, suc, ◌+◌, ◌*◌, ◌-◌, ◌≤◌, ◌<◌, List, [], ◌∷◌, inl, inr, refl, sym, ◌∙◌, ap, subst, arith, Option, map}
 use Rattle.std.proofs.Math.Nat.{mul_comm}
 use Rattle.luo_finite.specs.Listing.{In, Sums}
 use Rattle.luo_finite.specs.Range.{sum_below}
@@ -14,17 +14,17 @@ use Rattle.luo_model.specs.declared.program.Universe.TheVariants.{Unlabelled, La
 use Rattle.luo_model.specs.declared.program.Kind.{Kind}
 use Rattle.luo_model.specs.declared.program.Kind.TheVariants.{Sequence, Set, Cycle, Multiset, Powerset}
 use Rattle.luo_model.specs.declared.program.Part.{Part}
-use Rattle.luo_model.specs.Tree.{Tree, Trees, none, more, Tup, Coll, size_of, sizes_of, labels_of, all_labels_of, to_list, from_list, least_of}
+use Rattle.luo_model.specs.Tree.{Tree, Trees, none, more, Tup, Coll, size_of, labels_of, to_list, from_list, least_of}
 use Rattle.luo_model.specs.Order.{IsBefore}
 use Rattle.luo_model.specs.Program.{Program, shape_of}
 use Rattle.luo_model.specs.declared.program.Shape.TheVariants as shape
 use Rattle.luo_model.specs.Standing.{IsLed}
-use Rattle.luo_model.specs.Member.{Member, FitAll, IsWithin}
+use Rattle.luo_model.specs.Member.{Member, IsWithin}
 use Rattle.luo_model.specs.Structures.{IsStructureOn, labels_from}
-use Rattle.luo_model.specs.Collections.{Bears, IsCollectionOf}
-use Rattle.luo_counting.specs.Sharing.{IsRoom, shares, over_shares, splits, products}
+use Rattle.luo_model.specs.Collections.{IsCollectionOf}
+use Rattle.luo_counting.specs.Sharing.{IsRoom, shares, over_shares, splits}
 use Rattle.luo_counting.specs.Items.{On, Suits}
-use Rattle.luo_counting.specs.Numbers.{coll_count, of_k, terms}
+use Rattle.luo_counting.specs.Numbers.{coll_count}
 use Rattle.luo_counting.proofs.Splits.{put_left, put_right}
 use Rattle.luo_counting.proofs.Two.{IsSized, share-is_binomial}
 use Rattle.luo_counting.proofs.Orders.{trees_ordered, trees_by_size}
@@ -34,7 +34,7 @@ use Rattle.luo_places.specs.Numbers.{ways, pair_place, IsPart, ListBefore, one_l
 use Rattle.luo_places.specs.Tails.{Tail, factors, items, kind_behind, behind_first, first_node, TailOn, tail_count, head_ways, IsHead, AreNumbers, IsThere, IsSpread, GoesOn, Ends, IsFirst, IsBag}
 use Rattle.luo_places.proofs.Orderings.{IsByRoom, trees_by_room}
 use Rattle.luo_places.proofs.ListPlaces.{Place-sequence, sequences_counted, Place-led, wholes_counted, set_heads, cycle_heads, LeastsRise}
-use Rattle.luo_places.proofs.TreePlaces.{Place-parts, parts_counted, no_parts_counted, Place-no_parts, as_item, items_counted, Place-product, Place-coll, list_order, order_list}
+use Rattle.luo_places.proofs.TreePlaces.{Place-parts, parts_counted, no_parts_counted, as_item, items_counted, Place-product, Place-coll, list_order, order_list}
 use Rattle.luo_places.proofs.Someone.{some_of}
 use Rattle.luo_counting.proofs.Numbered.{room_of}
 use Rattle.luo_finite.proofs.Falling.{IsOrder}
