@@ -15,7 +15,6 @@ pub mod ReportComes
 pub mod ReportKept
 pub mod RowLemmas
 pub mod SameSteps
-pub mod Sections
 pub mod SoleSteps
 pub mod StepLemmas
 pub mod TokenBytes

@@ -8,7 +8,11 @@ use Rattle.luo_model.specs.Tables.{IsRow}
 use Rattle.luo_model.specs.Invariant.{IsProgram}
 use Rattle.luo_model.specs.Founded.{IsFounded}
 use Rattle.luo_founded.proofs.Tabled.{count_exists, total_exists}
-use Rattle.luo_top.specs.Report.{AreRowsFrom, AreTables, IsReport, report_text, no_procedure}
+use Rattle.luo_equation.specs.Text.{no_procedure}
+use Rattle.luo_report.specs.declared.table.Table.{Table}
+use Rattle.luo_report.specs.Report.{report_text}
+use Rattle.luo_system.specs.System.{system}
+use Rattle.luo_top.specs.Report.{AreRowsFrom, AreTables, IsReport}
 use Rattle.luo_top.proofs.RowLemmas.{whole_there}
 
 module _ (p : Program) (q : IsProgram p) (f : IsFounded p) where
@@ -25,12 +29,12 @@ module _ (p : Program) (q : IsProgram p) (f : IsFounded p) where
       let (rows, long, rest) = rows_come g P there many (n + 1) in
       (row ∷ rows, omega (arith, long), (size, right, rest))
 
-  tables_come : (last : ℕ) (fs : List ℕ) → ((g : ℕ) → In g fs → g < length p.procs) → (tables : List (List Row)) × AreTables p last fs tables
+  tables_come : (last : ℕ) (fs : List ℕ) → ((g : ℕ) → In g fs → g < length p.procs) → (tables : List Table) × AreTables p last fs tables
   tables_come last [] h = ([], tt)
   tables_come last (g ∷ fs) h =
       let (rows, long, right) = rows_come g (get_or p.procs g no_procedure) (slice_get-get_or p.procs g no_procedure (h g (inl refl))) (last + 1) 0 in
       let (tables, rest) = tables_come last fs (λ i j. h i (inr j)) in
-      (rows ∷ tables, ((long, right), rest))
+      (record { callee = g; rows = rows } ∷ tables, ((refl, (long, right)), rest))
 
   pub report_comes : (last : ℕ) → (bytes : List ℕ) × IsReport p last bytes
-  report_comes last = let (tables, t) = tables_come last p.analyses q.analyses_there in (report_text p tables, (tables, t, refl))
+  report_comes last = let (tables, t) = tables_come last p.analyses q.analyses_there in (report_text p (system p) tables, (tables, t, refl))

@@ -1,6 +1,9 @@
 -- The report by the core form of a source is that of the source as it is written.
-use Rattle.std.proofs.Common.{◌≡◌, ◌↔◌, ℕ, ◌+◌, List, [], ◌∷◌, ◌++◌, map, length, Some, slice_get, refl, sym, ap, ◌∙◌}
+use Rattle.std.proofs.Common.{◌≡◌, ◌↔◌, ℕ, ◌+◌, List, [], ◌∷◌, ◌++◌, map, Some, slice_get, refl, sym, ap, ◌∙◌}
 use Rattle.std.specs.Prelude.{codes, flat_map, slice_index_or}
+use Rattle.luo_equation.specs.Text.{no_procedure}
+use Rattle.luo_report.specs.declared.table.Table.{Table}
+use Rattle.luo_report.specs.Report.{line, row_text, name_of, heading, section, universe_text}
 use Rattle.luo_model.specs.declared.program.Def.{Def}
 use Rattle.luo_model.specs.declared.table.Row.{Row}
 use Rattle.luo_model.specs.Program.{Procedure}
@@ -24,9 +27,8 @@ use Rattle.luo_meaning.proofs.Named.{procedure_named, named_procedure}
 use Rattle.luo_meaning.proofs.ProceduresKept.{procedure_number}
 use Rattle.luo_meaning.proofs.RowsKept.{row_kept}
 use Rattle.luo_meaning.proofs.TablesKept.{heading_kept}
-use Rattle.luo_top.specs.AsWritten.Report.{heading_of, AreSections, IsReportOf}
-use Rattle.luo_top.specs.Refusals.{line}
-use Rattle.luo_top.specs.Report.{AreRowsFrom, AreTables, IsReport, sections, heading, no_procedure, name_of, row_text, universe_text}
+use Rattle.luo_top.specs.AsWritten.Report.{equation_lines, heading_of, AreSections, IsReportOf}
+use Rattle.luo_top.specs.Report.{AreRowsFrom, AreTables, IsReport}
 
 module _ (source : Source) (c : Clean source) (none : measures_breaches (names_of source) 0 (measures source) ≡ []) (is : IsProgram (core source)) where
   -- the heading of procedure f
@@ -54,17 +56,18 @@ module _ (source : Source) (c : Clean source) (none : measures_breaches (names_o
 
   -- tables and their text, for these names
   abbrev Sectioned : ℕ → List Name → List ℕ → Type 0
-  Sectioned last names bytes = (tables : List (List Row)) × AreTables (core source) last (numbers_of names) tables × (bytes ≡ sections (core source) (numbers_of names) tables)
+  Sectioned last names bytes = (tables : List Table) × AreTables (core source) last (numbers_of names) tables × (bytes ≡ flat_map (section (core source)) tables)
 
   abbrev AreSame : ℕ → List Name → Type 0
   AreSame last names = (bytes : List ℕ) → Sectioned last names bytes ↔ AreSections source last names bytes
 
-  sections_same : (last : ℕ) (names : List Name) → flat_map (λ name. procedure_use (meant (setting_of source) name) name) names ≡ [] → (bytes : List ℕ) → Sectioned last names bytes ↔ AreSections source last names bytes
+  sections_same : (last : ℕ) (names : List Name) → flat_map (λ name. procedure_use (meant (setting_of source) name) name) names ≡ []
+      → (bytes : List ℕ) → Sectioned last names bytes ↔ AreSections source last names bytes
   sections_same last [] e bytes = (λ h. empty_text h.0 h.1 h.2, λ h. ([], tt, h))
     where
-      empty_text : (tables : List (List Row)) → AreTables (core source) last [] tables → bytes ≡ sections (core source) [] tables → bytes ≡ []
+      empty_text : (tables : List Table) → AreTables (core source) last [] tables → bytes ≡ flat_map (section (core source)) tables → bytes ≡ []
       empty_text [] h e = e
-      empty_text (rows ∷ tables) h e = absurd h
+      empty_text (table ∷ tables) h e = absurd h
   sections_same last (name ∷ names) e bytes =
       let s = setting_of source in
       let g = procedure_meant (meant s name) name (nil_left (procedure_use (meant s name) name) _ e) in
@@ -80,37 +83,40 @@ module _ (source : Source) (c : Clean source) (none : measures_breaches (names_o
       fs = numbers_of names
 
       forth : (g : ℕ) (d : ProcDef) → slice_get source.procs g ≡ Some d → DefinesProcedure source name.text d → f ≡ g → AreSame last names
-          → (tables : List (List Row)) → AreTables (core source) last (f ∷ fs) tables → bytes ≡ sections (core source) (f ∷ fs) tables → AreSections source last (name ∷ names) bytes
+          → (tables : List Table) → AreTables (core source) last (f ∷ fs) tables → bytes ≡ flat_map (section (core source)) tables → AreSections source last (name ∷ names) bytes
       forth g d there named number more [] h e = absurd h
-      forth g d there named number more (rows ∷ tables) h e =
-          let there' : slice_get source.procs f ≡ Some d = ap (slice_get source.procs) number ∙ there in (
+      forth g d there named number more (table ∷ tables) ((callee, (long, right)), others) e =
+          let there' : slice_get source.procs f ≡ Some d = ap (slice_get source.procs) number ∙ there in
+          let rest = flat_map (section (core source)) tables in
+          let head : heading (core source) table.callee ≡ heading_of d = ap (heading (core source)) callee ∙ heading_same f d there' in (
             d,
-            rows,
-            sections (core source) fs tables,
+            table.rows,
+            rest,
             named,
-            h.0.0,
-            (rows_same f d there' 0 rows).0 h.0.1,
-            (more (sections (core source) fs tables)).0 (tables, h.1, refl),
-            e ∙ ap (λ x. x ++ flat_map row_text rows ++ sections (core source) fs tables) (heading_same f d there'),
+            long,
+            (rows_same f d there' 0 table.rows).0 right,
+            (more rest).0 (tables, others, refl),
+            e ∙ ap (λ x. x ++ flat_map row_text table.rows ++ rest) head,
           )
 
-      backwards : (g : ℕ) → f ≡ g → meaning (names_of source) name.text ≡ Some (mean.Procedure g) → AreSame last names → AreSections source last (name ∷ names) bytes → Sectioned last (name ∷ names) bytes
+      backwards : (g : ℕ) → f ≡ g → meaning (names_of source) name.text ≡ Some (mean.Procedure g) → AreSame last names
+          → AreSections source last (name ∷ names) bytes → Sectioned last (name ∷ names) bytes
       backwards g number means more h =
           let q = named_procedure source c name.text h.0 h.3 in
           let same : q.0 ≡ f = procedure_number q.0 g (sym q.2 ∙ means) ∙ sym number in
           let there : slice_get source.procs f ≡ Some h.0 = ap (slice_get source.procs) (sym same) ∙ q.1 in
           let r = (more h.2).1 h.6 in (
-            h.1 ∷ r.0,
-            ((h.4, (rows_same f h.0 there 0 h.1).1 h.5), r.1),
+            record { callee = f; rows = h.1 } ∷ r.0,
+            ((refl, (h.4, (rows_same f h.0 there 0 h.1).1 h.5)), r.1),
             h.7 ∙ (ap (λ x. x ++ flat_map row_text h.1 ++ h.2) (sym (heading_same f h.0 there)) ∙ ap (λ x. heading (core source) f ++ flat_map row_text h.1 ++ x) r.2),
           )
 
   pub report_kept : (last : ℕ) (bytes : List ℕ) → IsReport (core source) last bytes ↔ IsReportOf source last bytes
   report_kept last bytes = (
     λ h.
-        let text = sections (core source) (core source).analyses h.0 in
+        let text = flat_map (section (core source)) h.0 in
         (text, (sections_same last source.analyses c.analyses text).0 (h.0, h.1, refl), h.2),
     λ h.
         let r = (sections_same last source.analyses c.analyses h.0).1 h.1 in
-        (r.0, r.1, h.2 ∙ ap (λ x. universe_text source.universe ++ x) r.2),
+        (r.0, r.1, h.2 ∙ ap (λ x. universe_text source.universe ++ equation_lines source ++ x) r.2),
   )

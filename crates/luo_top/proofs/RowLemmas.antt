@@ -13,7 +13,8 @@ use Rattle.luo_model.specs.Invariant.{IsProgram}
 use Rattle.luo_model.specs.Tables.{IsCount, IsTotal, IsRow}
 use Rattle.luo_model.specs.View.{Held, plain_of, procedure_of}
 use Rattle.luo_model.proofs.WorkLemmas.{work_at}
-use Rattle.luo_top.specs.Report.{AreRowsFrom, AreRows, AreTables}
+use Rattle.luo_report.specs.declared.table.Table.{Table}
+use Rattle.luo_top.specs.Report.{AreRowsFrom, IsTable, AreTables}
 
 -- the node of a procedure's parameter is there
 pub on_there : (p : Program) → IsProgram p → (f : ℕ) (P : Procedure) → slice_get p.procs f ≡ Some P → P.on.node < length p.nodes
@@ -60,13 +61,15 @@ pub rows-step : (p : Program) (f n : ℕ) (rows next : List Row) (row : Row) →
 rows-step p f n rows next row (long, a) size r e = subst (AreRowsTo p f (n + 1)) (sym e) (one_longer rows row ∙ omega (arith, long), rows-more p f 0 rows row a (omega (arith, long, size)) r)
 
 -- one more analyze line
-tables-more : (p : Program) (last f : ℕ) (fs : List ℕ) (rows : List Row) (tables : List (List Row)) → AreTables p last fs tables → AreRows p last f rows → AreTables p last (fs ++ f ∷ []) (tables ++ rows ∷ [])
-tables-more p last f [] rows [] t r = (r, tt)
-tables-more p last f [] rows (other ∷ tables) t r = absurd t
-tables-more p last f (g ∷ fs) rows [] t r = absurd t
-tables-more p last f (g ∷ fs) rows (other ∷ tables) t r = (t.0, tables-more p last f fs rows tables t.1 r)
+tables-more : (p : Program) (last f : ℕ) (fs : List ℕ) (table : Table) (tables : List Table) → AreTables p last fs tables → IsTable p last f table
+    → AreTables p last (fs ++ f ∷ []) (tables ++ table ∷ [])
+tables-more p last f [] table [] t r = (r, tt)
+tables-more p last f [] table (other ∷ tables) t r = absurd t
+tables-more p last f (g ∷ fs) table [] t r = absurd t
+tables-more p last f (g ∷ fs) table (other ∷ tables) t r = (t.0, tables-more p last f fs table tables t.1 r)
 
-pub tables-step : (p : Program) (last i : ℕ) (fs : List ℕ) (rows : List Row) (tables next : List (List Row)) → i < length fs → AreTables p last (take i fs) tables → AreRows p last (get_or fs i 0) rows → next ≡ tables ++ rows ∷ [] → AreTables p last (take (i + 1) fs) next
-tables-step p last i fs rows tables next h t r e =
-    subst (λ (l : List (List Row)). AreTables p last (take (i + 1) fs) l) (sym e)
-    (subst (λ (l : List ℕ). AreTables p last l (tables ++ rows ∷ [])) (sym (take_more fs i 0 h)) (tables-more p last (get_or fs i 0) (take i fs) rows tables t r))
+pub tables-step : (p : Program) (last i : ℕ) (fs : List ℕ) (table : Table) (tables next : List Table) → i < length fs → AreTables p last (take i fs) tables
+    → IsTable p last (get_or fs i 0) table → next ≡ tables ++ table ∷ [] → AreTables p last (take (i + 1) fs) next
+tables-step p last i fs table tables next h t r e =
+    subst (λ (l : List Table). AreTables p last (take (i + 1) fs) l) (sym e)
+    (subst (λ (l : List ℕ). AreTables p last l (tables ++ table ∷ [])) (sym (take_more fs i 0 h)) (tables-more p last (get_or fs i 0) (take i fs) table tables t r))

@@ -7,7 +7,6 @@ pub mod laws;
 mod lines;
 mod names;
 mod refusal;
-mod report;
 mod rows;
 mod status;
 mod steps;
@@ -21,3 +20,5 @@ pub use top::luo;
 mod tests;
 #[cfg(test)]
 mod tests_front;
+#[cfg(test)]
+mod tests_reports;

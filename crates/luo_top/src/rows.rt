@@ -1,15 +1,17 @@
-// The rows of the analyze lines.
+// The tables of the analyze lines.
 ghost use Rattle.std.specs.Prelude.{◌≡◌, ◌<◌, ◌≤◌, length, slice_get, Some, IfOk};
+ghost use Rattle.luo_finite.specs.Listing.{In};
 ghost use Rattle.luo_num.specs.declared.limits.TheConstants.{SIZE_LIMIT};
 ghost use Rattle.luo_model.specs.View.{plain_of};
 ghost use Rattle.luo_model.specs.Tables.{IsRow};
 ghost use Rattle.luo_model.specs.declared.table.Fill.TheVariants.{All};
-ghost use Rattle.luo_top.specs.Report.{AreRows, AreTables};
+ghost use Rattle.luo_top.specs.Report.{AreRows, IsTable, AreTables};
 ghost use Rattle.luo_top.specs.inner.Filled.{full};
 
 use luo_engine::Engine;
 use luo_model::{Proc, Program, Row};
 use luo_num::{Items, NoMemory};
+use luo_report::Table;
 use std::alloc::Global;
 
 // Procedure f.
@@ -56,20 +58,41 @@ fn rows_of(
     Ok(rows)
 }
 
-/// The rows of each analyze line for the sizes up to `last`.
-pub fn all_rows(
+// The table of procedure f.
+fn table_of(
     alloc: Global,
     program: &Program,
     engine: &Engine<'_>,
     last: u32,
-) -> Result<Items<Items<Row>>, NoMemory>
+    f: usize,
+) -> Result<Table, NoMemory>
     requires small { last ≤ SIZE_LIMIT }
     requires full { engine.now ≡ full program.now All last }
-    ensures { IfOk result (AreTables (plain_of program.now) last program.now.analyses) }
+    requires there { f < length program.now.procs }
+    ensures { IfOk result (IsTable (plain_of program.now) last f) }
 {
-    let mut all = Items::new(alloc);
+    Ok(Table {
+        callee: f,
+        rows: rows_of(alloc, program, engine, last, f)?,
+    })
+}
+
+/// The table of each analyze line for the sizes up to `last`, each of a procedure of the program.
+pub fn tables_of(
+    alloc: Global,
+    program: &Program,
+    engine: &Engine<'_>,
+    last: u32,
+) -> Result<Items<Table>, NoMemory>
+    requires small { last ≤ SIZE_LIMIT }
+    requires full { engine.now ≡ full program.now All last }
+    ensures right { IfOk result (AreTables (plain_of program.now) last program.now.analyses) }
+    ensures named { IfOk result (λ tables. (t : _) → In t tables
+        → t.callee < length program.now.procs) }
+{
+    let mut tables = Items::new(alloc);
     for f in program.analyses.as_slice() {
-        all.push(rows_of(alloc, program, engine, last, *f)?)?;
+        tables.push(table_of(alloc, program, engine, last, *f)?)?;
     }
-    Ok(all)
+    Ok(tables)
 }

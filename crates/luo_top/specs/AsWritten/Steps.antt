@@ -50,7 +50,7 @@ OverflowOf source n answer = HasOver source MAX n × OverflowRefusal (core sourc
 abbrev pub numbers : Source → ℕ → Step ⊤
 numbers source n = OverflowOf source n or_makes λ _. HasOver source MAX n → ⊥
 
--- the rows of the analyze lines
+-- the universe, the equations and the rows of the analyze lines
 abbrev pub report_of : Source → ℕ → Step (List ℕ)
 report_of source n = makes (IsReportOf source n)
 

@@ -7,7 +7,7 @@ use Rattle.luo_top.specs.Step.{Step, ◌and_then◌, makes}
 use Rattle.luo_top.specs.Steps.{file_program, founded, sized, tables}
 use Rattle.luo_top.specs.Told.{Told}
 
--- the rows of the analyze lines
+-- the universe, the equations and the tables
 abbrev pub report : Program → ℕ → Step (List ℕ)
 report p n = makes (IsReport p n)
 

@@ -9,13 +9,14 @@ ghost use Rattle.luo_top.specs.inner.Filled.{full};
 ghost use Rattle.luo_top.specs.inner.Passes.{Passes, PassesOver, seen, itself};
 
 use crate::refusal::Refusal;
-use crate::report::report;
-use crate::rows::all_rows;
+use crate::rows::tables_of;
 use crate::steps::{file_program, founded, sized, tables};
+use luo_compile::descriptors;
 use luo_engine::Engine;
 use luo_model::{Fill, Program};
 use luo_num::{Items, Text};
 use luo_outside::Files;
+use luo_report::report;
 use std::alloc::Global;
 
 // The report for the sizes up to `last`.
@@ -29,8 +30,9 @@ fn reported(
     requires full { engine.now ≡ full program.now All last }
     ensures { Passes itself (steps.report (plain_of program.now) last) result }
 {
-    let rows = all_rows(alloc, program, engine, last)?;
-    let text = report(alloc, program, rows.as_slice())?;
+    let equations = descriptors(alloc, program)?;
+    let tables = tables_of(alloc, program, engine, last)?;
+    let text = report(alloc, program, &equations, tables.as_slice())?;
     Ok(Items::from_vec(text))
 }
 

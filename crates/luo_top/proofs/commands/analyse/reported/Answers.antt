@@ -1,12 +1,22 @@
-use Rattle.std.proofs.Common.{length, ap, ◌∙◌}
+use Rattle.std.proofs.Common.{◌≡◌, ◌<◌, sym, ap, ◌∙◌, subst, List, length, map}
+use Rattle.luo_finite.specs.Listing.{In}
 use Rattle.luo_model.specs.View.{plain_of}
-use Rattle.luo_top.specs.Report.{report_text}
+use Rattle.luo_equation.specs.View.{equation_of}
+use Rattle.luo_report.specs.declared.table.Table.{Table}
+use Rattle.luo_report.specs.Report.{report_text}
+use Rattle.luo_system.specs.System.{system}
 use Rattle.luo_top.proofs.StepLemmas.{made}
-use Rattle.luo_top.proofs.OneReport.{tables_wide}
 use Rattle.luo_top.proofs.commands.analyse.reported.Goals as goal
 
 pub report-requires : goal.report-requires
-report-requires c = ap length c.as_slice.ensures ∙ tables_wide (plain_of c.args.program.now) c.args.last c.args.program.now.analyses c.in_ok-rows.rows c.in_ok-rows.ensures
+report-requires c = record { named = subst (λ (l : List Table). (t : Table) → In t l → t.callee < length c.args.program.now.procs) (sym c.as_slice.ensures) c.in_ok-tables.ensures.named }
 
 pub returns : goal.returns
-returns c = made _ _ (c.in_ok-rows.rows, c.in_ok-rows.ensures, c.from_vec.ensures ∙ c.in_ok-text.ensures ∙ ap (report_text (plain_of c.args.program.now)) c.as_slice.ensures)
+returns c =
+    let p = plain_of c.args.program.now in
+    let equations : map equation_of c.deref.result.now ≡ system p = ap (map equation_of) c.deref.ensures.value ∙ c.in_ok-equations.ensures in
+    made _ _ (
+      c.in_ok-tables.tables,
+      c.in_ok-tables.ensures.right,
+      c.from_vec.ensures ∙ c.in_ok-text.ensures ∙ (λ i. report_text p (equations i) (c.as_slice.ensures i)),
+    )
