@@ -1,0 +1,15 @@
+pub mod Form
+pub mod Calm
+pub mod Joined
+pub mod Names
+pub mod Lines
+pub mod WholeText
+pub mod Table
+pub mod Nodes
+pub mod Kept
+pub mod Facts
+pub mod Breaks
+pub mod Limits
+pub mod Walks
+pub mod Good
+pub mod Known
