@@ -12,6 +12,7 @@ use Rattle.luo_equation.specs.Text.{no_procedure}
 use Rattle.luo_report.specs.declared.table.Table.{Table}
 use Rattle.luo_report.specs.Report.{report_text}
 use Rattle.luo_system.specs.System.{system}
+use Rattle.luo_system.proofs.Truth.{systems-tables}
 use Rattle.luo_top.specs.Report.{AreRowsFrom, AreTables, IsReport}
 use Rattle.luo_top.proofs.RowLemmas.{whole_there}
 
@@ -37,4 +38,6 @@ module _ (p : Program) (q : IsProgram p) (f : IsFounded p) where
       (record { callee = g; rows = rows } ∷ tables, ((refl, (long, right)), rest))
 
   pub report_comes : (last : ℕ) → (bytes : List ℕ) × IsReport p last bytes
-  report_comes last = let (tables, t) = tables_come last p.analyses q.analyses_there in (report_text p (system p) tables, (tables, t, refl))
+  report_comes last =
+      let (tables, t) = tables_come last p.analyses q.analyses_there in
+      (report_text p (system p) tables, (systems-tables p q f (system p) refl, (tables, t, refl)))

@@ -114,9 +114,11 @@ module _ (source : Source) (c : Clean source) (none : measures_breaches (names_o
   pub report_kept : (last : ℕ) (bytes : List ℕ) → IsReport (core source) last bytes ↔ IsReportOf source last bytes
   report_kept last bytes = (
     λ h.
-        let text = flat_map (section (core source)) h.0 in
-        (text, (sections_same last source.analyses c.analyses text).0 (h.0, h.1, refl), h.2),
+        let (tables, right, e) = h.1 in
+        let text = flat_map (section (core source)) tables in
+        (h.0, (text, (sections_same last source.analyses c.analyses text).0 (tables, right, refl), e)),
     λ h.
-        let r = (sections_same last source.analyses c.analyses h.0).1 h.1 in
-        (r.0, r.1, h.2 ∙ ap (λ x. universe_text source.universe ++ equation_lines source ++ x) r.2),
+        let (sections, right, e) = h.1 in
+        let r = (sections_same last source.analyses c.analyses sections).1 right in
+        (h.0, (r.0, r.1, e ∙ ap (λ x. universe_text source.universe ++ equation_lines source ++ x) r.2)),
   )

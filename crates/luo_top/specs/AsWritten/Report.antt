@@ -9,6 +9,7 @@ use Rattle.luo_rules.specs.Whole.{core}
 use Rattle.luo_system.specs.System.{system}
 use Rattle.luo_meaning.specs.Defined.{DefinesProcedure}
 use Rattle.luo_meaning.specs.Rows.{AreRowsOf}
+use Rattle.luo_top.specs.Report.{EquationsAreTrue}
 
 -- the lines of the equations, which are those of the core form
 abbrev pub equation_lines : Source → List ℕ
@@ -25,7 +26,9 @@ AreSections source last (name ∷ names) bytes =
     (p : ProcDef) × (rows : List Row) × (rest : List ℕ) × DefinesProcedure source name.text p × (length rows ≡ last + 1) × AreRowsOf source p 0 rows
     × AreSections source last names rest × (bytes ≡ heading_of p ++ flat_map row_text rows ++ rest)
 
--- these bytes are the report of the source for the sizes up to `last`: the universe, the equations, and the sections of the analyze lines
+-- these bytes are the report of the source for the sizes up to `last`: the universe, the equations, which are true, and the sections of the
+-- analyze lines
 abbrev pub IsReportOf : Source → ℕ → List ℕ → Type 0
 IsReportOf source last bytes =
-    (sections : List ℕ) × AreSections source last source.analyses sections × (bytes ≡ universe_text source.universe ++ equation_lines source ++ sections)
+    EquationsAreTrue (core source)
+    × ((sections : List ℕ) × AreSections source last source.analyses sections × (bytes ≡ universe_text source.universe ++ equation_lines source ++ sections))

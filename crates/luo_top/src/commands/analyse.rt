@@ -1,6 +1,7 @@
 // `analyse FILE N`
 ghost use Rattle.std.specs.Prelude.{◌≡◌, ◌≤◌, ℕ, min, [], ◌∷◌};
 ghost use Rattle.luo_model.specs.View.{plain_of};
+ghost use Rattle.luo_model.specs.Founded.{IsFounded};
 ghost use Rattle.luo_model.specs.declared.table.Fill.TheVariants.{All};
 ghost use Rattle.luo_num.specs.declared.limits.TheConstants.{SIZE_LIMIT};
 ghost use Rattle.luo_top.specs.declared.words.TheConstants.{NUMBER_CAP};
@@ -19,13 +20,14 @@ use luo_outside::Files;
 use luo_report::report;
 use std::alloc::Global;
 
-// The report for the sizes up to `last`.
+// The report of a well-founded program for the sizes up to `last`.
 fn reported(
     alloc: Global,
     program: &Program,
     engine: &Engine<'_>,
     last: u32,
 ) -> Result<Text, Refusal>
+    requires founded { IsFounded (plain_of program.now) }
     requires size { last ≤ SIZE_LIMIT }
     requires full { engine.now ≡ full program.now All last }
     ensures { Passes itself (steps.report (plain_of program.now) last) result }
@@ -50,5 +52,5 @@ pub fn analyse_file<F: Files>(
     let ranks = founded(alloc, &program)?;
     let size = sized(last)?;
     let engine = tables(alloc, &program, &ranks, size, Fill::All)?;
-    reported(alloc, &program, &engine, size)
+    reported(alloc, ranks.program(), &engine, size)
 }

@@ -2,9 +2,11 @@ use Rattle.std.proofs.Common.{◌≡◌, ◌<◌, sym, ap, ◌∙◌, subst, Lis
 use Rattle.luo_finite.specs.Listing.{In}
 use Rattle.luo_model.specs.View.{plain_of}
 use Rattle.luo_equation.specs.View.{equation_of}
+use Rattle.luo_equation.specs.Expr as series
 use Rattle.luo_report.specs.declared.table.Table.{Table}
 use Rattle.luo_report.specs.Report.{report_text}
 use Rattle.luo_system.specs.System.{system}
+use Rattle.luo_system.specs.Holding.{IsTableOf}
 use Rattle.luo_top.proofs.StepLemmas.{made}
 use Rattle.luo_top.proofs.commands.analyse.reported.Goals as goal
 
@@ -14,9 +16,12 @@ report-requires c = record { named = subst (λ (l : List Table). (t : Table) →
 pub returns : goal.returns
 returns c =
     let p = plain_of c.args.program.now in
-    let equations : map equation_of c.deref.result.now ≡ system p = ap (map equation_of) c.deref.ensures.value ∙ c.in_ok-equations.ensures in
+    let equations : map equation_of c.deref.result.now ≡ system p = ap (map equation_of) c.deref.ensures.value ∙ c.in_ok-equations.ensures.equations in
     made _ _ (
-      c.in_ok-tables.tables,
-      c.in_ok-tables.ensures.right,
-      c.from_vec.ensures ∙ c.in_ok-text.ensures ∙ (λ i. report_text p (equations i) (c.as_slice.ensures i)),
+      subst (λ es. (numbers : series.Table) × IsTableOf p es numbers) equations (c.in_ok-equations.ensures.table c.founded),
+      (
+        c.in_ok-tables.tables,
+        c.in_ok-tables.ensures.right,
+        c.from_vec.ensures ∙ c.in_ok-text.ensures ∙ (λ i. report_text p (equations i) (c.as_slice.ensures i)),
+      ),
     )
