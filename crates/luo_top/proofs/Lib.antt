@@ -14,6 +14,8 @@ pub mod ProgramFacts
 pub mod ReportComes
 pub mod ReportKept
 pub mod RowLemmas
+pub mod RunKept
+pub mod RunLemmas
 pub mod SameSteps
 pub mod Sections
 pub mod SoleSteps
