@@ -1,0 +1,10 @@
+pub mod RunLemmas
+pub mod ReaderLemmas
+pub mod MarkLemmas
+pub mod BackLemmas
+pub mod CompleteLemmas
+pub mod NestingLemmas
+pub mod ReadLemmas
+pub mod MemberLemmas
+pub mod AnswerLemmas
+pub mod FactLemmas
