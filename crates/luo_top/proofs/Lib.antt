@@ -7,6 +7,7 @@ pub mod Numbers
 pub mod NumberWords
 pub mod OneOutcome
 pub mod OneReport
+pub mod OneText
 pub mod OutcomeComes
 pub mod OutcomeKept
 pub mod OutcomeTells
@@ -19,6 +20,7 @@ pub mod RunLemmas
 pub mod SameSteps
 pub mod Sections
 pub mod SoleSteps
+pub mod SomeText
 pub mod StepLemmas
 pub mod TokenBytes
 pub mod WrittenOutcome

@@ -9,7 +9,7 @@ use Rattle.luo_model.specs.Program.{Program}
 use Rattle.luo_model.specs.Invariant.{IsProgram}
 use Rattle.luo_model.specs.Tree.{Tree}
 use Rattle.luo_model.proofs.ChargeLemmas.{charges_one}
-use Rattle.luo_read.proofs.OneAnswer.{refusal_one, reads_one}
+use Rattle.luo_top.proofs.OneText.{refusal_one, reads_one}
 use Rattle.luo_model.specs.Founded.{IsFounded}
 use Rattle.luo_model.proofs.TableLemmas.{totals_are_single}
 use Rattle.luo_model.proofs.WorkLemmas.{sites_are_apart}
@@ -40,7 +40,7 @@ use Rattle.luo_top.specs.Told.{Told, ReadingRefusal, reading}
 use Rattle.luo_top.specs.Words.{Command, Analyse, Format, Run, command_of, WordsRefusal, asked_by}
 use Rattle.luo_top.specs.WordRefusals.{refusal_of_structure}
 use Rattle.luo_top.proofs.ProgramFacts.{program_is}
-use Rattle.luo_top.proofs.RunLemmas.{named_single, run_text_single}
+use Rattle.luo_top.proofs.RunLemmas.{named_single, taken, run_text_single}
 use Rattle.luo_top.proofs.SoleSteps.{IsSole, or_makes-sole, and_then-sole, makes-sole, ends-single, refused-single}
 use Rattle.luo_top.proofs.OneReport.{reports_one}
 
@@ -173,8 +173,8 @@ steps-sole (Analyse file n) told = and_then-sole _ _ (program-sole file told) (�
 steps-sole (Format file) told = and_then-sole _ _ (source_file-sole file told) (λ s _. makes-sole _ (λ x y p q. p ∙ sym q))
 steps-sole (Run file procedure structure) told = and_then-sole _ _ (program-sole file told) (λ p h.
     let is = program_is file told p h in
-    and_then-sole _ _ (founded-sole p) (λ _ _. and_then-sole _ _ (procedure-sole p procedure is) (λ f _. and_then-sole _ _ (structure-sole p (parameter_node p f) structure is) (λ t _.
-    and_then-sole _ _ (charge-sole p f t) (λ q _. makes-sole _ (run_text_single p f t q))))))
+    and_then-sole _ _ (founded-sole p) (λ _ k. and_then-sole _ _ (procedure-sole p procedure is) (λ f n. and_then-sole _ _ (structure-sole p (parameter_node p f) structure is) (λ t r.
+    and_then-sole _ _ (charge-sole p f t) (λ q _. makes-sole _ (run_text_single p is k.1 f t (taken p f (n.1.0, n.1.1) structure t r.1) q))))))
 
 pub words-single : (o : Option Command) → IsSingle (WordsRefusal o)
 words-single None a b p q = p ∙ sym q

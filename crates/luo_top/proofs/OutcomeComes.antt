@@ -20,7 +20,7 @@ use Rattle.luo_rules.specs.Whole.{IsCore, breaches, core}
 use Rattle.luo_founded.proofs.Charged.{one_charge}
 use Rattle.luo_founded.proofs.SomeAnswer.{founded_or_first}
 use Rattle.luo_interp.specs.Takes.{Takes}
-use Rattle.luo_read.proofs.SomeAnswer.{read_or_refused}
+use Rattle.luo_top.proofs.SomeText.{read_or_refused}
 use Rattle.luo_top.specs.Answer.{Answer, Output, Untold}
 use Rattle.luo_top.specs.Commands.Run.{procedure_of, parameter_node, structure_of, charge_of}
 use Rattle.luo_top.specs.Outcome.{Outcome, steps_of}

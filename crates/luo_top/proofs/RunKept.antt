@@ -58,16 +58,16 @@ module _ (source : Source) (is : IsSource source) (unbroken : breaches source �
       (λ none f n. named_there name f n) (λ none d n. there_named name d n)
 
   module _ (f : ℕ) (d : ProcDef) (there : At f d) where
-    at : ℕ
+    abbrev at : ℕ
     at = (core_at f d there).0
 
-    P : Procedure
+    abbrev P : Procedure
     P = proc_core (setting_of source) at d
 
     core_there : slice_get (core source).procs f ≡ Some P
     core_there = (core_at f d there).1
 
-    x : ℕ
+    abbrev x : ℕ
     x = parameter_node (core source) f
 
     named_same : (text : List ℕ) (t : Tree) → IsNamed (core source) x text t ↔ IsNamedOf source d.on text t

@@ -4,7 +4,7 @@ ghost use Rattle.luo_interp.specs.Takes.{Takes};
 ghost use Rattle.luo_model.specs.View.{plain_of};
 ghost use Rattle.luo_struct.specs.View.{tree_of};
 ghost use Rattle.luo_top.specs.Commands.Run as steps;
-ghost use Rattle.luo_top.specs.inner.Found.{AddsTail};
+ghost use Rattle.luo_top.specs.inner.Found.{has_result, AddsTail};
 ghost use Rattle.luo_top.specs.inner.Passes.{Passes, PassesOver, seen, itself};
 
 use crate::refusal::{Line, Refusal};
@@ -36,6 +36,16 @@ fn charge_of(
     }
 }
 
+// Whether a procedure has a result.
+fn has_result(program: &Program, procedure: usize) -> bool
+    ensures { result ≡ has_result (plain_of program.now) procedure }
+{
+    match program.procs.get(procedure) {
+        Some(there) => there.result.is_some(),
+        None => false,
+    }
+}
+
 // Puts what the procedure makes of the structure behind the text, as a line, where it has a result.
 fn put_made(
     alloc: Global,
@@ -50,10 +60,7 @@ fn put_made(
     ensures { OnOk result (AddsTail (plain_of program.now) procedure (tree_of s.now)
         text.old.items text.new.items) }
 {
-    let Some(there) = program.procs.get(procedure) else {
-        return Ok(());
-    };
-    if there.result.is_none() {
+    if !has_result(program, procedure) {
         return Ok(());
     }
     let made = make(alloc, program, ranks, procedure, s)?;

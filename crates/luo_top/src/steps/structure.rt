@@ -1,13 +1,13 @@
 // What words name in a program: a procedure, and a structure by its text.
-ghost use Rattle.std.specs.Prelude.{◌≡◌, ◌++◌, ℕ, List, codes, decimal, IfOk};
-ghost use Rattle.luo_model.specs.Program.{Program};
+ghost use Rattle.std.specs.Prelude.{◌≡◌, ◌<◌, ◌++◌, ℕ, List, length, codes, decimal, IfOk};
+ghost use Rattle.luo_model.specs.Program as plain;
 ghost use Rattle.luo_model.specs.View.{plain_of};
 ghost use Rattle.luo_read.specs.Reading.{Refuses};
 ghost use Rattle.luo_struct.specs.View.{tree_of};
 ghost use Rattle.luo_top.specs.Commands.Run as run;
 ghost use Rattle.luo_top.specs.Refusals.{line};
 ghost use Rattle.luo_top.specs.WordRefusals.{unknown_line};
-ghost use Rattle.luo_top.specs.inner.Found.{place_of, IsThere};
+ghost use Rattle.luo_top.specs.inner.Found.{place_of};
 ghost use Rattle.luo_top.specs.inner.Passes.{Passes, RefusedBy, itself};
 
 use crate::lines::line_at;
@@ -44,7 +44,9 @@ fn place_of(procs: &[Proc], name: &[u8]) -> Option<usize>
 
 /// The procedure of this name.
 pub fn procedure_of(alloc: Global, program: &Program, name: &str) -> Result<usize, Refusal>
-    ensures { Passes itself (run.procedure_of (plain_of program.now) name.now) result }
+    ensures passes { Passes itself (run.procedure_of (plain_of program.now) name.now) result }
+    ensures within { IfOk result (λ f. run.parameter_node (plain_of program.now) f
+        < length program.now.nodes) }
 {
     let name = name.as_bytes();
     match place_of(program.procs.as_slice(), name) {
@@ -69,7 +71,7 @@ fn size_line(alloc: Global, size: u64) -> Result<Vec<u8>, NoMemory>
 
 // The refusal of a text that gives no structure.
 fn structure_refusal(alloc: Global, error: StructError) -> Refusal
-    ensures { (p : Program) (x : ℕ) (word : List ℕ) → Refuses p x word error
+    ensures { (p : plain.Program) (x : ℕ) (word : List ℕ) → Refuses p x word error
         → RefusedBy (run.StructureRefusal p x word) result }
 {
     match error {
@@ -108,7 +110,8 @@ pub fn structure_of(
     procedure: usize,
     text: &str,
 ) -> Result<Structure, Refusal>
-    requires there { IsThere (plain_of program.now) procedure }
+    requires within { run.parameter_node (plain_of program.now) procedure
+        < length program.now.nodes }
     ensures { Passes tree_of (run.structure_of (plain_of program.now)
         (run.parameter_node (plain_of program.now) procedure) text.now) result }
 {

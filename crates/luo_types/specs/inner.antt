@@ -1,5 +1,0 @@
-pub mod StatementsMade
-pub mod SitesFound
-pub mod ProceduresMade
-pub mod Typed
-pub mod NodeLists
