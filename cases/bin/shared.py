@@ -5,12 +5,15 @@ import subprocess
 import tempfile
 
 CASES = os.path.dirname(os.path.dirname(os.path.abspath(__file__)))
-COPIES = re.compile(r"\[\[(\d+)\|(.*?)\]\]")
+COPIES = re.compile(r"\[\[(\d+)[|*]((?:(?!\[\[\d+[|*]).)*?)\]\]")
 
 
 def expanded(text):
-    """The text with `[[N|TEXT]]` as N copies of TEXT, in which `#` is the number of the copy, from 0."""
-    return COPIES.sub(lambda m: "".join(m.group(2).replace("#", str(i)) for i in range(int(m.group(1)))), text)
+    """The text with `[[N|TEXT]]` and `[[N*TEXT]]` as N copies of TEXT, in which `#` is the number of the copy, from 0. Copies inside
+    copies come first."""
+    while COPIES.search(text):
+        text = COPIES.sub(lambda m: "".join(m.group(2).replace("#", str(i)) for i in range(int(m.group(1)))), text)
+    return text
 
 
 def run(program, words, files=None, prepare=None):

@@ -23,8 +23,8 @@ use Rattle.luo_rules.proofs.ProperSource.{ProperBody, ProperProc, source_proper}
 use Rattle.luo_rules.proofs.SourceFacts.{all_get}
 use Rattle.luo_rules.specs.Checks.{IsSource}
 use Rattle.luo_rules.proofs.CleanSource.{Clean, clean_proc, clean_result, def_node_is, proc_get, proc_back}
-use Rattle.luo_meaning.specs.Makes as makes
-use Rattle.luo_meaning.specs.Makes.{MakesWithin, Makes}
+use Rattle.luo_interp.specs.Makes as makes
+use Rattle.luo_interp.specs.Makes.{MakesWithin, Makes}
 use Rattle.luo_meaning.specs.Made.{BodyMakes, ProcMakesWithin, ProcMakes}
 use Rattle.luo_meaning.proofs.Named.{procedure_named, named_procedure}
 use Rattle.luo_meaning.proofs.Steps.{agree_one}
@@ -88,14 +88,15 @@ module _ (source : Source) (c : Clean source) where
         let p = procedure_named source c text f e in
         let there = proc_get s 0 source.procs f p.0 p.1 in (
           λ h.
-              let same : h.0 ≡ proc_core s there.0 p.0 = some_same h.0 (proc_core s there.0 p.0) (sym h.1 ∙ there.1) in
-              (p.0, p.2, (here R S (within_made depth) f p.0 p.1 there.0 t r).0 (subst (λ (P : Procedure). (result : Result) × (P.result ≡ Some result) × makes.ValueMakes R result.value (t ∷ []) r) same h.2)),
+              let same : h.0 ≡ proc_core s there.0 p.0 = some_same h.0 (proc_core s there.0 p.0) (sym h.2 ∙ there.1) in
+              (p.0, p.2, (here R S (within_made depth) f p.0 p.1 there.0 t r).0 (subst (λ (P : Procedure). (result : Result) × (P.result ≡ Some result) × makes.ValueMakes R result.value (t ∷ []) r) same (h.1, h.3, h.4))),
           λ h.
               let g = named_procedure source c text h.0 h.1 in
               let number : g.0 ≡ f = procedure_number g.0 f (sym g.2 ∙ e) in
               let is : slice_get source.procs f ≡ Some h.0 = ap (slice_get source.procs) (sym number) ∙ g.1 in
               let core_is = proc_get s 0 source.procs f h.0 is in
-              (proc_core s core_is.0 h.0, core_is.1, (here R S (within_made depth) f h.0 is core_is.0 t r).1 h.2),
+              let k = (here R S (within_made depth) f h.0 is core_is.0 t r).1 h.2 in
+              (proc_core s core_is.0 h.0, k.0, core_is.1, k.1, k.2),
         )
 
     -- what a procedure makes is what the one of its name makes as written

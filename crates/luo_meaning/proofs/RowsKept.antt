@@ -105,7 +105,7 @@ module _ (source : Source) (c : Clean source) where
 
     module _ (is : IsProgram (core source)) (f : ℕ) (d : ProcDef) (there : slice_get source.procs f ≡ Some d) where
       -- the structures of the node of procedure f's parameter, in the core form and as written
-      structure_same : (P : Procedure) → slice_get (core source).procs f ≡ Some P → (n : ℕ) (t : Tree) → IsStructure (core source) P.on.node n t ↔ IsStructureOf source (Named d.on) n t
+      pub structure_same : (P : Procedure) → slice_get (core source).procs f ≡ Some P → (n : ℕ) (t : Tree) → IsStructure (core source) P.on.node n t ↔ IsStructureOf source (Named d.on) n t
       structure_same P e n t =
           let s = setting_of source in
           let g = proc_get s 0 source.procs f d there in

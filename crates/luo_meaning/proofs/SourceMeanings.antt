@@ -25,7 +25,7 @@ use Rattle.luo_meaning.specs.Structures.{IsOf}
 use Rattle.luo_meaning.specs.Rows.{IsStructureOf}
 use Rattle.luo_meaning.specs.Examples.{choices, spines}
 use Rattle.luo_meaning.specs.Facts.{AreAllOf, ChargesJust, point, leaf, inner, zero_bit, one_bit, bits, first_kind, second_kind, CyclesAreCharged, ChoicesOfTwo, BinaryTreesOfTwo, PathLengths, SpinesAreCharged, PermutationsOfTwo, FewCyclesOfTwo, BothIsMade}
-use Rattle.luo_meaning.specs.Makes.{Makes}
+use Rattle.luo_interp.specs.Makes.{Makes}
 use Rattle.luo_meaning.specs.Made.{ProcMakes}
 use Rattle.luo_meaning.proofs.RowsKept.{type_kept}
 use Rattle.luo_meaning.proofs.ProceduresKept.{charges_kept}
@@ -131,8 +131,8 @@ pub both_is_made : BothIsMade
 both_is_made =
     let one : Tree = one_bit in
     let zero : Tree = zero_bit in (
-      both_makes one zero (bits one one) (2, (_, refl, (_, refl, (bits one zero, refl, (more one (more one none), ((zero, refl, (_, refl, (_, refl, (zero, refl, (point 0, refl, refl))))), (refl, tt)), refl))))),
+      both_makes one zero (bits one one) (2, (_, _, refl, refl, (bits one zero, refl, (more one (more one none), (_, _, (zero, refl, (_, _, refl, refl, (zero, refl, (point 0, refl, refl)))), (_, _, refl, refl, refl), refl), refl)))),
       both_charges one zero 3 refl,
-      both_makes one one (bits zero one) (2, (_, refl, (_, refl, (bits one one, refl, (more zero (more one none), ((one, refl, (_, refl, (_, refl, (one, refl, (point 0, refl, refl))))), (refl, tt)), refl))))),
+      both_makes one one (bits zero one) (2, (_, _, refl, refl, (bits one one, refl, (more zero (more one none), (_, _, (one, refl, (_, _, refl, refl, (one, refl, (point 0, refl, refl)))), (_, _, refl, refl, refl), refl), refl)))),
       both_charges one one 0 refl,
     )

@@ -38,7 +38,7 @@ use Rattle.luo_rules.proofs.CleanSource.{Clean}
 use Rattle.luo_meaning.specs.Variables.{Environment, binds}
 use Rattle.luo_meaning.specs.Structures.{IsOf}
 use Rattle.luo_meaning.specs.Types.{IsProductOf}
-use Rattle.luo_meaning.specs.Makes as makes
+use Rattle.luo_interp.specs.Makes as makes
 use Rattle.luo_meaning.specs.Made.{ValueMakes, ValuesMake, InnerMakes, ArmsMake}
 use Rattle.luo_meaning.proofs.Steps.{Agree, agree_bound}
 use Rattle.luo_meaning.proofs.StatementsKept.{argument_found, looked}
@@ -60,6 +60,12 @@ atom_form (shape.Coll kind part low high) e = absurd (cc)
 well_placed : (b : Bool) (at : ℕ) (text : List ℕ) → misplaced b at text ≡ [] → b ≡ true
 well_placed true at text e = refl
 well_placed false at text e = absurd (cc)
+
+none_more : {t : Tree} {ts : Trees} → none ≡ more t ts → ⊥
+none_more e = cc
+
+more_same : {t u : Tree} {ts us : Trees} → more t ts ≡ more u us → (t ≡ u) × (ts ≡ us)
+more_same e = (cc, cc)
 
 -- both have arms, or none has
 abbrev AsMany : plain.ValueArms → {n : _} → Row_of-SourceValueArm n → Type 0
@@ -190,18 +196,23 @@ module _ (source : Source) (R : ℕ → Tree → Tree → Type 0) (S : List ℕ 
 
       values_made : {n : _} (row : Row_of-SourceValue n) (scope : List Variable) (env : Environment) (vars : List Tree) → Agree scope env vars → (nodes : List ℕ) (es : List TypeExpr) → AllHold source nodes es → length nodes ≡ count_values row → ProperValues row
           → values_breaches (setting_of source) scope nodes row ≡ [] → (ts : Trees) → makes.ValuesMake R (values_core (setting_of source) scope nodes row) vars ts ↔ ValuesMake source S es env row ts
-      values_made end_of-SourceValue scope env vars agree [] [] h long proper e none = (λ k. k, λ k. k)
-      values_made end_of-SourceValue scope env vars agree [] [] h long proper e (more t ts) = (λ k. k, λ k. k)
+      values_made end_of-SourceValue scope env vars agree [] [] h long proper e none = (λ k. tt, λ k. refl)
+      values_made end_of-SourceValue scope env vars agree [] [] h long proper e (more t ts) = (λ k. absurd (none_more (sym k)), λ k. absurd k)
       values_made end_of-SourceValue scope env vars agree [] (f ∷ es) h long proper e ts = absurd h
       values_made end_of-SourceValue scope env vars agree (x ∷ nodes) es h long proper e ts = absurd (omega (arith, long))
       values_made (more_of-SourceValue v rest) scope env vars agree [] es h long proper e ts = absurd (omega (arith, long))
       values_made (more_of-SourceValue v rest) scope env vars agree (x ∷ nodes) [] h long proper e ts = absurd h
-      values_made (more_of-SourceValue v rest) scope env vars agree (x ∷ nodes) (f ∷ es) h long proper e none = (λ k. k, λ k. k)
+      values_made (more_of-SourceValue v rest) scope env vars agree (x ∷ nodes) (f ∷ es) h long proper e none = (λ k. absurd (none_more k.4), λ k. absurd k)
       values_made (more_of-SourceValue v rest) scope env vars agree (x ∷ nodes) (f ∷ es) h long proper e (more t ts) =
           let s = setting_of source in
           let one = value_made v scope env vars agree x f h.0 proper.0 (nil_left (value_breaches s scope (Some x) v) (values_breaches s scope nodes rest) e) t in
           let others = values_made rest scope env vars agree nodes es h.1 (omega (arith, long)) proper.1 (nil_right (value_breaches s scope (Some x) v) (values_breaches s scope nodes rest) e) ts in
-          (λ k. (one.0 k.0, others.0 k.1), λ k. (one.1 k.0, others.1 k.1))
+          (
+            λ k.
+                let same = more_same k.4 in
+                (one.0 (subst (makes.ValueMakes R (value_core s scope (Some x) v) vars) (sym same.0) k.2), others.0 (subst (makes.ValuesMake R (values_core s scope nodes rest) vars) (sym same.1) k.3)),
+            λ k. (t, ts, one.1 k.0, others.1 k.1, refl),
+          )
 
       inner_made : {n : _} (row : Row_of-SourceValue n) (scope : List Variable) (env : Environment) (vars : List Tree) → Agree scope env vars → (y : ℕ) (f : TypeExpr) → Holds source y f → 1 ≤ count_values row → ProperValues row
           → boxed_value_breaches (setting_of source) scope (Some y) row ≡ [] → (r : Tree) → makes.ValueMakes R (boxed_value_core (setting_of source) scope (Some y) row) vars r ↔ InnerMakes source S f env row r

@@ -15,7 +15,7 @@ use Rattle.luo_rules.specs.Checks.{IsSource, IsChecked}
 use Rattle.luo_rules.specs.Whole.{IsCore, walk_count}
 use Rattle.luo_meaning.specs.Structures.{IsOf}
 use Rattle.luo_meaning.specs.Charges.{ProcCharges}
-use Rattle.luo_meaning.specs.Makes.{Makes}
+use Rattle.luo_interp.specs.Makes.{Makes}
 use Rattle.luo_meaning.specs.Made.{ProcMakes}
 use Rattle.luo_meaning.specs.Constructs.{IsConstructOf}
 use Rattle.luo_meaning.specs.Rows.{IsRowOf, AreTablesOf}

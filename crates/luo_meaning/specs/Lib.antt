@@ -4,7 +4,6 @@ pub mod Variables
 pub mod Charges
 pub mod Types
 pub mod Constructs
-pub mod Makes
 pub mod Made
 pub mod Rows
 pub mod Sites

@@ -7,6 +7,7 @@ pub mod Numbers
 pub mod NumberWords
 pub mod OneOutcome
 pub mod OneReport
+pub mod OneText
 pub mod OutcomeComes
 pub mod OutcomeKept
 pub mod OutcomeTells
@@ -14,8 +15,11 @@ pub mod ProgramFacts
 pub mod ReportComes
 pub mod ReportKept
 pub mod RowLemmas
+pub mod RunKept
+pub mod RunLemmas
 pub mod SameSteps
 pub mod SoleSteps
+pub mod SomeText
 pub mod StepLemmas
 pub mod TokenBytes
 pub mod WrittenOutcome

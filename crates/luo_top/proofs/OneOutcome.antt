@@ -7,6 +7,9 @@ use Rattle.luo_model.specs.declared.table.Fill.{Fill}
 use Rattle.luo_model.specs.declared.table.Fill.TheVariants.{All}
 use Rattle.luo_model.specs.Program.{Program}
 use Rattle.luo_model.specs.Invariant.{IsProgram}
+use Rattle.luo_model.specs.Tree.{Tree}
+use Rattle.luo_model.proofs.ChargeLemmas.{charges_one}
+use Rattle.luo_top.proofs.OneText.{refusal_one, reads_one}
 use Rattle.luo_model.specs.Founded.{IsFounded}
 use Rattle.luo_model.proofs.TableLemmas.{totals_are_single}
 use Rattle.luo_model.proofs.WorkLemmas.{sites_are_apart}
@@ -26,6 +29,7 @@ use Rattle.luo_rules.specs.Whole.{IsCore, breaches}
 use Rattle.luo_top.specs.declared.status.Status.TheVariants.{Refused, Limit, Overflow}
 use Rattle.luo_top.specs.Answer.{Refusal}
 use Rattle.luo_top.specs.Commands.Analyse.{report}
+use Rattle.luo_top.specs.Commands.Run.{procedure_of, parameter_node, structure_of, charge_of, run_text}
 use Rattle.luo_founded.proofs.OneAnswer.{first_once}
 use Rattle.luo_top.specs.FoundedRefusals.{founded_line, FoundedRefusal}
 use Rattle.luo_top.specs.Outcome.{Outcome, steps_of}
@@ -33,8 +37,10 @@ use Rattle.luo_top.specs.Overflows.{overflow_line, OverflowRefusal}
 use Rattle.luo_top.specs.Refusals.{LexicalRefusal, SyntaxRefusal, LimitRefusal, RuleRefusal, WalksRefusal, refusal_of_fault, refusal_of_error, byte_of_token, limit_line, rule_line}
 use Rattle.luo_top.specs.Steps.{tokens_of, source_of, core_of, file_source, file_program, founded, sized, tables}
 use Rattle.luo_top.specs.Told.{Told, ReadingRefusal, reading}
-use Rattle.luo_top.specs.Words.{Command, Analyse, Format, command_of, WordsRefusal, asked_by}
+use Rattle.luo_top.specs.Words.{Command, Analyse, Format, Run, command_of, WordsRefusal, asked_by}
+use Rattle.luo_top.specs.WordRefusals.{refusal_of_structure}
 use Rattle.luo_top.proofs.ProgramFacts.{program_is}
+use Rattle.luo_top.proofs.RunLemmas.{named_single, taken, run_text_single}
 use Rattle.luo_top.proofs.SoleSteps.{IsSole, or_makes-sole, and_then-sole, makes-sole, ends-single, refused-single}
 use Rattle.luo_top.proofs.OneReport.{reports_one}
 
@@ -150,16 +156,31 @@ tables-sole fill p n q f = or_makes-sole _ _ (overflow-single fill p n q f) (λ 
 report-sole : (p : Program) (n : ℕ) → IsProgram p → IsSole (report p n)
 report-sole p n q = makes-sole _ (reports_one p (totals_are_single p (sites_are_apart p q)) n)
 
+procedure-sole : (p : Program) (name : List ℕ) → IsProgram p → IsSole (procedure_of p name)
+procedure-sole p name q = or_makes-sole _ _ (refused-single _ _ _) (λ none. named_single p q name)
+
+structure-sole : (p : Program) (x : ℕ) (text : List ℕ) → IsProgram p → IsSole (structure_of p x text)
+structure-sole p x text q =
+    or_makes-sole _ _ (λ a b (d, h, e) (c, k, g). e ∙ ap refusal_of_structure (refusal_one p q x text d c h k) ∙ sym g) (λ none. reads_one p q x text)
+
+charge-sole : (p : Program) (f : ℕ) (t : Tree) → IsSole (charge_of p f t)
+charge-sole p f t = or_makes-sole _ _ (λ a b (m, h, l, e) (n, k, o, d). e ∙ sym d) (λ none. charges_one p f t)
+
 steps-sole : (c : Command) (told : Told) → IsSole (steps_of c told)
 steps-sole (Analyse file n) told = and_then-sole _ _ (program-sole file told) (λ p h.
     let is = program_is file told p h in
     and_then-sole _ _ (founded-sole p) (λ _ k. and_then-sole _ _ (sized-sole n) (λ m _. and_then-sole _ _ (tables-sole All p m is k.1) (λ _ _. report-sole p m is))))
 steps-sole (Format file) told = and_then-sole _ _ (source_file-sole file told) (λ s _. makes-sole _ (λ x y p q. p ∙ sym q))
+steps-sole (Run file procedure structure) told = and_then-sole _ _ (program-sole file told) (λ p h.
+    let is = program_is file told p h in
+    and_then-sole _ _ (founded-sole p) (λ _ k. and_then-sole _ _ (procedure-sole p procedure is) (λ f n. and_then-sole _ _ (structure-sole p (parameter_node p f) structure is) (λ t r.
+    and_then-sole _ _ (charge-sole p f t) (λ q _. makes-sole _ (run_text_single p is k.1 f t (taken p f (n.1.0, n.1.1) structure t r.1) q))))))
 
 pub words-single : (o : Option Command) → IsSingle (WordsRefusal o)
 words-single None a b p q = p ∙ sym q
 words-single (Some (Analyse file n)) a b p q = absurd p
 words-single (Some (Format file)) a b p q = absurd p
+words-single (Some (Run file procedure structure)) a b p q = absurd p
 
 asked-sole : (words : List (List ℕ)) → IsSole (asked_by words)
 asked-sole words = or_makes-sole _ _ (words-single (command_of words)) (λ none. some_one (command_of words))

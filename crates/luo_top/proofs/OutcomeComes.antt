@@ -6,6 +6,7 @@ use Rattle.luo_model.specs.declared.table.Fill.{Fill}
 use Rattle.luo_model.specs.declared.table.Fill.TheVariants.{All}
 use Rattle.luo_model.specs.Invariant.{IsProgram}
 use Rattle.luo_model.specs.Founded.{IsFounded}
+use Rattle.luo_model.specs.Tree.{Tree}
 use Rattle.luo_engine.proofs.FirstOver.{none_or_first}
 use Rattle.luo_scan.specs.declared.token.Token.{Token}
 use Rattle.luo_scan.specs.Tokens.{Tokens, LexicalFault, FirstFault}
@@ -16,16 +17,21 @@ use Rattle.luo_rules.specs.declared.rule.Breach.{Breach}
 use Rattle.luo_rules.specs.declared.error.CountLimit.{CountLimit}
 use Rattle.luo_rules.specs.Counted.{limits_passed}
 use Rattle.luo_rules.specs.Whole.{IsCore, breaches, core}
+use Rattle.luo_founded.proofs.Charged.{one_charge}
 use Rattle.luo_founded.proofs.SomeAnswer.{founded_or_first}
+use Rattle.luo_interp.specs.Takes.{Takes}
+use Rattle.luo_top.proofs.SomeText.{read_or_refused}
 use Rattle.luo_top.specs.Answer.{Answer, Output, Untold}
+use Rattle.luo_top.specs.Commands.Run.{procedure_of, parameter_node, structure_of, charge_of}
 use Rattle.luo_top.specs.Outcome.{Outcome, steps_of}
 use Rattle.luo_top.specs.Refusals.{LimitRefusal}
 use Rattle.luo_top.specs.Step.{Step, HasNone, ◌or_makes◌, ◌and_then◌, ends}
 use Rattle.luo_top.specs.Steps.{tokens_of, source_of, core_of, CoreRefusal, file_source, file_program, founded, tables}
 use Rattle.luo_top.specs.Told.{Told, ReadingRefusal, reading}
-use Rattle.luo_top.specs.Words.{Command, Analyse, Format, command_of, WordsRefusal, asked_by}
+use Rattle.luo_top.specs.Words.{Command, Analyse, Format, Run, command_of, WordsRefusal, asked_by}
 use Rattle.luo_top.proofs.ProgramFacts.{program_is}
 use Rattle.luo_top.proofs.ReportComes.{report_comes}
+use Rattle.luo_top.proofs.RunLemmas.{taken, run_text_comes}
 
 -- where nothing refuses, something is handed on
 abbrev GoesOn : {X : Type 0} → Step X → Type 0
@@ -85,12 +91,26 @@ founded-goes_on p = or_makes-goes_on _ _ (λ none nothing. founded_or_first p (�
 tables-goes_on : (fill : Fill) (p : Program) (n : ℕ) → IsProgram p → IsFounded p → GoesOn (tables fill p n)
 tables-goes_on fill p n q f = or_makes-goes_on _ _ (λ none nothing. nothing tt (none_or_first p q f n fill (λ entry m x. none _ (entry, m, x, refl))))
 
+procedure-goes_on : (p : Program) (name : List ℕ) → GoesOn (procedure_of p name)
+procedure-goes_on p name = or_makes-goes_on _ _ (λ none nothing. none _ (nothing, refl))
+
+structure-goes_on : (p : Program) (x : ℕ) (text : List ℕ) → GoesOn (structure_of p x text)
+structure-goes_on p x text = or_makes-goes_on _ _ (λ none nothing. read_or_refused p x text (λ e r. none _ (e, r, refl)) nothing)
+
+charge-goes_on : (p : Program) (f : ℕ) (t : Tree) → IsProgram p → IsFounded p → Takes p f t → GoesOn (charge_of p f t)
+charge-goes_on p f t q founded (P, there, member) = or_makes-goes_on _ _ (λ none nothing. let c = one_charge p q founded.no_endless f P there t member in nothing c.0 c.1)
+
 steps-go_on : (c : Command) (told : Told) → GoesOn (steps_of c told)
 steps-go_on (Analyse file n) told = and_then-goes_on _ _ (program-goes_on file told) (λ p h.
     let is = program_is file told p h in
     and_then-goes_on _ _ (founded-goes_on p) (λ _ k. and_then-goes_on _ _ (or_makes-goes_on _ _ (λ none nothing. nothing n refl)) (λ m l.
     and_then-goes_on _ _ (tables-goes_on All p m is k.1) (λ _ t. or_makes-goes_on _ _ (λ none nothing. let r = report_comes p is k.1 m in nothing r.0 r.1)))))
 steps-go_on (Format file) told = and_then-goes_on _ _ (source_file-goes_on file told) (λ s _. or_makes-goes_on _ _ (λ none nothing. nothing _ refl))
+steps-go_on (Run file procedure structure) told = and_then-goes_on _ _ (program-goes_on file told) (λ p h.
+    let is = program_is file told p h in
+    and_then-goes_on _ _ (founded-goes_on p) (λ _ k. and_then-goes_on _ _ (procedure-goes_on p procedure) (λ f n. and_then-goes_on _ _ (structure-goes_on p (parameter_node p f) structure) (λ t r.
+    let takes = taken p f (n.1.0, n.1.1) structure t r.1 in
+    and_then-goes_on _ _ (charge-goes_on p f t is k.1 takes) (λ q _. or_makes-goes_on _ _ (λ none nothing. let b = run_text_comes p is k.1 f t takes q in nothing b.0 b.1))))))
 
 asked-goes_on : (words : List (List ℕ)) → GoesOn (asked_by words)
 asked-goes_on words = or_makes-goes_on _ _ (by (command_of words))

@@ -22,8 +22,10 @@ use Rattle.luo_meaning.proofs.WalksKept.{walks_kept}
 use Rattle.luo_top.specs.Answer.{Answer}
 use Rattle.luo_top.specs.AsWritten.Outcome.{OutcomeAsWritten, steps_as_written}
 use Rattle.luo_top.specs.AsWritten.Report.{IsReportOf}
+use Rattle.luo_top.specs.AsWritten.Run.{defined_procedure, run_by, run_source}
 use Rattle.luo_top.specs.AsWritten.Steps.{WalksRefusalOf, SourceRefusal, sound, sound_source, OverflowOf, numbers, report_of, analyse_source}
 use Rattle.luo_top.specs.Commands.Analyse.{report, analyse}
+use Rattle.luo_top.specs.Commands.Run.{procedure_of, run_on, run}
 use Rattle.luo_top.specs.Outcome.{Outcome, steps_of}
 use Rattle.luo_top.specs.Overflows.{OverflowRefusal}
 use Rattle.luo_top.specs.Refusals.{LimitRefusal, RuleRefusal, WalksRefusal}
@@ -31,8 +33,9 @@ use Rattle.luo_top.specs.Report.{IsReport}
 use Rattle.luo_top.specs.Step.{Step, HasNone, ◌and_then◌}
 use Rattle.luo_top.specs.Steps.{text_of, tokens_of, source_of, core_of, CoreRefusal, file_program, founded, sized, tables}
 use Rattle.luo_top.specs.Told.{Told}
-use Rattle.luo_top.specs.Words.{Command, Analyse, Format, asked_by}
+use Rattle.luo_top.specs.Words.{Command, Analyse, Format, Run, asked_by}
 use Rattle.luo_top.proofs.ReportKept.{report_kept}
+use Rattle.luo_top.proofs.RunKept.{run_rest_same}
 use Rattle.luo_top.proofs.SameSteps.{Match, same_rest, same_step, same_makes, same_both, same_first, same_ends}
 
 no_elements : {A : Type 0} (l : List A) → ((x : A) (rest : List A) → l ≡ x ∷ rest → ⊥) → l ≡ []
@@ -141,9 +144,24 @@ analyse_same file n told =
         same_first (λ x y. x ≡ y) (founded (core source)) _ _ (λ _ f. same_first (λ x y. x ≡ y) (sized n) _ _ (λ size _.
         same_both (λ _ _. ⊤) (λ x y. x ≡ y) (tables All (core source) size) (numbers source size) _ _ (tables_same source is c size) (λ _ _ _. report_same source is c size)))
 
+run_same : (file procedure structure : List ℕ) (told : Told) → Match (λ x y. x ≡ y) (run file procedure structure told) (run_source file procedure structure told)
+run_same file procedure structure told =
+    same_both IsProgramOf (λ x y. x ≡ y) (file_program file told) (sound_source file told) _ _ (program_same file told)
+    (λ p source is. subst (λ q. Match (λ x y. x ≡ y) (from q) (from_source source)) (sym is.1.1.1) (rest source is.0 (subst (IsChecked source) is.1.1.1 is.1)))
+  where
+    from : Program → Step (List ℕ)
+    from p = founded p and_then λ _. procedure_of p procedure and_then run_on p structure
+
+    from_source : Source → Step (List ℕ)
+    from_source source = founded (core source) and_then λ _. defined_procedure source procedure and_then run_by source structure
+
+    rest : (source : Source) → IsSource source → IsChecked source (core source) → Match (λ x y. x ≡ y) (from (core source)) (from_source source)
+    rest source is c = same_first (λ x y. x ≡ y) (founded (core source)) _ _ (λ _ _. run_rest_same source is c.1.0 (checked_program source (core source) is c) procedure structure)
+
 steps_same : (command : Command) (told : Told) → Match (λ x y. x ≡ y) (steps_of command told) (steps_as_written command told)
 steps_same (Analyse file n) told = analyse_same file n told
 steps_same (Format file) told = same_step _
+steps_same (Run file procedure structure) told = run_same file procedure structure told
 
 pub outcome_kept : (told : Told) (words : List (List ℕ)) (a : Answer) → Outcome told words a ↔ OutcomeAsWritten told words a
 unfolding Outcome OutcomeAsWritten

@@ -10,6 +10,9 @@ use Rattle.luo_top.specs.Answer.{Output, Refusal, Untold}
 use Rattle.luo_model.specs.declared.table.Fill.{Fill}
 use Rattle.luo_model.specs.declared.table.Fill.TheVariants.{All}
 use Rattle.luo_model.specs.Program.{Program}
+use Rattle.luo_model.specs.Tree.{Tree}
+use Rattle.luo_read.specs.declared.answers.StructError.TheVariants as structure
+use Rattle.luo_top.specs.Commands.Run.{StructureRefusal, ChargeRefusal, procedure_of, parameter_node, structure_of, charge_of}
 use Rattle.luo_top.specs.FoundedRefusals.{FoundedRefusal}
 use Rattle.luo_top.specs.Laws.{FilesAreTold}
 use Rattle.luo_top.specs.Outcome.{Outcome, steps_of}
@@ -18,7 +21,7 @@ use Rattle.luo_top.specs.Refusals.{LexicalRefusal, SyntaxRefusal}
 use Rattle.luo_top.specs.Step.{Step, ◌and_then◌}
 use Rattle.luo_top.specs.Steps.{text_of, tokens_of, source_of, core_of, CoreRefusal, file_source, file_program, founded, sized, tables}
 use Rattle.luo_top.specs.Told.{Told, ReadingRefusal}
-use Rattle.luo_top.specs.Words.{Command, Analyse, Format, command_of, files_of, WordsRefusal}
+use Rattle.luo_top.specs.Words.{Command, Analyse, Format, Run, command_of, files_of, WordsRefusal}
 
 untold : (s : Status) (bytes : List ℕ) → Untold ≡ Refusal s bytes → ⊥
 untold s bytes e = cc
@@ -62,16 +65,31 @@ founded-tells p (e, h, u) = untold _ _ u
 overflow-tells : (p : Program) (fill : Fill) (n : ℕ) → OverflowRefusal p fill n Untold → ⊥
 overflow-tells p fill n (entry, m, h, u) = untold _ _ u
 
+structure-tells : (p : Program) (x : ℕ) (text : List ℕ) → StructureRefusal p x text Untold → ⊥
+structure-tells p x text (structure.Long n, h, u) = untold _ _ u
+structure-tells p x text (structure.S1 k, h, u) = untold _ _ u
+structure-tells p x text (structure.Deep k, h, u) = untold _ _ u
+structure-tells p x text (structure.S2, h, u) = untold _ _ u
+structure-tells p x text (structure.S3 n, h, u) = untold _ _ u
+structure-tells p x text (structure.NoMemory, h, u) = absurd h
+
+charge-tells : (p : Program) (f : ℕ) (t : Tree) → ChargeRefusal p f t Untold → ⊥
+charge-tells p f t (q, h, l, u) = untold _ _ u
+
 steps-tell : (c : Command) (told : Told) → ((file : List ℕ) → In file (files_of c) → told file ≡ None → ⊥) → (steps_of c told).refuses Untold → ⊥
 steps-tell (Analyse file n) told there =
     tells_both (file_program file told) _ (program-tells file told (there file (inl refl))) (λ p. tells_both (founded p) _ (founded-tells p) (λ _.
     tells_both (sized n) _ (λ u. untold _ _ u.1) (λ m. tells_both (tables All p m) _ (overflow-tells p All m) (λ _ r. r))))
 steps-tell (Format file) told there = tells_both (file_source file told) _ (source_file-tells file told (there file (inl refl))) (λ s r. r)
+steps-tell (Run file procedure structure) told there =
+    tells_both (file_program file told) _ (program-tells file told (there file (inl refl))) (λ p. tells_both (founded p) _ (founded-tells p) (λ _. tells_both (procedure_of p procedure) _ (λ u. untold _ _ u.1) (λ f.
+    tells_both (structure_of p (parameter_node p f) structure) _ (structure-tells p (parameter_node p f) structure) (λ t. tells_both (charge_of p f t) _ (charge-tells p f t) (λ q r. r)))))
 
 words-tell : (o : Option Command) → WordsRefusal o Untold → ⊥
 words-tell None e = untold _ _ e
 words-tell (Some (Analyse file n)) w = w
 words-tell (Some (Format file)) w = w
+words-tell (Some (Run file procedure structure)) w = w
 
 untold_output : (bytes : List ℕ) → Untold ≡ Output bytes → ⊥
 untold_output bytes e = cc

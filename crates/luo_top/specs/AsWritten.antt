@@ -1,3 +1,4 @@
 pub mod Outcome
 pub mod Report
+pub mod Run
 pub mod Steps

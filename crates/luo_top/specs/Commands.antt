@@ -1,2 +1,3 @@
 pub mod Analyse
 pub mod Format
+pub mod Run

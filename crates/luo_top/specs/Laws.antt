@@ -10,7 +10,7 @@ use Rattle.luo_top.specs.AsWritten.Outcome.{OutcomeAsWritten}
 use Rattle.luo_top.specs.Outcome.{Outcome}
 use Rattle.luo_top.specs.Step.{HasNone}
 use Rattle.luo_top.specs.Told.{Told}
-use Rattle.luo_top.specs.Words.{Command, Analyse, Format, command_of, files_of, number_of}
+use Rattle.luo_top.specs.Words.{Command, Analyse, Format, Run, command_of, files_of, number_of}
 
 -- at most one answer is the outcome
 abbrev pub OutcomeIsOne : Type 0
@@ -52,3 +52,9 @@ AnalyseIsSpelled =
 -- the words of `format FILE`, and no others, ask for it
 abbrev pub FormatIsSpelled : Type 0
 FormatIsSpelled = (words : List (List ℕ)) (file : List ℕ) → (command_of words ≡ Some (Format file)) ↔ (words ≡ codes "format" ∷ file ∷ [])
+
+-- the words of `run FILE PROC STRUCTURE`, and no others, ask for it
+abbrev pub RunIsSpelled : Type 0
+RunIsSpelled =
+    (words : List (List ℕ)) (file procedure structure : List ℕ)
+    → (command_of words ≡ Some (Run file procedure structure)) ↔ (words ≡ codes "run" ∷ file ∷ procedure ∷ structure ∷ [])

@@ -13,5 +13,6 @@ pub mod Report
 pub mod Step
 pub mod Steps
 pub mod Told
+pub mod WordRefusals
 pub mod Words
 pub mod inner

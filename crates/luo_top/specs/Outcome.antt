@@ -3,14 +3,16 @@ use Rattle.std.specs.Prelude.{ℕ, List}
 use Rattle.luo_top.specs.Answer.{Answer}
 use Rattle.luo_top.specs.Commands.Analyse.{analyse}
 use Rattle.luo_top.specs.Commands.Format.{format}
+use Rattle.luo_top.specs.Commands.Run.{run}
 use Rattle.luo_top.specs.Step.{Step, ◌and_then◌, ends}
 use Rattle.luo_top.specs.Told.{Told}
-use Rattle.luo_top.specs.Words.{Command, Analyse, Format, asked_by}
+use Rattle.luo_top.specs.Words.{Command, Analyse, Format, Run, asked_by}
 
 -- the steps of a command
 abbrev pub steps_of : Command → Told → Step (List ℕ)
 steps_of (Analyse file n) told = analyse file n told
 steps_of (Format file) told = format file told
+steps_of (Run file procedure structure) told = run file procedure structure told
 
 -- in this order: what the words alone refuse, and the steps of their command
 unfoldable pub Outcome : Told → List (List ℕ) → Answer → Type 0

@@ -17,6 +17,7 @@ texts words = map string_bytes words
 pub data Command : Type 0 where
   Analyse : List ℕ → ℕ → Command
   Format : List ℕ → Command
+  Run : List ℕ → List ℕ → List ℕ → Command
 
 abbrev pub are_digits : List ℕ → Bool
 are_digits [] = true
@@ -42,12 +43,18 @@ abbrev pub format_of : List (List ℕ) → Option Command
 format_of (file ∷ []) = Some (Format file)
 format_of other = None
 
+-- FILE PROC STRUCTURE
+abbrev pub run_of : List (List ℕ) → Option Command
+run_of (file ∷ procedure ∷ structure ∷ []) = Some (Run file procedure structure)
+run_of other = None
+
 -- the command whose form the words have
 abbrev pub command_of : List (List ℕ) → Option Command
 command_of [] = None
 command_of (name ∷ rest) =
     if bytes_eq name (codes "analyse") then analyse_of rest
     else if bytes_eq name (codes "format") then format_of rest
+    else if bytes_eq name (codes "run") then run_of rest
     else None
 
 -- the words have the form of no command
@@ -58,11 +65,13 @@ HasNoForm words = command_of words ≡ None
 abbrev pub files_of : Command → List (List ℕ)
 files_of (Analyse file n) = file ∷ []
 files_of (Format file) = file ∷ []
+files_of (Run file procedure structure) = file ∷ []
 
 -- the limits that the words of a command pass by themselves: none, where its numbers are looked at behind its file
 abbrev pub LimitOfWords : Command → Answer → Type 0
 LimitOfWords (Analyse file n) answer = ⊥
 LimitOfWords (Format file) answer = ⊥
+LimitOfWords (Run file procedure structure) answer = ⊥
 
 -- what the words alone refuse: that they have no form, or a limit that they pass
 abbrev pub WordsRefusal : Option Command → Answer → Type 0

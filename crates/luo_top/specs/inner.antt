@@ -1,3 +1,4 @@
 pub mod Filled
+pub mod Found
 pub mod Passes
 pub mod Requests

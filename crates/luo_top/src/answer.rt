@@ -18,5 +18,10 @@ pub fn answer<F: Files>(alloc: Global, words: &[String], files: &mut F) -> Resul
     match request {
         Request::Analyse { file, last } => commands::analyse_file(alloc, files, file, last),
         Request::Format { file } => commands::format_file(alloc, files, file),
+        Request::Run {
+            file,
+            procedure,
+            structure,
+        } => commands::run_procedure(alloc, files, file, procedure, structure),
     }
 }

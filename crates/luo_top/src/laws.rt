@@ -1,5 +1,5 @@
 // Laws of the outcome.
-ghost use Rattle.luo_top.specs.Laws.{OutcomeIsOne, OutcomeComes, OutcomeIsTold, OutcomeIsAsWritten, NumbersAreSpelled, AnalyseIsSpelled, FormatIsSpelled};
+ghost use Rattle.luo_top.specs.Laws.{OutcomeIsOne, OutcomeComes, OutcomeIsTold, OutcomeIsAsWritten, NumbersAreSpelled, AnalyseIsSpelled, FormatIsSpelled, RunIsSpelled};
 
 /// Over what a source tells, and for all words, at most one answer is the outcome.
 pub fn outcome_is_one()
@@ -26,5 +26,6 @@ pub fn outcome_is_as_written()
 pub fn commands_are_spelled()
     ensures analyse { AnalyseIsSpelled }
     ensures format { FormatIsSpelled }
+    ensures run { RunIsSpelled }
     ensures numbers { NumbersAreSpelled }
 {}

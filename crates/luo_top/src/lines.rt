@@ -24,8 +24,8 @@ use std::alloc::Global;
 
 pub const USAGE_LINE: &[u8] = b"usage\n";
 
-// `HEAD at byte BYTE`, as a line.
-fn line_at(alloc: Global, head: &[u8], byte: usize) -> Result<Vec<u8>, NoMemory>
+/// `HEAD at byte BYTE`, as a line.
+pub fn line_at(alloc: Global, head: &[u8], byte: usize) -> Result<Vec<u8>, NoMemory>
     ensures { IfOk result (λ text. text.items ≡ line (head.now ++ at_byte byte)) }
 {
     let mut buffer = Buffer::new();

@@ -4,6 +4,7 @@ mod founding;
 mod program;
 mod size;
 mod source;
+mod structure;
 mod text;
 
 pub use filling::tables;
@@ -11,3 +12,4 @@ pub use founding::founded;
 pub use program::file_program;
 pub use size::sized;
 pub use source::file_source;
+pub use structure::{procedure_of, structure_of};

@@ -3,7 +3,7 @@ ghost use Rattle.std.specs.Prelude.{◌≡◌, min, MatchOption};
 ghost use Rattle.std.specs.List.{AllByRecursion};
 ghost use Rattle.luo_scan.specs.Bytes.{IsDigit};
 ghost use Rattle.luo_scan.specs.Spellings.{value_after};
-ghost use Rattle.luo_top.specs.Words.{texts, is_led, analyse_of, format_of, command_of};
+ghost use Rattle.luo_top.specs.Words.{texts, is_led, analyse_of, format_of, run_of, command_of};
 ghost use Rattle.luo_top.specs.inner.Requests.{Asks, IsNumber, IsRequestOf};
 
 use crate::refusal::Refusal;
@@ -18,6 +18,12 @@ pub enum Request<'w> {
     Analyse { file: &'w str, last: u64 },
     /// The canonical text of a file.
     Format { file: &'w str },
+    /// What the procedure of a name charges on the structure of a text.
+    Run {
+        file: &'w str,
+        procedure: &'w str,
+        structure: &'w str,
+    },
 }
 
 // Whether there is a first digit, and it isn't 0 where others follow it.
@@ -85,6 +91,20 @@ fn format(rest: &[String]) -> Option<Request<'_>>
     })
 }
 
+// FILE PROC STRUCTURE
+fn run(rest: &[String]) -> Option<Request<'_>>
+    ensures { IsRequestOf (run_of (texts rest.now)) result }
+{
+    let [file, procedure, structure] = rest else {
+        return None;
+    };
+    Some(Request::Run {
+        file: file.as_str(),
+        procedure: procedure.as_str(),
+        structure: structure.as_str(),
+    })
+}
+
 // The request of the command whose form the words have.
 fn request_of(words: &[String]) -> Option<Request<'_>>
     ensures { IsRequestOf (command_of (texts words.now)) result }
@@ -97,6 +117,9 @@ fn request_of(words: &[String]) -> Option<Request<'_>>
     }
     if name.as_str() == "format" {
         return format(rest);
+    }
+    if name.as_str() == "run" {
+        return run(rest);
     }
     None
 }

@@ -1,3 +1,4 @@
+// private build
 //! Unlabelled sequences, multisets and powersets counted size by size, and charges summed over them, in numbers alone.
 #![tactic(auto)]
 

@@ -4,7 +4,7 @@ use Rattle.luo_top.specs.declared.refusal.Refusal.{Refusal}
 use Rattle.luo_top.specs.declared.refusal.Refusal.TheVariants.{Usage, Refused, Limit, Overflow, ReadFault, NoMemory}
 use Rattle.luo_top.specs.declared.words.TheConstants.{NUMBER_CAP}
 use Rattle.luo_top.specs.declared.words.Request.{Request}
-use Rattle.luo_top.specs.declared.words.Request.TheVariants.{Analyse, Format}
+use Rattle.luo_top.specs.declared.words.Request.TheVariants.{Analyse, Format, Run}
 use Rattle.luo_top.specs.declared.status.Status.TheVariants as way
 use Rattle.luo_top.specs.Answer as answer
 use Rattle.luo_top.specs.Outcome.{steps_of}
@@ -22,6 +22,7 @@ IsNumber word (Some v) = (n : ℕ) × (number_of word ≡ Some n) × (v ≡ min 
 abbrev pub IsRequest : words'.Command → Request → Type 0
 IsRequest command (Analyse file last) = (n : ℕ) × (command ≡ words'.Analyse file.now n) × (last ≡ min n NUMBER_CAP)
 IsRequest command (Format file) = command ≡ words'.Format file.now
+IsRequest command (Run file procedure structure) = command ≡ words'.Run file.now procedure.now structure.now
 
 -- there is no command and no request, or the request is that of the command
 abbrev pub IsRequestOf : Option words'.Command → Option Request → Type 0

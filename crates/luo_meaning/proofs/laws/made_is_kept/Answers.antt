@@ -1,7 +1,7 @@
 use Rattle.std.proofs.Common.{◌≡◌, ◌↔◌, ℕ, Some, slice_get, sym, subst}
 use Rattle.luo_model.specs.Program.{Program, Procedure}
 use Rattle.luo_model.specs.Tree.{Tree}
-use Rattle.luo_meaning.specs.Makes.{Makes}
+use Rattle.luo_interp.specs.Makes.{Makes}
 use Rattle.luo_meaning.specs.Made.{ProcMakes}
 use Rattle.luo_meaning.proofs.ProceduresMade.{maker_kept}
 use Rattle.luo_meaning.proofs.laws.made_is_kept.Goals as goal
