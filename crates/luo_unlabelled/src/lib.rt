@@ -1,4 +1,3 @@
-// private build
 //! Unlabelled sequences, multisets and powersets counted size by size, and charges summed over them, in numbers alone.
 #![tactic(auto)]
 
