@@ -7,6 +7,13 @@ use std::process::ExitCode;
 use std::rt::Env;
 use std::{env, io};
 
+#[cfg(test)]
+mod tests;
+#[cfg(test)]
+mod tests_front;
+#[cfg(test)]
+mod tests_reports;
+
 /// The exit status where the words of the command line can't be had.
 const NO_WORDS: u8 = 9;
 

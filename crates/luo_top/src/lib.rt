@@ -15,10 +15,3 @@ mod words;
 
 pub use status::{Status, code};
 pub use top::luo;
-
-#[cfg(test)]
-mod tests;
-#[cfg(test)]
-mod tests_front;
-#[cfg(test)]
-mod tests_reports;
