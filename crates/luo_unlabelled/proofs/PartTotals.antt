@@ -76,7 +76,7 @@ slim_totals kind a b cells deep wide rows cols d l e h = λ k m hk hm q.
     ap (λ x. slice_index cells (k * x + m)) e ∙ h k m (omega (arith, hk, l)) (omega (arith, hm, e)) ∙ ap capped (totals-past kind a b d k m q) ∙ (let z : capped 0 ≡ 0 = omega arith in z)
 
 -- of a size n: the plane of charges of the smaller sizes, and one component of this size
-total-top : (kind : Kind) (a b : ℕ → ℕ) (n k : ℕ) → (a (suc n) ≡ 0 → b (suc n) ≡ 0) → plane_totals kind a b (suc n) k (suc n) ≡ plane_totals kind a b n k (suc n) + alone (b (suc n)) k
+pub total-top : (kind : Kind) (a b : ℕ → ℕ) (n k : ℕ) → (a (suc n) ≡ 0 → b (suc n) ≡ 0) → plane_totals kind a b (suc n) k (suc n) ≡ plane_totals kind a b n k (suc n) + alone (b (suc n)) k
 total-top kind a b n k o =
     let f : ℕ → ℕ = λ j. chosen_totals kind (a (suc n)) (b (suc n)) j * back (j * suc n) (plane kind a n (k - j)) (suc n) in
     let r : ℕ → ℕ = λ j. chosen kind (a (suc n)) j * back (j * suc n) (plane_totals kind a b n (k - j)) (suc n) in

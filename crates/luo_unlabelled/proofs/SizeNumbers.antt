@@ -2,16 +2,19 @@
 use Rattle.std.proofs.Common.{◌≡◌, ℕ, zero, suc, ◌+◌, ◌*◌, ◌-◌, ◌≤◌, ◌<◌, None, refl, ◌∙◌, ap, arith}
 use Rattle.std.proofs.Math.Nat.{mul-zero, zero-mul}
 use Rattle.luo_finite.specs.Range.{sum_below, unit}
-use Rattle.luo_finite.proofs.Ranges.{sum_below-same, sum_below-add, sum_below-zero, sum_below-shift}
+use Rattle.luo_finite.proofs.Ranges.{sum_below-same, sum_below-add, sum_below-append, sum_below-zero, sum_below-shift}
 use Rattle.luo_model.specs.declared.program.Universe.TheVariants.{Unlabelled}
 use Rattle.luo_model.specs.declared.program.Kind.{Kind}
 use Rattle.luo_model.specs.declared.program.Kind.TheVariants.{Sequence, Set, Cycle, Multiset, Powerset}
 use Rattle.luo_finite.specs.Binomial.{choose}
 use Rattle.luo_counting.specs.Numbers.{back, repeats, chosen, chosen_totals, plane, plane_totals, coll_count, coll_total}
+use Rattle.luo_counting.proofs.PlaneTops.{plane-top}
 use Rattle.luo_unlabelled.specs.Calls.{IsOfParts}
+use Rattle.luo_unlabelled.specs.inner.Planes.{alone}
 use Rattle.luo_unlabelled.specs.inner.Sizes.{stepped, sized, sized_totals, count_any}
-use Rattle.luo_unlabelled.proofs.PartNumbers.{chosen-none, of_kind}
-use Rattle.luo_unlabelled.proofs.PartTotals.{charged-none, charged-one, totals_of_kind}
+use Rattle.luo_unlabelled.proofs.PlaneLemmas.{back_there}
+use Rattle.luo_unlabelled.proofs.PartNumbers.{chosen-none, of_kind, alone_none}
+use Rattle.luo_unlabelled.proofs.PartTotals.{charged-none, charged-one, total-top, totals_of_kind}
 use Rattle.luo_unlabelled.proofs.SizeSteps.{stepped-same, stepped-beyond, stepped-top, stepped-planes}
 
 -- rows look at numbers up to their sizes alone
@@ -114,33 +117,67 @@ totals-none kind a b (suc d) m =
     let e : chosen kind (a (suc d)) 0 * back (0 * suc d) (plane_totals kind a b d 0) m ≡ plane_totals kind a b d 0 m = one_of (chosen kind (a (suc d)) 0) (back (0 * suc d) (plane_totals kind a b d 0) m) (chosen-none kind (a (suc d))) ∙ ap (λ s. back s (plane_totals kind a b d 0) m) (zero-mul (suc d)) in
     omega (arith, e, totals-none kind a b d m, none_of (chosen_totals kind (a (suc d)) (b (suc d)) 0) (back (0 * suc d) (plane kind a d 0) m) (charged-none kind (a (suc d)) (b (suc d))))
 
-from_zero : (f : ℕ → ℕ) (n : ℕ) → sum_below (λ i. f (0 + i)) (suc n - 0) ≡ sum_below f (suc n)
-from_zero f n =
-    ap (λ x. sum_below (λ i. f (0 + i)) x) (let q : suc n - 0 ≡ suc n = omega arith in q) ∙ sum_below-same (λ i. f (0 + i)) f (suc n) (λ i _. ap f (let q : 0 + i ≡ i = omega arith in q))
+-- one component has its own size, and no larger
+plane-one : (kind : Kind) (a : ℕ → ℕ) (d m : ℕ) → d < m → plane kind a d 1 m ≡ 0
+plane-one kind a zero m h = refl
+plane-one kind a (suc d) m h =
+    let e : chosen kind (a (suc d)) 0 * back (0 * suc d) (plane kind a d (1 - 0)) m ≡ 0 = ap (λ x. chosen kind (a (suc d)) 0 * back x (plane kind a d (1 - 0)) m) (zero-mul (suc d)) ∙ ap (λ x. chosen kind (a (suc d)) 0 * plane kind a d x m) (let q : 1 - 0 ≡ 1 = omega arith in q) ∙ ap (λ x. chosen kind (a (suc d)) 0 * x) (plane-one kind a d m (omega (arith, h))) ∙ mul-zero (chosen kind (a (suc d)) 0) in
+    let f : chosen kind (a (suc d)) 1 * back (1 * suc d) (plane kind a d (1 - 1)) m ≡ 0 = ap (λ x. chosen kind (a (suc d)) 1 * x) (back_there (1 * suc d) (plane kind a d (1 - 1)) m (omega (arith, h)) ∙ ap (λ x. plane kind a d x (m - 1 * suc d)) (let q : 1 - 1 ≡ 0 = omega arith in q) ∙ plane-none kind a d (m - 1 * suc d) ∙ unit_no (m - 1 * suc d) (omega (arith, h))) ∙ mul-zero (chosen kind (a (suc d)) 1) in
+    omega (arith, e, f)
+  where
+    unit_no : (n : ℕ) → 1 ≤ n → unit n ≡ 0
+    unit_no zero h = absurd (omega (arith, h))
+    unit_no (suc n) h = refl
 
--- a sum from 0 or 1 on, of what is 0 at 0
-from_one : (f : ℕ → ℕ) (n : ℕ) → f 0 ≡ 0 → sum_below (λ i. f (1 + i)) (suc n - 1) ≡ sum_below f (suc n)
-from_one f n z =
-    let e : sum_below f (suc n) ≡ f 0 + sum_below (λ i. f (suc i)) n = sum_below-shift f n in
-    ap (λ x. sum_below (λ i. f (1 + i)) x) (let q : suc n - 1 ≡ n = omega arith in q) ∙ sum_below-same (λ i. f (1 + i)) (λ i. f (suc i)) n (λ i _. ap f (let q : 1 + i ≡ suc i = omega arith in q)) ∙ (let q : sum_below (λ i. f (suc i)) n ≡ sum_below f (suc n) = omega (arith, e, z) in q)
+totals-one : (kind : Kind) (a b : ℕ → ℕ) (d m : ℕ) → d < m → plane_totals kind a b d 1 m ≡ 0
+totals-one kind a b zero m h = refl
+totals-one kind a b (suc d) m h =
+    let c : chosen_totals kind (a (suc d)) (b (suc d)) 0 * back (0 * suc d) (plane kind a d (1 - 0)) m ≡ 0 = none_of (chosen_totals kind (a (suc d)) (b (suc d)) 0) (back (0 * suc d) (plane kind a d (1 - 0)) m) (charged-none kind (a (suc d)) (b (suc d))) in
+    let e : chosen kind (a (suc d)) 0 * back (0 * suc d) (plane_totals kind a b d (1 - 0)) m ≡ 0 = ap (λ x. chosen kind (a (suc d)) 0 * back x (plane_totals kind a b d (1 - 0)) m) (zero-mul (suc d)) ∙ ap (λ x. chosen kind (a (suc d)) 0 * plane_totals kind a b d x m) (let q : 1 - 0 ≡ 1 = omega arith in q) ∙ ap (λ x. chosen kind (a (suc d)) 0 * x) (totals-one kind a b d m (omega (arith, h))) ∙ mul-zero (chosen kind (a (suc d)) 0) in
+    let f : chosen_totals kind (a (suc d)) (b (suc d)) 1 * back (1 * suc d) (plane kind a d (1 - 1)) m ≡ 0 = ap (λ x. chosen_totals kind (a (suc d)) (b (suc d)) 1 * x) (back_there (1 * suc d) (plane kind a d (1 - 1)) m (omega (arith, h)) ∙ ap (λ x. plane kind a d x (m - 1 * suc d)) (let q : 1 - 1 ≡ 0 = omega arith in q) ∙ plane-none kind a d (m - 1 * suc d) ∙ unit_no (m - 1 * suc d) (omega (arith, h))) ∙ mul-zero (chosen_totals kind (a (suc d)) (b (suc d)) 1) in
+    let g : chosen kind (a (suc d)) 1 * back (1 * suc d) (plane_totals kind a b d (1 - 1)) m ≡ 0 = ap (λ x. chosen kind (a (suc d)) 1 * x) (back_there (1 * suc d) (plane_totals kind a b d (1 - 1)) m (omega (arith, h)) ∙ ap (λ x. plane_totals kind a b d x (m - 1 * suc d)) (let q : 1 - 1 ≡ 0 = omega arith in q) ∙ totals-none kind a b d (m - 1 * suc d)) ∙ mul-zero (chosen kind (a (suc d)) 1) in
+    omega (arith, c, e, f, g)
+  where
+    unit_no : (n : ℕ) → 1 ≤ n → unit n ≡ 0
+    unit_no zero h = absurd (omega (arith, h))
+    unit_no (suc n) h = refl
+
+-- a sum from `low` on, of what is 0 below it
+from_low : (f : ℕ → ℕ) (low n : ℕ) → low ≤ suc n → ((i : ℕ) → i < low → f i ≡ 0) → sum_below (λ i. f (low + i)) (suc n - low) ≡ sum_below f (suc n)
+from_low f low n l z =
+    let e : sum_below f (low + (suc n - low)) ≡ sum_below f low + sum_below (λ i. f (low + i)) (suc n - low) = sum_below-append f low (suc n - low) in
+    let c : sum_below f (low + (suc n - low)) ≡ sum_below f (suc n) = ap (sum_below f) (let q : low + (suc n - low) ≡ suc n = omega (arith, l) in q) in
+    omega (arith, e, c, sum_below-zero f low z)
+
+-- of few components there is nothing, where a component of the whole size is none
+few_none : (kind : Kind) (a : ℕ → ℕ) (low n : ℕ) → low ≤ 2 → (low ≡ 2 → a (suc n) ≡ 0) → (i : ℕ) → i < low → plane kind a (suc n) i (suc n) ≡ 0
+few_none kind a low n l z zero h = plane-none kind a (suc n) (suc n)
+few_none kind a low n l z (suc zero) h =
+    let t : plane kind a (suc n) 1 (suc n) ≡ plane kind a n 1 (suc n) + a (suc n) * 1 = plane-top kind a n 1 in
+    omega (arith, t, plane-one kind a n (suc n) (omega arith), z (omega (arith, l, h)))
+few_none kind a low n l z (suc (suc i)) h = absurd (omega (arith, l, h))
+
+few_free : (kind : Kind) (a b : ℕ → ℕ) (low n : ℕ) → low ≤ 2 → (a (suc n) ≡ 0 → b (suc n) ≡ 0) → (low ≡ 2 → b (suc n) ≡ 0) → (i : ℕ) → i < low → plane_totals kind a b (suc n) i (suc n) ≡ 0
+few_free kind a b low n l o z zero h = totals-none kind a b (suc n) (suc n)
+few_free kind a b low n l o z (suc zero) h =
+    let e : alone (b (suc n)) 1 ≡ 0 = ap (λ x. alone x 1) (z (omega (arith, l, h))) ∙ alone_none 1 in
+    omega (arith, total-top kind a b n 1 o, totals-one kind a b n (suc n) (omega arith), e)
+few_free kind a b low n l o z (suc (suc i)) h = absurd (omega (arith, l, h))
 
 -- THE NUMBER at a size
-pub number_by_row : (kind : Kind) (a : ℕ → ℕ) (low n : ℕ) → IsOfParts kind → low ≤ 1 → coll_count Unlabelled kind a low None n ≡ count_any low kind a (a n) n
-number_by_row kind a zero zero p l = of_kind kind a 0 None 0 p
-number_by_row kind a zero (suc n) p l = of_kind kind a 0 None (suc n) p ∙ from_zero (λ k. plane kind a (suc n) k (suc n)) (suc n) ∙ sized-planes kind a (suc n) (suc n) (suc n) (omega arith) ∙ sized-top kind a n
-number_by_row kind a (suc zero) zero p l = of_kind kind a 1 None 0 p
-number_by_row kind a (suc zero) (suc n) p l = of_kind kind a 1 None (suc n) p ∙ from_one (λ k. plane kind a (suc n) k (suc n)) (suc n) (plane-none kind a (suc n) (suc n)) ∙ sized-planes kind a (suc n) (suc n) (suc n) (omega arith) ∙ sized-top kind a n
-number_by_row kind a (suc (suc low)) n p l = absurd (omega (arith, l))
+pub number_by_row : (kind : Kind) (a : ℕ → ℕ) (low n : ℕ) → IsOfParts kind → low ≤ 2 → (low ≡ 2 → a n ≡ 0) → coll_count Unlabelled kind a low None n ≡ count_any low kind a (a n) n
+number_by_row kind a zero zero p l z = of_kind kind a 0 None 0 p
+number_by_row kind a (suc low) zero p l z = of_kind kind a (suc low) None 0 p ∙ none (suc low) (omega arith)
+  where
+    none : (x : ℕ) → 1 ≤ x → sum_below (λ i. plane kind a 0 (x + i) 0) (1 - x) ≡ 1 - x
+    none x h = ap (sum_below (λ i. plane kind a 0 (x + i) 0)) (let q : 1 - x ≡ 0 = omega (arith, h) in q) ∙ (let q : 0 ≡ 1 - x = omega (arith, h) in q)
+number_by_row kind a low (suc n) p l z =
+    of_kind kind a low None (suc n) p ∙ from_low (λ k. plane kind a (suc n) k (suc n)) low (suc n) (omega (arith, l)) (few_none kind a low n l z) ∙ sized-planes kind a (suc n) (suc n) (suc n) (omega arith) ∙ sized-top kind a n
 
 -- THE CHARGES at a size
-pub total_by_row : (kind : Kind) (a b : ℕ → ℕ) (low n : ℕ) → IsOfParts kind → low ≤ 1 → b 0 ≡ 0 → (a n ≡ 0 → b n ≡ 0) → coll_total Unlabelled kind a b low None n ≡ sized_totals kind a b (n - 1) n + b n
-total_by_row kind a b low n p l z o = totals_of_kind kind a b low None n p ∙ by_low low l ∙ totals-planes kind a b n n n (omega arith) ∙ top n o
-  where
-    by_low : (low : ℕ) → low ≤ 1 → sum_below (λ i. plane_totals kind a b n (low + i) n) (suc n - low) ≡ sum_below (λ k. plane_totals kind a b n k n) (suc n)
-    by_low zero h = from_zero (λ k. plane_totals kind a b n k n) n
-    by_low (suc zero) h = from_one (λ k. plane_totals kind a b n k n) n (totals-none kind a b n n)
-    by_low (suc (suc low)) h = absurd (omega (arith, h))
-
-    top : (n : ℕ) → (a n ≡ 0 → b n ≡ 0) → sized_totals kind a b n n ≡ sized_totals kind a b (n - 1) n + b n
-    top zero o = (let q : 0 ≡ sized_totals kind a b (0 - 1) 0 + b 0 = omega (arith, totals-zero kind a b (0 - 1), z) in q)
-    top (suc n) o = totals-top kind a b n o ∙ ap (λ d. sized_totals kind a b d (suc n) + b (suc n)) (let q : n ≡ suc n - 1 = omega arith in q)
+pub total_by_row : (kind : Kind) (a b : ℕ → ℕ) (low n : ℕ) → IsOfParts kind → low ≤ 2 → b 0 ≡ 0 → (a n ≡ 0 → b n ≡ 0) → (low ≡ 2 → b n ≡ 0) → coll_total Unlabelled kind a b low None n ≡ sized_totals kind a b (n - 1) n + b n
+total_by_row kind a b low zero p l z o e =
+    totals_of_kind kind a b low None 0 p ∙ sum_below-zero (λ i. plane_totals kind a b 0 (low + i) 0) (suc 0 - low) (λ i h. refl) ∙ (let q : 0 ≡ sized_totals kind a b (0 - 1) 0 + b 0 = omega (arith, totals-zero kind a b (0 - 1), z) in q)
+total_by_row kind a b low (suc n) p l z o e =
+    totals_of_kind kind a b low None (suc n) p ∙ from_low (λ k. plane_totals kind a b (suc n) k (suc n)) low (suc n) (omega (arith, l)) (few_free kind a b low n l o e) ∙ totals-planes kind a b (suc n) (suc n) (suc n) (omega arith) ∙ totals-top kind a b n o
+    ∙ ap (λ d. sized_totals kind a b d (suc n) + b (suc n)) (let q : n ≡ suc n - 1 = omega arith in q)

@@ -1,4 +1,6 @@
-// Multisets and powersets of any number of components.
+// Multisets and powersets without a greatest number of components, and with a least one of at most 2. A collection of components
+// that are all smaller than it has at least 2 of them, so the least number is looked at in no row: it says whether the empty
+// collection counts, and whether one component of the size at hand does.
 ghost use Rattle.std.specs.Prelude.{◌≡◌, ◌≤◌, ◌+◌, ◌-◌, ◌*◌, ◌<◌, ◌++◌, ◌∷◌, [], ℕ, suc, length, take, slice_index, None, false, is_err, IfOk, OkIff};
 ghost use Rattle.luo_num.specs.Mark.{capped};
 ghost use Rattle.luo_num.specs.declared.TheConstants.{MAX};
@@ -17,8 +19,8 @@ use luo_num::{NoMemory, Over, marked_add};
 use std::alloc::Global;
 use std::marker::Model;
 
-/// Counts multisets or powersets of any number of components, size by size, in a row by size alone. Contracts see in it the same as
-/// in a `Parts`.
+/// Counts multisets or powersets without a greatest number of components, size by size, in a row by size alone. Contracts see in it
+/// the same as in a `Parts`.
 #[derive(Drop)]
 pub struct Unbounded {
     pub(crate) kind: Kind,
@@ -44,8 +46,8 @@ impl Model for Unbounded {
 }
 
 impl Unbounded {
-    /// A table for all multisets or powersets, or, where `low` is 1, for those that are not empty, of sizes up to `n_max`. It takes
-    /// all memory that it will need.
+    /// A table for multisets or powersets of at least `low` components, where that is at most 2, of sizes up to `n_max`. It takes all
+    /// memory that it will need.
     ///
     /// # Errors
     ///
@@ -53,7 +55,7 @@ impl Unbounded {
     pub fn new(alloc: Global, kind: Kind, low: u32, n_max: u32) -> Result<Unbounded, NoMemory>
         requires parts { IsOfParts kind }
         requires bounds { AreBounds low None n_max }
-        requires any { low ≤ 1 }
+        requires any { low ≤ 2 }
         ensures { IfOk result (λ table. table ≡ start_of kind low None n_max) }
     {
         let wide = n_max as usize + 1;
@@ -73,7 +75,7 @@ impl Unbounded {
     }
 
     /// The number of collections of the next size n. `comp` has the numbers of components of the sizes below n, and `here` is that
-    /// of size n.
+    /// of size n where one component is within the bounds, and 0 elsewhere.
     ///
     /// # Errors
     ///
@@ -113,7 +115,7 @@ fn next_number(
     here: u128,
 ) -> u128
     requires parts { IsOfParts kind }
-    requires any { low ≤ 1 }
+    requires any { low ≤ 2 }
     requires long { length kept.old ≤ SIZE_LIMIT + 1 }
     requires size { length comp.now < length kept.old }
     requires ways { length ways.old ≡ length kept.old }
@@ -123,6 +125,7 @@ fn next_number(
     requires small { (m : ℕ) → slice_index comp.now m ≤ MAX }
     requires here { length comp.now ≡ 0 → here ≡ 0 }
     requires here_small { here ≤ MAX }
+    requires here_alone { low ≡ 2 → here ≡ 0 }
     requires agree { (m : ℕ) → suc m < length comp.now → slice_index comp.now m
         ≡ slice_index kept.old m }
     requires known { 3 ≤ length comp.now → AreWays kind (slice_index kept.old
@@ -168,12 +171,20 @@ fn advance(kind: Kind, cells: &mut [u128], ways: &mut [u128], comp: &[u128], n: 
     }
 }
 
+// The number of empty collections.
+fn empty(low: u32) -> u128
+    ensures { result ≡ 1 - low }
+{
+    if low == 0 { 1 } else { 0 }
+}
+
 // The number of collections of size n, marked: the row has the sizes below n - 1.
 fn count_of(kind: Kind, low: u32, cells: &[u128], ways: &[u128], comp: &[u128], n: usize) -> u128
     requires parts { IsOfParts kind }
-    requires any { low ≤ 1 }
+    requires any { low ≤ 2 }
     requires size { n < length comp.now }
     requires here { slice_index comp.now n ≤ MAX }
+    requires alone { low ≡ 2 → slice_index comp.now n ≡ 0 }
     requires none_empty { slice_index comp.now 0 ≡ 0 }
     requires ways { length ways.now ≡ length comp.now }
     requires cells { length cells.now ≡ length comp.now }
@@ -184,7 +195,7 @@ fn count_of(kind: Kind, low: u32, cells: &[u128], ways: &[u128], comp: &[u128], 
     ensures { result ≡ capped (coll_count Unlabelled kind (slice_index comp.now) low None n) }
 {
     if n == 0 {
-        u128::from(1 - low)
+        empty(low)
     } else if n == 1 {
         comp[1]
     } else {

@@ -1,4 +1,4 @@
-// Charges over multisets and powersets of any number of components.
+// Charges over multisets and powersets without a greatest number of components.
 ghost use Rattle.std.specs.Prelude.{◌≡◌, ◌≤◌, ◌+◌, ◌-◌, ◌*◌, ◌<◌, ◌++◌, ◌∷◌, [], ℕ, suc, length, take, slice_index, is_err, IfOk, OkIff};
 ghost use Rattle.luo_num.specs.Mark.{capped};
 ghost use Rattle.luo_num.specs.declared.TheConstants.{MAX};
@@ -16,8 +16,8 @@ use luo_num::{NoMemory, Over, marked_add};
 use std::alloc::Global;
 use std::marker::Model;
 
-/// Sums charges over multisets or powersets of any number of components, size by size; in a multiset each copy is charged. Contracts
-/// see in it the same as in a `PartsWalk`.
+/// Sums charges over multisets or powersets without a greatest number of components, size by size; in a multiset each copy is
+/// charged. Contracts see in it the same as in a `PartsWalk`.
 #[derive(Drop)]
 pub struct UnboundedWalk {
     kind: Kind,
@@ -75,7 +75,7 @@ impl UnboundedWalk {
 
     /// What the components of all collections of the next size n are charged together. `comp` has the numbers of components of the
     /// sizes below n, as `table` was given them when it counted this size, and `body` has the sums of charges over them; `here` is
-    /// the sum over those of size n.
+    /// the sum over those of size n where one component is within the bounds, and 0 elsewhere.
     ///
     /// # Errors
     ///

@@ -42,7 +42,8 @@ count_fold ways d cells m = capped (from_cells ways cells d m)
 abbrev pub total_fold : List ℕ → List ℕ → List ℕ → ℕ → List ℕ → ℕ → ℕ
 total_fold ways charges counts d cells m = capped (from_cells charges counts d m + from_cells ways cells d m)
 
--- the number of collections of size n of at least `low` components, of components below it, and of one component of size n
+-- the number of collections of size n of at least `low` components, where low is at most 2: those of components below n, and those of one component
+-- of size n, of which there is none where low is 2
 abbrev pub count_any : ℕ → Kind → (ℕ → ℕ) → ℕ → ℕ → ℕ
 count_any low kind a here zero = 1 - low
 count_any low kind a here (suc n) = sized kind a n (suc n) + here
@@ -51,7 +52,7 @@ count_any low kind a here (suc n) = sized kind a n (suc n) + here
 pub record IsUnbounded (kind : Kind) (low n_max calls : ℕ) (comp ways cells : List ℕ) : Type 0 where
   pub parts : IsOfParts kind
   pub bounds : AreBounds low None n_max
-  pub any : low ≤ 1
+  pub any : low ≤ 2
   pub reached : calls ≤ n_max + 1
   pub sizes : length comp ≡ n_max + 1
   pub ways_long : length ways ≡ n_max + 1
@@ -64,7 +65,7 @@ pub record IsUnbounded (kind : Kind) (low n_max calls : ℕ) (comp ways cells : 
 pub record IsUnboundedWalk (kind : Kind) (low n_max calls : ℕ) (comp body charges cells : List ℕ) : Type 0 where
   pub parts : IsOfParts kind
   pub bounds : AreBounds low None n_max
-  pub any : low ≤ 1
+  pub any : low ≤ 2
   pub reached : calls ≤ n_max + 1
   pub sizes : length comp ≡ n_max + 1
   pub sums : length body ≡ n_max + 1

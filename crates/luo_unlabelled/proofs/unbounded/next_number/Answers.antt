@@ -13,6 +13,9 @@ advance-requires-clause-holds c =
 pub count_of-requires-clause-here : goal.count_of-requires-clause-here
 count_of-requires-clause-here c = omega (arith, number_kept c.keep.new.kept c.args.comp.now c.args.here (length c.args.comp.now) c.keep.ensures (omega arith), number_here c.args.comp.now c.args.here, c.requires.here_small)
 
+pub count_of-requires-clause-alone : goal.count_of-requires-clause-alone
+count_of-requires-clause-alone c = λ t. number_kept c.keep.new.kept c.args.comp.now c.args.here (length c.args.comp.now) c.keep.ensures (omega arith) ∙ number_here c.args.comp.now c.args.here ∙ c.requires.here_alone t
+
 pub returns-clause-number : goal.returns-clause-number
 returns-clause-number c =
     c.count_of.ensures ∙ ap capped (parts_given c.args.kind c.args.low None c.keep.new.kept c.args.comp.now c.args.here c.requires.parts c.keep.ensures (kept_empty c.keep.new.kept c.args.comp.now c.args.here c.keep.ensures c.requires.given c.requires.here))

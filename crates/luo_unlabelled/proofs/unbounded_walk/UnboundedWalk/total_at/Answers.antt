@@ -4,7 +4,7 @@ use Rattle.luo_model.specs.declared.program.Kind.{Kind}
 use Rattle.luo_unlabelled.specs.Calls.{Calls, Walk, IsOfParts, total_of}
 use Rattle.luo_unlabelled.proofs.CallLemmas.{totalled, starts, given_none, answered, calls_are, same_walk}
 use Rattle.luo_unlabelled.proofs.PartCalls.{suits_parts}
-use Rattle.luo_unlabelled.proofs.SizeCalls.{ways_serve_row, row_serves, row_total, next_row_walk}
+use Rattle.luo_unlabelled.proofs.SizeCalls.{two_alone, ways_serve_row, row_serves, row_total, next_row_walk}
 use Rattle.luo_unlabelled.proofs.unbounded_walk.UnboundedWalk.total_at.Goals as goal
 
 pub next_total-total-requires-clause-known : goal.next_total-total-requires-clause-known
@@ -33,7 +33,8 @@ returns-clause-answer c =
     answered c.within-answer.result c.next_total-total.result (total_of c.args.table.now c.args.body.now c.args.here)
     (row_total c.args.table.now c.self.inside.kind c.args.comp.now c.args.body.now c.args.here c.next_total-total.result
     (subst (λ (k : Kind). IsOfParts k) (ap (λ (t : Calls). t.kind) c.table.view_is) c.table.invariant.parts)
-    (subst (λ (l : ℕ). l ≤ 1) (ap (λ (t : Calls). t.low) c.table.view_is) c.table.invariant.any)
+    (subst (λ (l : ℕ). l ≤ 2) (ap (λ (t : Calls). t.low) c.table.view_is) c.table.invariant.any)
+    (two_alone c.args.self.now.calls c.args.table.now.low c.args.here (ap (λ (w : Walk). w.calls.high) c.self.view_is) c.requires.low c.requires.next.here_alone)
     (sym (ap (λ (t : Calls). t.high) c.table.view_is))
     (ap (λ (w : Walk). w.calls.kind) c.self.view_is ∙ sym c.requires.kind)
     c.requires.counted c.requires.given
