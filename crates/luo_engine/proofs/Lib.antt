@@ -45,3 +45,4 @@ pub mod LevelFacts
 pub mod EntryOrder
 pub mod FirstOver
 pub mod KeptLemmas
+pub mod FormLemmas
