@@ -45,4 +45,3 @@ pub mod LevelFacts
 pub mod EntryOrder
 pub mod FirstOver
 pub mod KeptLemmas
-pub mod FormLemmas
