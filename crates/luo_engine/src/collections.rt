@@ -1,15 +1,18 @@
 // Collections of one kind and the bounds on their components, counted size by size.
-ghost use Rattle.std.specs.Prelude.{◌≡◌, ◌≤◌, ℕ, length, nat_lt, is_err, OkIff, IfOk};
+ghost use Rattle.std.specs.Prelude.{◌≡◌, ◌≤◌, ℕ, None, length, nat_lt, is_err, OkIff, IfOk, IsTrue, IsFalse};
 ghost use Rattle.luo_num.specs.Mark.{capped};
 ghost use Rattle.luo_num.specs.declared.TheConstants.{MAX};
-ghost use Rattle.luo_engine.specs.inner.Asked.{AreBounds, GoesOnAs, unasked, number_asked, asked_more};
+ghost use Rattle.luo_model.specs.declared.program.Universe.TheVariants.{Unlabelled};
+ghost use Rattle.luo_unlabelled.specs.Calls.{IsOfParts};
+ghost use Rattle.luo_unlabelled.specs.Calls as parts;
+ghost use Rattle.luo_engine.specs.inner.Asked.{AreBounds, GoesOnAs, parts_form, of_parts, of_unbounded, unasked, number_asked, asked_more};
 ghost use Rattle.luo_engine.specs.inner.Forms.{asked_of};
 
 use luo_binom::Pascal;
 use luo_labelled::Chain;
 use luo_model::{Kind, Universe};
 use luo_num::{MARK, NoMemory, Over};
-use luo_unlabelled::{Line, Parts};
+use luo_unlabelled::{Line, Parts, Unbounded};
 use std::alloc::Global;
 use std::marker::Model;
 
@@ -20,8 +23,10 @@ pub enum Counter {
     Chain(Chain),
     /// Unlabelled sequences.
     Line(Line),
-    /// Unlabelled multisets and powersets.
+    /// Unlabelled multisets and powersets within bounds.
     Parts(Parts),
+    /// Unlabelled multisets and powersets by size alone.
+    Unbounded(Unbounded),
 }
 
 /// Counts the collections of a node, size by size. Contracts see in it what it was made for, the numbers of components that its calls
@@ -52,7 +57,39 @@ pub fn marked(answer: Result<u128, Over>) -> u128
     }
 }
 
+// Whether the bounds have no greatest number of components, and a least one of at most 2.
+fn is_unbounded(low: u32, high: Option<u32>) -> bool
+    ensures any { IsTrue result → low ≤ 2 }
+    ensures unbounded { IsTrue result → high ≡ None }
+    ensures form { IsTrue result → parts_form low high ≡ of_unbounded }
+    ensures bounded { IsFalse result → parts_form low high ≡ of_parts }
+{
+    match high {
+        Some(_) => false,
+        None => low <= 2,
+    }
+}
+
 impl Counter {
+    // For multisets and powersets: the row by size alone where it serves.
+    fn for_parts(
+        alloc: Global,
+        kind: Kind,
+        low: u32,
+        high: Option<u32>,
+        n_max: u32,
+    ) -> Result<Counter, NoMemory>
+        requires parts { IsOfParts kind }
+        requires bounds { parts.AreBounds low high n_max }
+        ensures { IfOk result (λ counter. asked_of counter ≡ unasked Unlabelled kind low high n_max) }
+    {
+        if is_unbounded(low, high) {
+            Ok(Counter::Unbounded(Unbounded::new(alloc, kind, low, n_max)?))
+        } else {
+            Ok(Counter::Parts(Parts::new(alloc, kind, low, high, n_max)?))
+        }
+    }
+
     fn new(
         alloc: Global,
         universe: Universe,
@@ -67,9 +104,9 @@ impl Counter {
         match universe {
             Universe::Labelled => Ok(Counter::Chain(Chain::new(alloc, kind, low, high, n_max)?)),
             Universe::Unlabelled => match kind {
-                Kind::Multiset | Kind::Powerset => {
-                    Ok(Counter::Parts(Parts::new(alloc, kind, low, high, n_max)?))
-                }
+                Kind::Multiset | Kind::Powerset => Counter::for_parts(
+                    alloc, kind, low, high, n_max,
+                ),
                 _ => Ok(Counter::Line(Line::new(alloc, low, high, n_max)?)),
             },
         }
@@ -86,6 +123,7 @@ impl Counter {
             Counter::Chain(chain) => marked(chain.count_at(pascal, comp, here)),
             Counter::Line(line) => marked(line.count_at(comp, here)),
             Counter::Parts(parts) => marked(parts.count_at(comp, here)),
+            Counter::Unbounded(table) => marked(table.count_at(comp, here)),
         }
     }
 }

@@ -8,7 +8,7 @@ use crate::collections::{Collection, Counter, marked};
 use luo_binom::Pascal;
 use luo_labelled::ChainWalk;
 use luo_num::NoMemory;
-use luo_unlabelled::{LineWalk, PartsWalk};
+use luo_unlabelled::{LineWalk, PartsWalk, UnboundedWalk};
 use std::alloc::Global;
 use std::marker::Model;
 
@@ -19,8 +19,10 @@ pub enum Summer {
     Chain(ChainWalk),
     /// Over unlabelled sequences.
     Line(LineWalk),
-    /// Over unlabelled multisets and powersets.
+    /// Over unlabelled multisets and powersets within bounds.
     Parts(PartsWalk),
+    /// Over unlabelled multisets and powersets by size alone.
+    Unbounded(UnboundedWalk),
 }
 
 /// Sums charges over the collections that a `Collection` counts, size by size. Contracts see in it the numbers of components that its
@@ -48,6 +50,9 @@ impl Summer {
             Counter::Chain(chain) => Ok(Summer::Chain(ChainWalk::new(alloc, chain)?)),
             Counter::Line(line) => Ok(Summer::Line(LineWalk::new(alloc, line)?)),
             Counter::Parts(parts) => Ok(Summer::Parts(PartsWalk::new(alloc, parts)?)),
+            Counter::Unbounded(table) => {
+                Ok(Summer::Unbounded(UnboundedWalk::new(alloc, table)?))
+            }
         }
     }
 
@@ -77,6 +82,9 @@ impl Summer {
             }
             (Summer::Parts(walk), Counter::Parts(parts)) => {
                 marked(walk.total_at(parts, comp, body, here))
+            }
+            (Summer::Unbounded(walk), Counter::Unbounded(table)) => {
+                marked(walk.total_at(table, comp, body, here))
             }
             _ => unreachable!(),
         }

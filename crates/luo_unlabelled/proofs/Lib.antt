@@ -8,3 +8,7 @@ pub mod PartNumbers
 pub mod PartCalls
 pub mod PartTotals
 pub mod WalkCalls
+pub mod SizeSteps
+pub mod SizeNumbers
+pub mod SizeCells
+pub mod SizeCalls

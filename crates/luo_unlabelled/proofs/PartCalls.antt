@@ -84,7 +84,7 @@ count_answer kind a ways cells deep wide wide' n low last here r high p ew el eh
     ∙ number_by_planes kind a (top_count ways cells wide n (a n)) low high n p (λ k l. top_cell kind a ways cells deep wide n k z (omega (arith, l, hl)) hn w h)
 
 -- the first numbers that are kept stay
-kept_first : (old new below : List ℕ) (here d x : ℕ) → ((m : ℕ) → suc m < length below → slice_index below m ≡ slice_index old m) → take (length below + 1) new ≡ below ++ here ∷ [] → slice_index old 0 ≡ 0 → slice_index new 0 ≡ 0 → d ≡ length below - 3 → x ≤ d → slice_index old x ≡ slice_index new x
+pub kept_first : (old new below : List ℕ) (here d x : ℕ) → ((m : ℕ) → suc m < length below → slice_index below m ≡ slice_index old m) → take (length below + 1) new ≡ below ++ here ∷ [] → slice_index old 0 ≡ 0 → slice_index new 0 ≡ 0 → d ≡ length below - 3 → x ≤ d → slice_index old x ≡ slice_index new x
 kept_first old new below here d zero f e z y q l = z ∙ sym y
 kept_first old new below here d (suc x) f e z y q l =
     sym (number_kept new below here (suc x) e (omega (arith, q, l)) ∙ number_below below here (suc x) (omega (arith, q, l)) ∙ f (suc x) (omega (arith, q, l)))

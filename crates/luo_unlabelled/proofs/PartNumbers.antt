@@ -163,7 +163,7 @@ pub slim_plane : (kind : Kind) (a : ℕ → ℕ) (cells : List ℕ) (deep wide r
 slim_plane kind a cells deep wide rows cols d l e h = λ k m hk hm q.
     ap (λ x. slice_index cells (k * x + m)) e ∙ h k m (omega (arith, hk, l)) (omega (arith, hm, e)) ∙ ap capped (plane-past kind a d k m q) ∙ (let z : capped 0 ≡ 0 = omega arith in z)
 
-of_kind : (kind : Kind) (a : ℕ → ℕ) (low : ℕ) (high : Option ℕ) (n : ℕ) → IsOfParts kind → coll_count Unlabelled kind a low high n ≡ sum_below (λ i. plane kind a n (low + i) n) (terms low high n)
+pub of_kind : (kind : Kind) (a : ℕ → ℕ) (low : ℕ) (high : Option ℕ) (n : ℕ) → IsOfParts kind → coll_count Unlabelled kind a low high n ≡ sum_below (λ i. plane kind a n (low + i) n) (terms low high n)
 unfolding coll_count
 of_kind Multiset a low high n h = refl
 of_kind Powerset a low high n h = refl

@@ -17,7 +17,7 @@ use Rattle.luo_unlabelled.proofs.PartNumbers.{le_or, back_past, plane-past, chos
 use Rattle.luo_unlabelled.proofs.CallLemmas.{number_kept, number_below}
 
 -- nothing chosen is charged nothing, and one of all is charged what all are
-charged-none : (kind : Kind) (a t : ℕ) → chosen_totals kind a t 0 ≡ 0
+pub charged-none : (kind : Kind) (a t : ℕ) → chosen_totals kind a t 0 ≡ 0
 charged-none Powerset zero t = refl
 charged-none Powerset (suc a) t = refl
 charged-none Sequence a t = refl
@@ -25,7 +25,7 @@ charged-none Set a t = refl
 charged-none Cycle a t = refl
 charged-none Multiset a t = refl
 
-charged-one : (kind : Kind) (a t : ℕ) → (a ≡ 0 → t ≡ 0) → chosen_totals kind a t 1 ≡ t
+pub charged-one : (kind : Kind) (a t : ℕ) → (a ≡ 0 → t ≡ 0) → chosen_totals kind a t 1 ≡ t
 charged-one Powerset zero t o = sym (o refl)
 charged-one Powerset (suc a) t o = omega arith
 charged-one Sequence a t o = omega arith
@@ -76,7 +76,7 @@ slim_totals kind a b cells deep wide rows cols d l e h = λ k m hk hm q.
     ap (λ x. slice_index cells (k * x + m)) e ∙ h k m (omega (arith, hk, l)) (omega (arith, hm, e)) ∙ ap capped (totals-past kind a b d k m q) ∙ (let z : capped 0 ≡ 0 = omega arith in z)
 
 -- of a size n: the plane of charges of the smaller sizes, and one component of this size
-total-top : (kind : Kind) (a b : ℕ → ℕ) (n k : ℕ) → (a (suc n) ≡ 0 → b (suc n) ≡ 0) → plane_totals kind a b (suc n) k (suc n) ≡ plane_totals kind a b n k (suc n) + alone (b (suc n)) k
+pub total-top : (kind : Kind) (a b : ℕ → ℕ) (n k : ℕ) → (a (suc n) ≡ 0 → b (suc n) ≡ 0) → plane_totals kind a b (suc n) k (suc n) ≡ plane_totals kind a b n k (suc n) + alone (b (suc n)) k
 total-top kind a b n k o =
     let f : ℕ → ℕ = λ j. chosen_totals kind (a (suc n)) (b (suc n)) j * back (j * suc n) (plane kind a n (k - j)) (suc n) in
     let r : ℕ → ℕ = λ j. chosen kind (a (suc n)) j * back (j * suc n) (plane_totals kind a b n (k - j)) (suc n) in
@@ -118,7 +118,7 @@ pub top_totals : (kind : Kind) (a b : ℕ → ℕ) (n k : ℕ) → b 0 ≡ 0 →
 top_totals kind a b zero k z o = sym ((let q : plane_totals kind a b (0 - 1) k 0 + alone (b 0) k ≡ alone (b 0) k = omega (arith, total-zero kind a b (0 - 1) k) in q) ∙ ap (λ x. alone x k) z ∙ alone_none k)
 top_totals kind a b (suc n) k z o = total-top kind a b n k o ∙ ap (λ d. plane_totals kind a b d k (suc n) + alone (b (suc n)) k) (let q : n ≡ suc n - 1 = omega arith in q)
 
-totals_of_kind : (kind : Kind) (a b : ℕ → ℕ) (low : ℕ) (high : Option ℕ) (n : ℕ) → IsOfParts kind → coll_total Unlabelled kind a b low high n ≡ sum_below (λ i. plane_totals kind a b n (low + i) n) (terms low high n)
+pub totals_of_kind : (kind : Kind) (a b : ℕ → ℕ) (low : ℕ) (high : Option ℕ) (n : ℕ) → IsOfParts kind → coll_total Unlabelled kind a b low high n ≡ sum_below (λ i. plane_totals kind a b n (low + i) n) (terms low high n)
 unfolding coll_total
 totals_of_kind Multiset a b low high n h = refl
 totals_of_kind Powerset a b low high n h = refl

@@ -11,11 +11,11 @@ use Rattle.luo_unlabelled.proofs.PartTotals.{total_by_planes}
 use Rattle.luo_unlabelled.proofs.CallLemmas.{number_below, number_here, given_at, starts, none_empty}
 
 -- there were as many calls as numbers given
-calls_by : (calls n_max n : ℕ) (kept given : List ℕ) → take calls kept ≡ given → length given ≡ suc n → calls ≤ n_max + 1 → length kept ≡ n_max + 1 → calls ≡ suc n
+pub calls_by : (calls n_max n : ℕ) (kept given : List ℕ) → take calls kept ≡ given → length given ≡ suc n → calls ≤ n_max + 1 → length kept ≡ n_max + 1 → calls ≡ suc n
 calls_by calls n_max n kept given e l r s = omega (arith, l, r, s, sym (ap length e) ∙ length-take calls kept)
 
 -- the numbers below are those that are kept
-below_at : (calls n x : ℕ) (kept given comp : List ℕ) → take calls kept ≡ given → length given ≡ suc n → comp ≡ take n given → x < n → slice_index kept x ≡ slice_index comp x
+pub below_at : (calls n x : ℕ) (kept given comp : List ℕ) → take calls kept ≡ given → length given ≡ suc n → comp ≡ take n given → x < n → slice_index kept x ≡ slice_index comp x
 below_at calls n x kept given comp eg l ec h = given_at calls n x kept given eg l (omega (arith, h)) ∙ sym (ap (λ (g : List ℕ). slice_index g x) ec ∙ get_or-take n given x 0 h)
 
 pub ways_serve : (kind kind' : Kind) (low n_max n_max' calls n : ℕ) (high : Option ℕ) (kept ways cells given comp row : List ℕ) → IsParts kind low high n_max calls kept ways cells → kind ≡ kind' → n_max ≡ n_max' → take calls kept ≡ given → length given ≡ suc n → comp ≡ take n given → row ≡ ways

@@ -1,5 +1,5 @@
 -- What tables of collections, and of charges over them, were made for and given, whatever their kind.
-use Rattle.std.specs.Prelude.{◌≡◌, ℕ, suc, ◌≤◌, ◌<◌, Bool, false, List, [], ◌∷◌, ◌++◌, length, slice_index, take, Option, IfSome, nat_lt}
+use Rattle.std.specs.Prelude.{◌≡◌, ℕ, zero, suc, ◌≤◌, ◌<◌, Bool, false, List, [], ◌∷◌, ◌++◌, length, slice_index, take, Option, None, IfSome, nat_lt}
 use Rattle.luo_num.specs.declared.limits.TheConstants.{BOUND_LIMIT, SIZE_LIMIT}
 use Rattle.luo_num.specs.declared.TheConstants.{MAX}
 use Rattle.luo_model.specs.declared.program.Universe.{Universe}
@@ -12,17 +12,26 @@ use Rattle.luo_counting.specs.Numbers.{coll_count, coll_total}
 use Rattle.luo_labelled.specs.Calls as labelled
 use Rattle.luo_unlabelled.specs.Calls as unlabelled
 
--- the tables that count collections: chains are labelled, lines are sequences, and what has parts is a multiset or a powerset
+-- the tables that count collections: chains are labelled, lines are sequences, and what has parts is a multiset or a powerset, with or without
+-- bounds
 pub data Form : Type 0 where
   of_chain : Form
   of_line : Form
   of_parts : Form
+  of_unbounded : Form
 
-abbrev pub form_of : Universe → Kind → Form
-form_of Labelled kind = of_chain
-form_of Unlabelled Multiset = of_parts
-form_of Unlabelled Powerset = of_parts
-form_of Unlabelled _ = of_line
+-- without a greatest number of components, and with a least one of at most 2, a row by size alone serves
+abbrev pub parts_form : ℕ → Option ℕ → Form
+parts_form zero None = of_unbounded
+parts_form (suc zero) None = of_unbounded
+parts_form (suc (suc zero)) None = of_unbounded
+parts_form _ _ = of_parts
+
+abbrev pub form_of : Universe → Kind → ℕ → Option ℕ → Form
+form_of Labelled kind low high = of_chain
+form_of Unlabelled Multiset low high = parts_form low high
+form_of Unlabelled Powerset low high = parts_form low high
+form_of Unlabelled _ low high = of_line
 
 -- what a table was made for, the numbers that its calls were given, one for each size from 0 on, and whether the last call answered with a mark
 pub record Asked : Type 0 where
@@ -37,7 +46,7 @@ pub record Asked : Type 0 where
 
 -- before the first call
 abbrev pub unasked : Universe → Kind → ℕ → Option ℕ → ℕ → Asked
-unasked u k l h n = record { form = form_of u k; universe = u; kind = k; low = l; high = h; n_max = n; given = []; over = false }
+unasked u k l h n = record { form = form_of u k l h; universe = u; kind = k; low = l; high = h; n_max = n; given = []; over = false }
 
 -- what is seen in a table of labelled collections, and in one of unlabelled ones
 abbrev pub of_labelled : labelled.Calls → Asked

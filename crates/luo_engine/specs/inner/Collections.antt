@@ -26,7 +26,7 @@ HasTable tables x = slice_get tables x ≡ Some (Some (table_at tables x))
 -- the table is for collections of the part within these bounds, and was given the numbers of components in so many calls, the last of them where one
 -- component is within the bounds, and else 0
 pub record IsAsked (p : Program) (kind : Kind) (part : Part) (low : ℕ) (high : Option ℕ) (n_max calls : ℕ) (c : Asked) : Type 0 where
-  pub form_is : c.form ≡ form_of p.universe kind
+  pub form_is : c.form ≡ form_of p.universe kind low high
   pub universe_is : c.universe ≡ p.universe
   pub kind_is : c.kind ≡ kind
   pub low_is : c.low ≡ low

@@ -44,7 +44,7 @@ HasWalk walks i = slice_get walks i ≡ Some (Some (walk_at walks i))
 -- the table is for this walk, and was given the numbers of components and the totals of the body in so many calls; the last of them count only
 -- where one component is within the bounds, and the last number of components is kept in the labelled universe alone
 pub record IsAskedWalk (p : Program) (i s : ℕ) (walk : IsWalk p i s) (n_max calls : ℕ) (w : AskedWalk) : Type 0 where
-  pub form_is : w.sums.form ≡ form_of p.universe walk.kind
+  pub form_is : w.sums.form ≡ form_of p.universe walk.kind walk.low walk.high
   pub kind_is : w.sums.kind ≡ walk.kind
   pub low_is : w.sums.low ≡ walk.low
   pub high_is : w.sums.high ≡ walk.high
@@ -54,7 +54,7 @@ pub record IsAskedWalk (p : Program) (i s : ℕ) (walk : IsWalk p i s) (n_max ca
   pub agrees : (m : ℕ) → suc m < calls → IsTotal p s m (slice_index w.sums.given m)
   pub last_agrees : (m : ℕ) → suc m ≡ calls → IsWithin walk.low walk.high 1 → IsTotal p s m (slice_index w.sums.given m)
   pub counts_agree : (m : ℕ) → suc m < calls → IsCount p walk.part.node m (slice_index w.counts m)
-  pub counts_last : form_of p.universe walk.kind ≡ of_chain → (m : ℕ) → suc m ≡ calls → IsWithin walk.low walk.high 1 → IsCount p walk.part.node m (slice_index w.counts m)
+  pub counts_last : form_of p.universe walk.kind walk.low walk.high ≡ of_chain → (m : ℕ) → suc m ≡ calls → IsWithin walk.low walk.high 1 → IsCount p walk.part.node m (slice_index w.counts m)
 
 -- site i has a table, and it has been asked so often
 pub record HasAskedWalk (p : Program) (n_max : ℕ) (walks : List (Option AskedWalk)) (i s : ℕ) (walk : IsWalk p i s) (calls : ℕ) : Type 0 where

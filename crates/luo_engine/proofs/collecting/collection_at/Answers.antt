@@ -28,6 +28,10 @@ front-comp-requires c =
     let r = component_reaches c.args.plan.now c.node_at-x.ensures.plan c.args.counts.now c.args.tables.now.items c.args.n c.args.k c.node_at-x.result c.in-Coll.low c.in-Coll.kind c.in-Coll.part c.in-Coll.high c.node_at-x.ensures.place (sym c.shape.ensures ∙ c.in-Coll.is) c.requires.counted c.requires.tables in
     omega (arith, r, ap length c.row.ensures)
 
+pub ask-requires-clause-there : goal.ask-requires-clause-there
+ask-requires-clause-there c =
+    (c.requires.tables.to_ask c.args.k c.node_at-x.result c.in-Coll.low c.in-Coll.kind c.in-Coll.part c.in-Coll.high (omega arith) c.node_at-x.ensures.place (sym c.shape.ensures ∙ c.in-Coll.is)).there
+
 pub ask-requires-clause-goes_on : goal.ask-requires-clause-goes_on
 ask-requires-clause-goes_on c =
     goes_on c.args.plan.now c.node_at-x.ensures.plan c.args.counts.now c.args.tables.now.items c.args.n c.args.k c.node_at-x.result c.in-Coll.low c.in-Coll.kind c.in-Coll.part c.in-Coll.high c.node_at-x.ensures.place (sym c.shape.ensures ∙ c.in-Coll.is) c.requires.counted c.requires.tables
