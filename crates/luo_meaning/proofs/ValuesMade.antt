@@ -206,8 +206,7 @@ module _ (source : Source) (R : ℕ → Tree → Tree → Type 0) (S : List ℕ 
       values_made (more_of-SourceValue v rest) scope env vars agree (x ∷ nodes) (f ∷ es) h long proper e (more t ts) =
           let s = setting_of source in
           let one = value_made v scope env vars agree x f h.0 proper.0 (nil_left (value_breaches s scope (Some x) v) (values_breaches s scope nodes rest) e) t in
-          let others = values_made rest scope env vars agree nodes es h.1 (omega (arith, long)) proper.1 (nil_right (value_breaches s scope (Some x) v) (values_breaches s scope nodes rest) e) ts in
-          (
+          let others = values_made rest scope env vars agree nodes es h.1 (omega (arith, long)) proper.1 (nil_right (value_breaches s scope (Some x) v) (values_breaches s scope nodes rest) e) ts in (
             λ k.
                 let same = more_same k.4 in
                 (one.0 (subst (makes.ValueMakes R (value_core s scope (Some x) v) vars) (sym same.0) k.2), others.0 (subst (makes.ValuesMake R (values_core s scope nodes rest) vars) (sym same.1) k.3)),

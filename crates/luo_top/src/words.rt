@@ -15,9 +15,14 @@ pub const NUMBER_CAP: u64 = 1000000;
 #[derive(Clone, Copy)]
 pub enum Request<'w> {
     /// The report of a file for the sizes up to `last`, a number up to `NUMBER_CAP`.
-    Analyse { file: &'w str, last: u64 },
+    Analyse {
+        file: &'w str,
+        last: u64,
+    },
     /// The canonical text of a file.
-    Format { file: &'w str },
+    Format {
+        file: &'w str,
+    },
     /// What the procedure of a name charges on the structure of a text.
     Run {
         file: &'w str,

@@ -12,7 +12,7 @@ pub returns-in-Some-clause-passes : goal.returns-in-Some-clause-passes
 returns-in-Some-clause-passes c =
     let h = c.args.program.now in
     let named : IsProcedureNamed (plain_of h) c.args.name.now c.in-Some.f = subst (λ name. IsProcedureNamed (plain_of h) name c.in-Some.f) c.as_bytes-name.ensures.value
-        (place_found h c.as_slice.result.now (c.as_slice.ensures ∙ ap (λ (k : Held). k.procs) c.program.view_is) c.as_bytes-name.result.now c.in-Some.f (sym c.place_of.ensures ∙ c.in-Some.is)) in
+    (place_found h c.as_slice.result.now (c.as_slice.ensures ∙ ap (λ (k : Held). k.procs) c.program.view_is) c.as_bytes-name.result.now c.in-Some.f (sym c.place_of.ensures ∙ c.in-Some.is)) in
     record { answers = ((λ a r. r.0 c.in-Some.f named), named) }
 
 pub returns-in-Some-clause-within : goal.returns-in-Some-clause-within
@@ -25,5 +25,5 @@ pub returns-in-Ok-clause-passes : goal.returns-in-Ok-clause-passes
 returns-in-Ok-clause-passes c =
     let h = c.args.program.now in
     let missed = subst (λ (name : List ℕ). (f : ℕ) → IsProcedureNamed (plain_of h) name f → ⊥) c.as_bytes-name.ensures.value
-        (place_missed h c.as_slice.result.now (c.as_slice.ensures ∙ ap (λ (k : Held). k.procs) c.program.view_is) c.as_bytes-name.result.now (sym c.place_of.ensures ∙ c.in-None.is)) in
+    (place_missed h c.as_slice.result.now (c.as_slice.ensures ∙ ap (λ (k : Held). k.procs) c.program.view_is) c.as_bytes-name.result.now (sym c.place_of.ensures ∙ c.in-None.is)) in
     record { answers = (missed, ap (Refusal Refused) (c.in-Ok.ensures ∙ ap unknown_line c.as_bytes-name.ensures.value)) }
