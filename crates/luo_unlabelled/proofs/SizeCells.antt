@@ -6,6 +6,7 @@ use Rattle.std.proofs.Math.Nat.{mul-zero, div-mul-le_self}
 use Rattle.luo_num.specs.Mark.{capped}
 use Rattle.luo_finite.specs.Range.{sum_below}
 use Rattle.luo_model.specs.declared.program.Kind.{Kind}
+use Rattle.luo_model.specs.declared.program.Kind.TheVariants.{Sequence, Set, Cycle, Multiset, Powerset}
 use Rattle.luo_counting.specs.Numbers.{back, chosen, chosen_totals}
 use Rattle.luo_counting.proofs.Planes.{back-no}
 use Rattle.luo_unlabelled.specs.inner.Planes.{AreWays, AreCharges}
@@ -13,7 +14,7 @@ use Rattle.luo_unlabelled.specs.inner.Sizes.{stepped, sized, sized_totals, from_
 use Rattle.luo_unlabelled.proofs.RowLemmas.{sum_below-tail}
 use Rattle.luo_unlabelled.proofs.PlaneLemmas.{back_there}
 use Rattle.luo_unlabelled.proofs.PartCalls.{nothing_at}
-use Rattle.luo_unlabelled.proofs.SizeSteps.{stepped-same, stepped-marked}
+use Rattle.luo_unlabelled.proofs.SizeSteps.{stepped-same, stepped-none, stepped-marked}
 use Rattle.luo_unlabelled.proofs.SizeNumbers.{sized-beyond, totals-beyond}
 
 -- so many components of a size fit
@@ -83,8 +84,37 @@ fold_holds kind a ways old new now wide d e ee ew en p w h m hm = ap (λ (l : Li
     (λ l. p.rest m l ∙ h m hm ∙ ap capped (sym (sized-beyond kind a d m (omega (arith, l, ee)))) ∙ ap (λ x. capped (sized kind a x m)) (sym ee))
     (step_or m e)
 
-pub fold_kept : (kind : Kind) (a : ℕ → ℕ) (old now : List ℕ) (wide d e : ℕ) → d ≡ e → now ≡ old → HoldsSizes wide (sized kind a d) old → HoldsSizes wide (sized kind a e) now
+fold_kept : (kind : Kind) (a : ℕ → ℕ) (old now : List ℕ) (wide d e : ℕ) → d ≡ e → now ≡ old → HoldsSizes wide (sized kind a d) old → HoldsSizes wide (sized kind a e) now
 fold_kept kind a old now wide d e q en h m hm = ap (λ (l : List ℕ). slice_index l m) en ∙ h m hm ∙ ap (λ x. capped (sized kind a x m)) q
+
+-- of nothing there is one choice, of nothing
+chosen_nothing : (kind : Kind) → chosen kind 0 0 ≡ 1
+chosen_nothing Sequence = refl
+chosen_nothing Set = refl
+chosen_nothing Cycle = refl
+chosen_nothing Multiset = refl
+chosen_nothing Powerset = refl
+
+chosen_none : (kind : Kind) (j : ℕ) → chosen kind 0 (suc j) ≡ 0
+chosen_none Sequence j = refl
+chosen_none Set j = refl
+chosen_none Cycle j = refl
+chosen_none Multiset j = refl
+chosen_none Powerset j = refl
+
+-- a size without components leaves the row as it was
+fold_idle : (kind : Kind) (a : ℕ → ℕ) (old now : List ℕ) (wide d e : ℕ) → e ≡ suc d → a e ≡ 0 → now ≡ old → HoldsSizes wide (sized kind a d) old → HoldsSizes wide (sized kind a e) now
+fold_idle kind a old now wide d e ee z en h m hm =
+    ap (λ (l : List ℕ). slice_index l m) en ∙ h m hm
+    ∙ ap capped (sym (ap (λ x. stepped (chosen kind x) (sized kind a d) (suc d) m) (ap a (sym ee) ∙ z) ∙ stepped-none (chosen kind 0) (sized kind a d) (suc d) m (chosen_nothing kind) (chosen_none kind)))
+    ∙ ap (λ x. capped (sized kind a x m)) (sym ee)
+
+-- no size is folded in
+pub fold_left : (kind : Kind) (a : ℕ → ℕ) (old now : List ℕ) (wide n : ℕ) → (2 < n → a (n - 2) ≡ 0) → now ≡ old → HoldsSizes wide (sized kind a (n - 3)) old → HoldsSizes wide (sized kind a (n - 2)) now
+fold_left kind a old now wide n z en h = ⊎_elim
+    (λ l. fold_idle kind a old now wide (n - 3) (n - 2) (omega (arith, l)) (z (omega (arith, l))) en h)
+    (λ l. fold_kept kind a old now wide (n - 3) (n - 2) (omega (arith, l)) en h)
+    (step_or n 3)
 
 pub totals_folded : (kind : Kind) (a b : ℕ → ℕ) (ways charges counts old new : List ℕ) (wide d e : ℕ) → e ≡ suc d → wide ≡ length old → IsFolded (total_fold ways charges counts e) e old new → AreWays kind (a e) e wide ways → AreCharges kind (a e) (b e) e wide charges
     → HoldsSizes wide (sized kind a d) counts → HoldsSizes wide (sized_totals kind a b d) old → HoldsSizes wide (sized_totals kind a b e) new
