@@ -34,6 +34,9 @@ stepped-beyond w f d m h =
     let z : sum_below (λ j. w (suc j) * back (suc j * suc d) f m) m ≡ 0 = sum_below-zero (λ j. w (suc j) * back (suc j * suc d) f m) m (λ j l. past w f (suc j) (suc d) m (omega (arith, h, times_suc j (suc d)))) in
     omega (arith, sum_below-shift (λ j. w j * back (j * suc d) f m) m, z, first w f (suc d) m)
 
+pub stepped-nothing : (w f : ℕ → ℕ) (s m : ℕ) → ((j : ℕ) → w j ≡ 0) → stepped w f s m ≡ 0
+stepped-nothing w f s m h = sum_below-zero (λ j. w j * back (j * s) f m) (suc m) (λ j l. ap (λ x. x * back (j * s) f m) (h j) ∙ zero-mul (back (j * s) f m))
+
 -- a size of which nothing can be taken changes nothing
 pub stepped-none : (w f : ℕ → ℕ) (s m : ℕ) → w 0 ≡ 1 → ((j : ℕ) → w (suc j) ≡ 0) → stepped w f s m ≡ f m
 stepped-none w f s m o h =
