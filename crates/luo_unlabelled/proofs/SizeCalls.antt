@@ -94,6 +94,10 @@ row_total t kind comp body here v p any few eh ek l ec z y u o idle e =
     second zero b = u ∙ sym (none_empty body here u o)
     second (suc i) b = sym (number_below body here (suc i) (omega (arith, b)))
 
+-- where there are no components, nothing is charged
+pub idle_below : (given comp body : List ℕ) (here : ℕ) → comp ≡ take (length body) given → ((m : ℕ) → slice_index given m ≡ 0 → numbers body here m ≡ 0) → (m : ℕ) → m < length body → slice_index comp m ≡ 0 → slice_index body m ≡ 0
+idle_below given comp body here ec idle m l z = sym (number_below body here m l) ∙ idle m (sym (get_or-take (length body) given m 0 l) ∙ ap (λ (g : List ℕ). slice_index g m) (sym ec) ∙ z)
+
 -- the table after a call
 pub next_row_walk : (kind : Kind) (low n_max calls n wide : ℕ) (comp body charges cells kept sums news put ncomp nbody ncharges ncells : List ℕ) → IsUnboundedWalk kind low n_max calls comp body charges cells → calls ≡ n → n ≤ n_max
     → ncomp ≡ kept → nbody ≡ sums → ncharges ≡ news → ncells ≡ put → length kept ≡ length comp → length sums ≡ length body → length news ≡ length charges → length put ≡ length cells → slice_index kept 0 ≡ 0 → slice_index sums 0 ≡ 0

@@ -34,6 +34,19 @@ stepped-beyond w f d m h =
     let z : sum_below (λ j. w (suc j) * back (suc j * suc d) f m) m ≡ 0 = sum_below-zero (λ j. w (suc j) * back (suc j * suc d) f m) m (λ j l. past w f (suc j) (suc d) m (omega (arith, h, times_suc j (suc d)))) in
     omega (arith, sum_below-shift (λ j. w j * back (j * suc d) f m) m, z, first w f (suc d) m)
 
+pub stepped-nothing : (w f : ℕ → ℕ) (s m : ℕ) → ((j : ℕ) → w j ≡ 0) → stepped w f s m ≡ 0
+stepped-nothing w f s m h = sum_below-zero (λ j. w j * back (j * s) f m) (suc m) (λ j l. ap (λ x. x * back (j * s) f m) (h j) ∙ zero-mul (back (j * s) f m))
+
+-- a size of which nothing can be taken changes nothing
+pub stepped-none : (w f : ℕ → ℕ) (s m : ℕ) → w 0 ≡ 1 → ((j : ℕ) → w (suc j) ≡ 0) → stepped w f s m ≡ f m
+stepped-none w f s m o h =
+    let z : sum_below (λ j. w (suc j) * back (suc j * s) f m) m ≡ 0 = sum_below-zero (λ j. w (suc j) * back (suc j * s) f m) m (λ j l. ap (λ x. x * back (suc j * s) f m) (h j) ∙ zero-mul (back (suc j * s) f m)) in
+    let b : w 0 * back (0 * s) f m ≡ f m = first w f s m ∙ ap (λ x. x * f m) o ∙ once (f m) in
+    omega (arith, sum_below-shift (λ j. w j * back (j * s) f m) m, z, b)
+  where
+    once : (x : ℕ) → 1 * x ≡ x
+    once x = omega arith
+
 -- the size at hand is taken once, alone, or not at all
 pub stepped-top : (w f : ℕ → ℕ) (n : ℕ) → stepped w f (suc n) (suc n) ≡ w 0 * f (suc n) + w 1 * f 0
 stepped-top w f n =

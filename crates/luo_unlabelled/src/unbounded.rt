@@ -147,7 +147,8 @@ fn next_number(
     count_of(kind, low, cells, ways, kept, n)
 }
 
-// Folds the size before the last but one into the row, and writes the ways to take components of that before the last.
+// Folds the size before the last but one into the row, where there are components of it, and writes the ways to take those of
+// that before the last.
 fn advance(kind: Kind, cells: &mut [u128], ways: &mut [u128], comp: &[u128], n: usize)
     requires long { length comp.now ≤ SIZE_LIMIT + 1 }
     requires size { n < length comp.now }
@@ -163,7 +164,7 @@ fn advance(kind: Kind, cells: &mut [u128], ways: &mut [u128], comp: &[u128], n: 
     ensures holds { HoldsSizes (length comp.now)
         (sized kind (slice_index comp.now) (n - 2)) cells.new }
 {
-    if n > 2 {
+    if n > 2 && comp[n - 2] > 0 {
         fold(cells, ways, n - 2);
     }
     if n > 1 {

@@ -142,6 +142,8 @@ fn next_total(
     requires body_given { slice_index body.now 0 ≡ 0 }
     requires here { length body.now ≡ 0 → here ≡ 0 }
     requires small { (m : ℕ) → slice_index comp.now m ≤ MAX }
+    requires idle { (m : ℕ) → m < length body.now → slice_index comp.now m ≡ 0
+        → slice_index body.now m ≡ 0 }
     requires agree { (m : ℕ) → suc m < length comp.now → slice_index comp.now m
         ≡ slice_index kept.old m }
     requires sums_agree { (m : ℕ) → suc m < length body.now → slice_index body.now m
@@ -168,7 +170,7 @@ fn next_total(
     marked_add(cells[n], here)
 }
 
-// Folds the size before n into the row of charges.
+// Folds the size before n into the row of charges, where there are components of it.
 fn advance(
     kind: Kind,
     counts: &[u128],
@@ -187,6 +189,7 @@ fn advance(
     requires charges { length charges.old ≡ length cells.old }
     requires counts { length counts.now ≡ length cells.old }
     requires small { (m : ℕ) → slice_index comp.now m ≤ MAX }
+    requires idle { 2 ≤ n → slice_index comp.now (n - 1) ≡ 0 → slice_index body.now (n - 1) ≡ 0 }
     requires known { 2 ≤ n → AreWays kind (slice_index comp.now (n - 1)) (n - 1)
         (length cells.old) ways.now }
     requires counted { HoldsSizes (length cells.old)
@@ -196,7 +199,7 @@ fn advance(
     ensures { HoldsSizes (length cells.old)
         (sized_totals kind (slice_index comp.now) (slice_index body.now) (n - 1)) cells.new }
 {
-    if n > 1 {
+    if n > 1 && comp[n - 1] > 0 {
         write_charges(kind, charges, comp[n - 1], body[n - 1], n - 1);
         fold_total(cells, counts, ways, charges, n - 1);
     }

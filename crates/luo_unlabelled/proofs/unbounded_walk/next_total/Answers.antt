@@ -10,6 +10,9 @@ advance-requires-clause-holds c =
     (λ i l. first_kept c.args.kept.now c.args.comp.now i c.requires.agree c.requires.none_empty c.requires.comp_given (omega (arith, l, c.requires.sizes)))
     (λ i l. first_kept c.args.sums.now c.args.body.now i c.requires.sums_agree c.requires.none_charged c.requires.body_given l) c.requires.holds
 
+pub advance-requires-clause-idle : goal.advance-requires-clause-idle
+advance-requires-clause-idle c = λ t z. c.requires.idle (length c.args.body.now - 1) (omega (arith, t)) z
+
 pub returns-clause-kept : goal.returns-clause-kept
 returns-clause-kept c = below_kept c.keep.new.kept c.args.comp.now 0 (length c.args.body.now) c.keep.ensures c.requires.sizes
 

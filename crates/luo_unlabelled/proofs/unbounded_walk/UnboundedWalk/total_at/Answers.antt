@@ -4,7 +4,7 @@ use Rattle.luo_model.specs.declared.program.Kind.{Kind}
 use Rattle.luo_unlabelled.specs.Calls.{Calls, Walk, IsOfParts, total_of}
 use Rattle.luo_unlabelled.proofs.CallLemmas.{totalled, starts, given_none, answered, calls_are, same_walk}
 use Rattle.luo_unlabelled.proofs.PartCalls.{suits_parts}
-use Rattle.luo_unlabelled.proofs.SizeCalls.{two_alone, ways_serve_row, row_serves, row_total, next_row_walk}
+use Rattle.luo_unlabelled.proofs.SizeCalls.{two_alone, ways_serve_row, row_serves, row_total, idle_below, next_row_walk}
 use Rattle.luo_unlabelled.proofs.unbounded_walk.UnboundedWalk.total_at.Goals as goal
 
 pub next_total-total-requires-clause-known : goal.next_total-total-requires-clause-known
@@ -22,6 +22,9 @@ next_total-total-requires-clause-counted c =
     (ap (λ (t : Calls). t.kind) c.table.view_is ∙ c.requires.kind ∙ sym (ap (λ (w : Walk). w.calls.kind) c.self.view_is))
     (omega (arith, m, ap length c.deref_mut.ensures.value, c.self.invariant.row))
     (ap (λ (t : Calls). t.given) c.table.view_is) c.requires.counted c.requires.given c.deref.ensures.value
+
+pub next_total-total-requires-clause-idle : goal.next_total-total-requires-clause-idle
+next_total-total-requires-clause-idle c = idle_below c.args.table.now.given c.args.comp.now c.args.body.now c.args.here c.requires.given c.requires.idle
 
 pub returns-clause-totalled : goal.returns-clause-totalled
 returns-clause-totalled c =
