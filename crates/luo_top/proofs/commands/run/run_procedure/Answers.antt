@@ -5,7 +5,7 @@ use Rattle.luo_top.proofs.StepLemmas.{go, stop, go_over, stop_over}
 use Rattle.luo_top.proofs.commands.run.run_procedure.Goals as goal
 
 pub structure_of-requires : goal.structure_of-requires
-structure_of-requires g c = c.in_ok-place.ensures.within
+structure_of-requires g c = record { within = c.in_ok-place.ensures.within }
 
 pub charge_of-requires-clause-takes : goal.charge_of-requires-clause-takes
 charge_of-requires-clause-takes g c =
