@@ -1,7 +1,6 @@
 // `analyse FILE N`
 ghost use Rattle.std.specs.Prelude.{◌≡◌, ◌≤◌, ℕ, min, [], ◌∷◌};
 ghost use Rattle.luo_model.specs.View.{plain_of};
-ghost use Rattle.luo_model.specs.Founded.{IsFounded};
 ghost use Rattle.luo_model.specs.declared.table.Fill.TheVariants.{All};
 ghost use Rattle.luo_num.specs.declared.limits.TheConstants.{SIZE_LIMIT};
 ghost use Rattle.luo_top.specs.declared.words.TheConstants.{NUMBER_CAP};
@@ -14,24 +13,28 @@ use crate::rows::tables_of;
 use crate::steps::{file_program, founded, sized, tables};
 use luo_compile::descriptors;
 use luo_engine::Engine;
+use luo_founded::Ranks;
 use luo_model::{Fill, Program};
 use luo_num::{Items, Text};
 use luo_outside::Files;
 use luo_report::report;
 use std::alloc::Global;
 
-// The report of a well-founded program for the sizes up to `last`.
+// The report for the sizes up to `last`.
 fn reported(
     alloc: Global,
     program: &Program,
+    ranks: &Ranks<'_>,
     engine: &Engine<'_>,
     last: u32,
 ) -> Result<Text, Refusal>
-    requires founded { IsFounded (plain_of program.now) }
+    requires ranks { ranks.now ≡ program.now }
     requires size { last ≤ SIZE_LIMIT }
     requires full { engine.now ≡ full program.now All last }
     ensures { Passes itself (steps.report (plain_of program.now) last) result }
 {
+    // Only a well-founded program has ranks.
+    let _founded = ranks.program();
     let equations = descriptors(alloc, program)?;
     let tables = tables_of(alloc, program, engine, last)?;
     let text = report(alloc, program, &equations, tables.as_slice())?;
@@ -52,5 +55,5 @@ pub fn analyse_file<F: Files>(
     let ranks = founded(alloc, &program)?;
     let size = sized(last)?;
     let engine = tables(alloc, &program, &ranks, size, Fill::All)?;
-    reported(alloc, ranks.program(), &engine, size)
+    reported(alloc, &program, &ranks, &engine, size)
 }

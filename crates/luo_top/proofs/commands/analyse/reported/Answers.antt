@@ -1,6 +1,7 @@
 use Rattle.std.proofs.Common.{◌≡◌, ◌<◌, sym, ap, ◌∙◌, subst, List, length, map}
 use Rattle.luo_finite.specs.Listing.{In}
-use Rattle.luo_model.specs.View.{plain_of}
+use Rattle.luo_model.specs.View.{Held, plain_of}
+use Rattle.luo_model.specs.Founded.{IsFounded}
 use Rattle.luo_equation.specs.View.{equation_of}
 use Rattle.luo_equation.specs.Expr as series
 use Rattle.luo_report.specs.declared.table.Table.{Table}
@@ -16,9 +17,10 @@ report-requires c = record { named = subst (λ (l : List Table). (t : Table) →
 pub returns : goal.returns
 returns c =
     let p = plain_of c.args.program.now in
+    let founded : IsFounded p = subst (λ (h : Held). IsFounded (plain_of h)) c.requires.ranks c.program-founded.ensures.founded in
     let equations : map equation_of c.deref.result.now ≡ system p = ap (map equation_of) c.deref.ensures.value ∙ c.in_ok-equations.ensures.equations in
     made _ _ (
-      subst (λ es. (numbers : series.Table) × IsTableOf p es numbers) equations (c.in_ok-equations.ensures.table c.founded),
+      subst (λ es. (numbers : series.Table) × IsTableOf p es numbers) c.in_ok-equations.ensures.equations (c.in_ok-equations.ensures.table founded),
       (
         c.in_ok-tables.tables,
         c.in_ok-tables.ensures.right,
