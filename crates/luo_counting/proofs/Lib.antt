@@ -22,3 +22,4 @@ pub mod TreeCharges
 pub mod Binomials
 pub mod PlaneTops
 pub mod FactLemmas
+pub mod Atoms

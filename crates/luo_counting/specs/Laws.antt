@@ -81,6 +81,9 @@ NodesAreCounted = (p : Program) (x : ℕ) (kind : Kind) (part : Part) (low : ℕ
 
 -- a walk has the total of numbered collections over the charges of its body, for every choice q of charges with the body's sums
 abbrev pub WalksAreTotalled : Type 0
-WalksAreTotalled = (p : Program) (i n t : ℕ) (body : Body) (kind : Kind) (part : Part) (low : ℕ) (high : Option ℕ) (w : Tree → ℕ) (a b : ℕ → ℕ) (q : ℕ → ℕ → ℕ) → In (i, of_walk body) (works_of p)
+WalksAreTotalled =
+    (p : Program) (i n t : ℕ) (body : Body) (kind : Kind) (part : Part) (low : ℕ) (high : Option ℕ)
+    (w : Tree → ℕ) (a b : ℕ → ℕ) (q : ℕ → ℕ → ℕ)
+    → In (i, of_walk body) (works_of p)
     → IsCollectionNode p (site_node p i) kind part low high → ((s : Tree) → Member p part.node s → BodyCharges (Charges p) body (s ∷ []) (w s)) → a 0 ≡ 0 → b 0 ≡ 0
     → AreComponents p part w a b (IsWithin low high 1) n → ((m : ℕ) → sum_below (q m) (a m) ≡ b m) → IsCollectionTotal p.universe kind low high a q n t → IsTotal p i n t

@@ -1,6 +1,8 @@
 // Laws on the words of this crate. The bodies are empty: what counts are the clauses.
-ghost use Rattle.luo_counting.specs.Laws.{ShareIsBinomial, RowsAreBinomial, SetsAreBinomial, CyclesAreBinomial, RepeatsAreBinomial, CollectionsAreCounted, CollectionsAreTotalled, PairsAreTotalled, NodesAreCounted, WalksAreTotalled};
-ghost use Rattle.luo_counting.specs.Facts.{CatalanNumbers, Compositions, BellNumbers, StirlingCycles, StirlingSets, Orders, RoundOrders, Partitions, DistinctPartitions, PartsOfAll, SquaresOfAll};
+ghost use Rattle.luo_counting.specs.Laws.{ShareIsBinomial, RowsAreBinomial, SetsAreBinomial, CyclesAreBinomial, RepeatsAreBinomial};
+ghost use Rattle.luo_counting.specs.Laws.{CollectionsAreCounted, CollectionsAreTotalled, PairsAreTotalled, NodesAreCounted, WalksAreTotalled};
+ghost use Rattle.luo_counting.specs.Facts.{CatalanNumbers, Compositions, BellNumbers, StirlingCycles, StirlingSets, Orders};
+ghost use Rattle.luo_counting.specs.Facts.{RoundOrders, Partitions, DistinctPartitions, PartsOfAll, SquaresOfAll};
 
 /// n labels are shared between two as binomials say.
 pub fn share_is_binomial()

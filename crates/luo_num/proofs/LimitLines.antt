@@ -9,4 +9,4 @@ heads-say_limits = (refl, refl, refl, refl)
 
 pub lines-say_limits : LinesSayLimits
 unfolding digits
-lines-say_limits = (refl, refl, refl, refl, refl, refl, refl, refl, refl, refl, refl, refl)
+lines-say_limits = (refl, refl, refl, refl, refl, refl, refl, refl, refl, refl, refl, refl, refl, refl, refl, refl, refl)

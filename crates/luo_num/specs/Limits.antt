@@ -1,6 +1,7 @@
 -- What is said where a limit is passed.
 use Rattle.std.specs.Prelude.{◌≡◌, ℕ, List, [], ◌∷◌, ◌++◌, codes, decimal}
 use Rattle.luo_num.specs.declared.limits.TheConstants.{TEXT_LIMIT, TEXT_LIMIT_LINE, NAME_LIMIT, NAME_LIMIT_HEAD, NUMBER_LIMIT, NUMBER_LIMIT_HEAD, DEPTH_LIMIT, DEPTH_LIMIT_HEAD, DEFINITION_LIMIT, DEFINITION_LIMIT_LINE, NODE_LIMIT, NODE_LIMIT_LINE, PART_LIMIT, PART_LIMIT_LINE, BOUND_LIMIT, BOUND_LIMIT_LINE, MULTISET_LIMIT, MULTISET_LIMIT_LINE, PROCEDURE_LIMIT, PROCEDURE_LIMIT_LINE, STATEMENT_LIMIT, STATEMENT_LIMIT_LINE, ANALYSIS_LIMIT, ANALYSIS_LIMIT_LINE, WALK_LIMIT, WALK_LIMIT_LINE, SIZE_LIMIT, SIZE_LIMIT_LINE, STRUCTURE_TEXT_LIMIT, STRUCTURE_TEXT_LIMIT_LINE, NESTING_LIMIT, NESTING_LIMIT_HEAD}
+use Rattle.luo_num.specs.declared.limits.TheConstants.{LIST_SIZE_LIMIT, LIST_SIZE_LIMIT_LINE, COUNT_LIMIT, COUNT_LIMIT_LINE, WORKER_LIMIT, WORKER_LIMIT_LINE, WALKED_LIMIT, WALKED_LIMIT_LINE, SAMPLE_LIMIT, SAMPLE_LIMIT_LINE}
 
 -- the name of a limit and its number
 abbrev pub limit_message : List ℕ → ℕ → List ℕ
@@ -29,3 +30,8 @@ LinesSayLimits =
     × (WALK_LIMIT_LINE.now ≡ limit_message (codes "walks") WALK_LIMIT ++ 10 ∷ [])
     × (SIZE_LIMIT_LINE.now ≡ limit_message (codes "size") SIZE_LIMIT ++ 10 ∷ [])
     × (STRUCTURE_TEXT_LIMIT_LINE.now ≡ limit_message (codes "text") STRUCTURE_TEXT_LIMIT ++ 10 ∷ [])
+    × (LIST_SIZE_LIMIT_LINE.now ≡ limit_message (codes "size") LIST_SIZE_LIMIT ++ 10 ∷ [])
+    × (COUNT_LIMIT_LINE.now ≡ limit_message (codes "count") COUNT_LIMIT ++ 10 ∷ [])
+    × (WORKER_LIMIT_LINE.now ≡ limit_message (codes "workers") WORKER_LIMIT ++ 10 ∷ [])
+    × (WALKED_LIMIT_LINE.now ≡ limit_message (codes "structures") WALKED_LIMIT ++ 10 ∷ [])
+    × (SAMPLE_LIMIT_LINE.now ≡ limit_message (codes "number") SAMPLE_LIMIT ++ 10 ∷ [])

@@ -84,3 +84,28 @@ pub const NESTING_LIMIT_HEAD: &[u8] = b"limit: nesting 1000";
 
 /// The greatest size of a structure that is read from a text.
 pub const STRUCTURE_SIZE_LIMIT: u64 = 40;
+
+/// The greatest size of structures that are listed.
+pub const LIST_SIZE_LIMIT: u64 = 40;
+/// The line of a size of structures to list that is too large.
+pub const LIST_SIZE_LIMIT_LINE: &[u8] = b"limit: size 40\n";
+
+/// The most structures of one listing.
+pub const COUNT_LIMIT: u64 = 100000;
+/// The line of too many structures to list.
+pub const COUNT_LIMIT_LINE: &[u8] = b"limit: count 100000\n";
+
+/// The most workers of an audit.
+pub const WORKER_LIMIT: u64 = 16;
+/// The line of too many workers.
+pub const WORKER_LIMIT_LINE: &[u8] = b"limit: workers 16\n";
+
+/// The most structures that one walk of an audit visits.
+pub const WALKED_LIMIT: u128 = 4000000;
+/// The line of too many structures to walk.
+pub const WALKED_LIMIT_LINE: &[u8] = b"limit: structures 4000000\n";
+
+/// The greatest number of a sample program, 2 to the power of 64 less 1.
+pub const SAMPLE_LIMIT: u128 = 18446744073709551615;
+/// The line of a sample's number that is too large.
+pub const SAMPLE_LIMIT_LINE: &[u8] = b"limit: number 18446744073709551615\n";

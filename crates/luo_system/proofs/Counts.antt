@@ -36,7 +36,7 @@ use Rattle.luo_counting.proofs.TreeCollections.{node_known, members_sized, count
 use Rattle.luo_counting.proofs.TreeParts.{Factor, parts_in, HasNoEmpty, SomeHasNoEmpty, AreBelow, AreAt, SumsAt-union}
 use Rattle.luo_counting.proofs.TreeParts as numbers
 use Rattle.luo_counting.proofs.TreeCharges.{plain, CountsAt-product}
-use Rattle.luo_system.proofs.Atoms.{CountsAt-atom, CountsAt-no_atom}
+use Rattle.luo_counting.proofs.Atoms.{CountsAt-atom, CountsAt-no_atom}
 use Rattle.luo_equation.specs.Series.{only_at, times}
 use Rattle.luo_equation.proofs.SeriesLemmas.{times-pos, unit-pos}
 use Rattle.luo_equation.proofs.CountLaws.{coll-pos}

@@ -1,4 +1,3 @@
-pub mod Atoms
 pub mod PlainLaws
 pub mod FactLemmas
 pub mod Steps
