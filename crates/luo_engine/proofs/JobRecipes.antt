@@ -14,10 +14,10 @@ use Rattle.luo_model.specs.Program.{Program, Procedure, Body, Does, Items, no_it
 use Rattle.luo_model.specs.Scopes.{FitsBody, FitsItems, FitsItem, FitsArms, Stand, stand_node, stands, factors, component, bound_nodes, node_at}
 use Rattle.luo_model.specs.Invariant.{IsProgram}
 use Rattle.luo_model.proofs.NodeLemmas.{node_at_place}
-use Rattle.luo_engine.specs.inner.Filled.{IsLaid}
+use Rattle.luo_recipes.specs.Filled.{IsLaid}
 use Rattle.luo_engine.specs.inner.Laying.{recipes_of_body, recipes_of_items, recipes_of_item, recipes_of_arms, recipes_of_procedure, recipes_of}
-use Rattle.luo_engine.specs.inner.Tasks.{Doing, does, calls, chooses, walks, Job, jobs_of_body, jobs_of_items, jobs_of_item, jobs_of_arms, jobs_of_procedure, jobs_of, FactorSites, Scope, factors_from, scope_of, scopes_of, Recipe, recipe_of}
-use Rattle.luo_engine.proofs.JobLemmas.{job_is}
+use Rattle.luo_recipes.specs.Tasks.{Doing, does, calls, chooses, walks, Job, jobs_of_body, jobs_of_items, jobs_of_item, jobs_of_arms, jobs_of_procedure, jobs_of, FactorSites, Scope, factors_from, scope_of, scopes_of, Recipe, recipe_of}
+use Rattle.luo_recipes.proofs.JobLemmas.{job_is}
 use Rattle.luo_engine.proofs.LaidLemmas.{HasRows, RecipeRows}
 
 module _ (p : Program) where

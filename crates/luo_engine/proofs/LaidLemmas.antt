@@ -9,8 +9,8 @@ use Rattle.luo_engine.specs.declared.tasks.Task.TheVariants.{Scopes, Walk}
 use Rattle.luo_engine.specs.declared.sites.Laid.{Laid}
 use Rattle.luo_engine.specs.inner.Laid.{factor_of, IsScope, AreScopes, IsTask}
 use Rattle.luo_engine.specs.inner.Laying.{links_from, rows_of_scope, rows_of_scopes, placed_scope, placed_scopes, lay, lay_all}
-use Rattle.luo_engine.specs.inner.Tasks.{Doing, does, calls, chooses, walks, Job, jobs_of_body, jobs_of_items, jobs_of_item, jobs_of_arms, jobs_of_procedure, jobs_of, FactorSites, Recipe, of_scopes, of_each, recipe_of}
-use Rattle.luo_engine.specs.inner.Tasks as plain
+use Rattle.luo_recipes.specs.Tasks.{Doing, does, calls, chooses, walks, Job, jobs_of_body, jobs_of_items, jobs_of_item, jobs_of_arms, jobs_of_procedure, jobs_of, FactorSites, Recipe, of_scopes, of_each, recipe_of}
+use Rattle.luo_recipes.specs.Tasks as plain
 
 -- what stands behind so many
 drop_front : {A : Type 0} (xs ys : List A) → drop (length xs) (xs ++ ys) ≡ ys

@@ -11,7 +11,7 @@ use Rattle.luo_model.specs.Lists.{arm_list}
 use Rattle.luo_model.specs.View.{procedure_of, item_of, item_list, body_of}
 use Rattle.luo_model.proofs.ViewLemmas.{case_item, walk_item}
 use Rattle.luo_engine.specs.declared.sites.Laid.{Laid}
-use Rattle.luo_engine.specs.inner.Tasks.{does, chooses, walks, Recipe, recipe_of}
+use Rattle.luo_recipes.specs.Tasks.{does, chooses, walks, Recipe, recipe_of}
 use Rattle.luo_engine.specs.inner.Laying.{lay, lay_all, recipes_of_body, recipes_of_items, recipes_of_item, recipes_of_arms, recipes_of_procedure}
 
 at_element : {A : Type 0} (xs : List A) (i : ℕ) (x : A) → i < length xs → x ≡ get_or xs i x → drop i xs ≡ x ∷ drop (i + 1) xs

@@ -15,8 +15,8 @@ use Rattle.luo_model.specs.declared.body.Arm.{Arm}
 use Rattle.luo_model.specs.View.{body_of, item_list}
 use Rattle.luo_engine.specs.declared.points.Link.{Link}
 use Rattle.luo_engine.specs.declared.tasks.Scope.{Scope}
-use Rattle.luo_engine.specs.inner.Tasks.{FactorSites, sites_on, factors_from, scope_of, scopes_of}
-use Rattle.luo_engine.specs.inner.Tasks as plain
+use Rattle.luo_recipes.specs.Tasks.{FactorSites, sites_on, factors_from, scope_of, scopes_of}
+use Rattle.luo_recipes.specs.Tasks as plain
 use Rattle.luo_engine.specs.inner.Laying.{links_from, rows_of_scope, rows_of_scopes, placed_scope, placed_scopes, product_parts, IsPushed, ArePushed}
 
 same_scope : (own y start arity : ℕ) (sites : List ℕ) (a b c d : ℕ) (l : List ℕ) → own ≡ a → y ≡ b → sites ≡ l → start ≡ c → arity ≡ d

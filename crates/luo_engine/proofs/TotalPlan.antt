@@ -29,29 +29,29 @@ use Rattle.luo_engine.specs.declared.tasks.Scope.{Scope}
 use Rattle.luo_engine.specs.declared.tasks.Task.{Task}
 use Rattle.luo_engine.specs.declared.tasks.Task.TheVariants.{Scopes, Walk}
 use Rattle.luo_engine.specs.declared.tasks.Sites.{Sites}
-use Rattle.luo_engine.specs.inner.Grid.{entry_of, IsSet}
-use Rattle.luo_engine.specs.inner.Shares.{inner, tail_of}
+use Rattle.luo_recipes.specs.Grid.{entry_of, IsSet}
+use Rattle.luo_recipes.specs.Shares.{inner, tail_of}
 use Rattle.luo_engine.specs.inner.Points.{point_of, open_point, ArePointsOpen}
-use Rattle.luo_engine.specs.inner.Filled.{rank_of, IsRightOf, AreCounted, NumbersTo, IsFirstPastOf}
-use Rattle.luo_engine.specs.inner.Listed.{IsSiteBefore}
+use Rattle.luo_recipes.specs.Filled.{rank_of, IsRightOf, AreCounted, NumbersTo, IsFirstPastOf}
+use Rattle.luo_recipes.specs.Listed.{IsSiteBefore}
 use Rattle.luo_engine.specs.inner.Laid.{laid_number, IsScopeThere, IsScope, AreScopes, IsTask, AreTotalled}
-use Rattle.luo_engine.specs.inner.Plan.{Planned}
-use Rattle.luo_engine.specs.inner.Asked.{AskedWalk}
-use Rattle.luo_engine.specs.inner.Walks.{IsWalk, walk_or, walk_at, IsAskedWalk, IsWalkAsked, AllowsOne, HasTotals}
+use Rattle.luo_recipes.specs.Plan.{Planned}
+use Rattle.luo_recipes.specs.Asked.{AskedWalk}
+use Rattle.luo_recipes.specs.Walks.{IsWalk, walk_or, walk_at, IsAskedWalk, IsWalkAsked, AllowsOne, HasTotals}
 use Rattle.luo_engine.specs.inner.Totals.{ArePlanned, AreWalked}
-use Rattle.luo_engine.specs.inner.Tasks.{Doing, does, calls, chooses, walks, work_of, Job, jobs_of_body, jobs_of, Recipe, of_scopes, of_each, recipe_of, recipe_number, scope_number}
-use Rattle.luo_engine.specs.inner.Tasks as plain
-use Rattle.luo_engine.proofs.ShareLemmas.{shares-same, inner-same}
-use Rattle.luo_engine.proofs.EntryLemmas.{sum_by-same}
-use Rattle.luo_engine.proofs.RowLemmas.{end-there}
-use Rattle.luo_engine.proofs.CountLemmas.{number, obeys}
-use Rattle.luo_engine.proofs.TotalLemmas.{total, total_is}
-use Rattle.luo_engine.proofs.FillLemmas.{one_way_nodes, filled_more, past_first, placed_before}
-use Rattle.luo_engine.proofs.JobLemmas.{job_is, job_site, jobs_length}
-use Rattle.luo_engine.proofs.RecipeLemmas.{equation}
+use Rattle.luo_recipes.specs.Tasks.{Doing, does, calls, chooses, walks, work_of, Job, jobs_of_body, jobs_of, Recipe, of_scopes, of_each, recipe_of, recipe_number, scope_number}
+use Rattle.luo_recipes.specs.Tasks as plain
+use Rattle.luo_recipes.proofs.ShareLemmas.{shares-same, inner-same}
+use Rattle.luo_recipes.proofs.EntryLemmas.{sum_by-same}
+use Rattle.luo_recipes.proofs.RowLemmas.{end-there}
+use Rattle.luo_recipes.proofs.CountLemmas.{number, obeys}
+use Rattle.luo_recipes.proofs.TotalLemmas.{total, total_is}
+use Rattle.luo_recipes.proofs.FillLemmas.{one_way_nodes, filled_more, past_first, placed_before}
+use Rattle.luo_recipes.proofs.JobLemmas.{job_is, job_site, jobs_length}
+use Rattle.luo_recipes.proofs.RecipeLemmas.{equation}
 use Rattle.luo_engine.proofs.ScopeReads.{ScopeFalls, scopes_read}
 use Rattle.luo_engine.proofs.FallLemmas.{job_falls}
-use Rattle.luo_engine.proofs.NodesThere.{job_node_there}
+use Rattle.luo_recipes.proofs.NodesThere.{job_node_there}
 
 pub one_way_sites : (ranks levels : List ℕ) (i j : ℕ) → IsSiteBefore ranks levels j i → IsSiteBefore ranks levels i j → ⊥
 one_way_sites ranks levels i j (inl a) (inl b) = absurd (omega arith)

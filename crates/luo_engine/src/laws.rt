@@ -1,28 +1,6 @@
-//! What holds of structures with other labels, of counts, and of the first entry past the last
-//! number. Nothing is computed here.
+//! What holds of the first entry past the last number. Nothing is computed here.
 
 ghost use Rattle.luo_engine.specs.FirstOver.{FirstOverIsOne, NoneIsFirst, NoneOrFirst};
-ghost use Rattle.luo_engine.specs.Laws.{OrderIsKept, MembersAreKept, ChargesAreKept, CountsOnAnyLabels};
-
-/// Labels sent to others so that they rise keep the order of structures.
-pub fn relabelling_keeps_order()
-    ensures { OrderIsKept }
-{}
-
-/// A member of a node stays one.
-pub fn relabelling_keeps_members()
-    ensures { MembersAreKept }
-{}
-
-/// What is charged on a structure stays.
-pub fn relabelling_keeps_charges()
-    ensures { ChargesAreKept }
-{}
-
-/// There are as many structures of a node on any labels of a size as on the first ones.
-pub fn counts_on_any_labels()
-    ensures { CountsOnAnyLabels }
-{}
 
 /// At most one entry at one size is the first past the last number.
 pub fn first_overflow_is_one()

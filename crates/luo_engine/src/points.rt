@@ -3,9 +3,9 @@ ghost use Rattle.std.specs.Prelude.{◌≡◌, ◌<◌, ◌≤◌, ◌+◌, ℕ,
 ghost use Rattle.luo_num.specs.declared.limits.TheConstants.{SIZE_LIMIT};
 ghost use Rattle.luo_finite.specs.Listing.{In};
 ghost use Rattle.luo_num.specs.Mark.{capped};
-ghost use Rattle.luo_engine.specs.inner.Grid.{entry_of, Reaches, SameShape};
-ghost use Rattle.luo_engine.specs.inner.Shares.{inner};
-ghost use Rattle.luo_engine.specs.inner.Partial.{closing};
+ghost use Rattle.luo_recipes.specs.Grid.{entry_of, Reaches, SameShape};
+ghost use Rattle.luo_recipes.specs.Shares.{inner};
+ghost use Rattle.luo_recipes.specs.Partial.{closing};
 ghost use Rattle.luo_engine.specs.inner.Points.{point_of, open_point, ArePointsBelow, ArePointsOpen, ArePointsClosed};
 
 use crate::numbers::{closing_at, inner_at};
@@ -50,7 +50,8 @@ fn outer_sum(totals: &Table, sites: &[usize], rest: &[u128], n: usize) -> u128
     requires there { (s : ℕ) → In s sites.now → s < length totals.now }
     requires reach { Reaches n totals.now }
     requires rest { n < length rest.now }
-    ensures { result ≡ capped (sum_by (λ s. closing 0 (entry_of totals.now s) (slice_index rest.now) n (slice_index rest.now n)) sites.now) }
+    ensures { result
+        ≡ capped (sum_by (λ s. closing 0 (entry_of totals.now s) (slice_index rest.now) n (slice_index rest.now n)) sites.now) }
 {
     let mut sum = 0;
     for s in sites {
@@ -79,7 +80,10 @@ fn open_point_at(
     requires totals_reach { Reaches n totals.now }
     requires partials_reach { Reaches n partials.now }
     requires next { n < length next.now }
-    ensures { result ≡ capped (sum_by (λ s. inner universe (entry_of totals.now s) (entry_of partials.now link.now.behind) n) link.now.sites + inner universe (entry_of counts.now link.now.node) (slice_index next.now) n) }
+    ensures { result
+        ≡ capped
+        (sum_by (λ s. inner universe (entry_of totals.now s) (entry_of partials.now link.now.behind) n) link.now.sites
+        + inner universe (entry_of counts.now link.now.node) (slice_index next.now) n) }
 {
     let sum = inner_sum(
         universe,
@@ -112,7 +116,12 @@ fn point_ends_at(
     requires totals_reach { Reaches n totals.now }
     requires partials_reach { Reaches n partials.now }
     requires next { n < length next.now }
-    ensures { result ≡ capped (sum_by (λ s. closing 0 (entry_of totals.now s) (entry_of partials.now link.now.behind) n (entry_of partials.now link.now.behind n)) link.now.sites + closing 0 (entry_of counts.now link.now.node) (slice_index next.now) n whole) }
+    ensures { result
+        ≡ capped
+        (sum_by
+        (λ s. closing 0 (entry_of totals.now s) (entry_of partials.now link.now.behind) n (entry_of partials.now link.now.behind n))
+        link.now.sites
+        + closing 0 (entry_of counts.now link.now.node) (slice_index next.now) n whole) }
 {
     let sum = outer_sum(totals, link.sites.as_slice(), partials.row(link.behind), n);
     marked_add(sum, closing_at(0, counts.row(link.node), next, n, whole))
@@ -135,7 +144,8 @@ fn open_at(
     requires reached { n ≤ pascal.now }
     requires below { ArePointsBelow universe counts.now totals.now factors.now partials.now links.now points.now n }
     requires row { r < length links.now }
-    ensures { result ≡ capped (open_point universe (entry_of counts.now) (entry_of totals.now) factors.now (drop r links.now) n) }
+    ensures { result
+        ≡ capped (open_point universe (entry_of counts.now) (entry_of totals.now) factors.now (drop r links.now) n) }
 {
     match &links[r] {
         None => 0,
@@ -193,8 +203,10 @@ fn closed_at(
 ) -> u128
     requires open_row { ArePointsOpen universe counts.now totals.now factors.now partials.now links.now points.now n (r + 1) }
     requires row { r < length links.now }
-    requires whole { whole ≡ capped (point_of universe (entry_of counts.now) (entry_of totals.now) factors.now (drop (r + 1) links.now) n) }
-    ensures { result ≡ capped (point_of universe (entry_of counts.now) (entry_of totals.now) factors.now (drop r links.now) n) }
+    requires whole { whole
+        ≡ capped (point_of universe (entry_of counts.now) (entry_of totals.now) factors.now (drop (r + 1) links.now) n) }
+    ensures { result
+        ≡ capped (point_of universe (entry_of counts.now) (entry_of totals.now) factors.now (drop r links.now) n) }
 {
     match &links[r] {
         None => 0,
@@ -245,7 +257,8 @@ pub fn point_at(
     requires open_rows { ArePointsOpen universe counts.now totals.now factors.now partials.now links.now points.now n (length links.now) }
     requires room { start + arity < length links.now }
     requires end { slice_get links.now (start + arity) ≡ Some None }
-    ensures { result ≡ capped (point_of universe (entry_of counts.now) (entry_of totals.now) factors.now (drop start links.now) n) }
+    ensures { result
+        ≡ capped (point_of universe (entry_of counts.now) (entry_of totals.now) factors.now (drop start links.now) n) }
 {
     let mut whole = 0;
     for i in (0..arity).rev() {

@@ -11,13 +11,15 @@ use Rattle.luo_engine.specs.declared.tasks.Task.{Task}
 use Rattle.luo_engine.specs.declared.tasks.Task.TheVariants.{Scopes, Walk}
 use Rattle.luo_engine.specs.declared.tasks.Sites.{Sites}
 use Rattle.luo_engine.specs.inner.Points.{point_of}
-use Rattle.luo_engine.specs.inner.Filled.{rank_of, IsOrderOf, AreFilled}
-use Rattle.luo_engine.specs.inner.Listed.{IsSiteBefore}
-use Rattle.luo_engine.specs.inner.Tasks as plain
+use Rattle.luo_recipes.specs.Filled.{rank_of, IsOrderOf, AreFilled}
+use Rattle.luo_recipes.specs.Listed.{IsSiteBefore}
+use Rattle.luo_recipes.specs.Tasks as plain
 
 -- the number that the tables give to a scope at size n
 abbrev pub laid_number : Universe → (ℕ → ℕ → ℕ) → (ℕ → ℕ → ℕ) → List (Option ℕ) → List (Option Link) → ℕ → Scope → ℕ
-laid_number u counts totals factors links n Z = Z.own * counts Z.node n + (sum_by (λ s. totals s n) Z.sites + point_of u counts totals factors (drop Z.start links) n)
+laid_number u counts totals factors links n Z =
+    Z.own * counts Z.node n
+    + (sum_by (λ s. totals s n) Z.sites + point_of u counts totals factors (drop Z.start links) n)
 
 -- what a scope names is there, and its rows end
 pub record IsScopeThere (nodes sites : ℕ) (links : List (Option Link)) (Z : Scope) : Type 0 where
@@ -38,7 +40,8 @@ pub record IsScope (factors : List (Option ℕ)) (links : List (Option Link)) (S
   pub parts : map factor_of row ≡ S.parts
   pub laid : (rest : List (Option Link)) × (drop Z.start links ≡ map (λ l. Some l) row ++ (None ∷ rest))
   pub arity : Z.arity ≡ length row
-  pub behind : (before after : List Link) (l : Link) → row ≡ before ++ (l ∷ after) → (rest : List (Option ℕ)) × (drop l.behind factors ≡ map (λ m. Some m.node) after ++ (None ∷ rest))
+  pub behind : (before after : List Link) (l : Link) → row ≡ before ++ (l ∷ after)
+      → (rest : List (Option ℕ)) × (drop l.behind factors ≡ map (λ m. Some m.node) after ++ (None ∷ rest))
 
 abbrev pub AreScopes : List (Option ℕ) → List (Option Link) → List plain.Scope → List Scope → Type 0
 AreScopes factors links [] [] = Unit {0}
@@ -64,9 +67,11 @@ pub record AreSites (p : Program) (factors : List (Option ℕ)) (s : Sites) : Ty
   pub ranked : (i : ℕ) → i < length p.sites → IsRank p (site_node p i) (rank_of s.ranks i)
   pub levelled : (i : ℕ) → i < length p.sites → IsLevel p i (rank_of s.levels i)
   pub ordered : IsOrderOf (length p.sites) (IsSiteBefore s.ranks s.levels) s.order
-  pub linked : (r : ℕ) (l : Link) → slice_get s.links r ≡ Some (Some l) → IsLinked (length p.nodes) (length p.sites) (length factors) (length s.links) r l
+  pub linked : (r : ℕ) (l : Link) → slice_get s.links r ≡ Some (Some l)
+      → IsLinked (length p.nodes) (length p.sites) (length factors) (length s.links) r l
   pub tasks_wide : length s.tasks ≡ length p.sites
-  pub tasks_are : (i : ℕ) (j : plain.Job) (t : Task) → slice_get (plain.jobs_of p) i ≡ Some j → slice_get s.tasks i ≡ Some t → IsTask factors s.links (plain.recipe_of p j.node j.doing) t
+  pub tasks_are : (i : ℕ) (j : plain.Job) (t : Task) → slice_get (plain.jobs_of p) i ≡ Some j
+      → slice_get s.tasks i ≡ Some t → IsTask factors s.links (plain.recipe_of p j.node j.doing) t
 
 abbrev pub AreTotalled : Program → List ℕ → List (List ℕ) → ℕ → ℕ → Type 0
 AreTotalled p order totals n k = AreFilled (IsTotal p) (length p.sites) order totals n k

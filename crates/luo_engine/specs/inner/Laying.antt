@@ -8,8 +8,8 @@ use Rattle.luo_engine.specs.declared.points.Link.{Link}
 use Rattle.luo_engine.specs.declared.tasks.Scope.{Scope}
 use Rattle.luo_engine.specs.declared.tasks.Task.TheVariants.{Scopes, Walk}
 use Rattle.luo_engine.specs.declared.sites.Laid.{Laid}
-use Rattle.luo_engine.specs.inner.Tasks.{does, calls, chooses, walks, FactorSites, Recipe, of_scopes, of_each, recipe_of}
-use Rattle.luo_engine.specs.inner.Tasks as plain
+use Rattle.luo_recipes.specs.Tasks.{does, calls, chooses, walks, FactorSites, Recipe, of_scopes, of_each, recipe_of}
+use Rattle.luo_recipes.specs.Tasks as plain
 
 abbrev mutual
   -- the recipes of the sites of a body, in their order, by the nodes of the sites
@@ -23,7 +23,9 @@ abbrev mutual
   pub recipes_of_item : Program → Item → List Recipe
   recipes_of_item p (Call var callee site) = recipe_of p (site_node p site) (calls callee) ∷ []
   recipes_of_item p (Case var arms site) = recipes_of_arms p arms ++ recipe_of p (site_node p site) (chooses arms) ∷ []
-  recipes_of_item p (Forall var body body_site site) = recipes_of_body p body ++ recipe_of p (site_node p body_site) (does body) ∷ (recipe_of p (site_node p site) (walks body body_site) ∷ [])
+  recipes_of_item p (Forall var body body_site site) =
+      recipes_of_body p body
+      ++ recipe_of p (site_node p body_site) (does body) ∷ (recipe_of p (site_node p site) (walks body body_site) ∷ [])
 
   pub recipes_of_arms : Program → Arms → List Recipe
   recipes_of_arms p no_arms = []
@@ -38,7 +40,8 @@ recipes_of p = flat_map (recipes_of_procedure p) p.procs
 -- the links of factors whose rows of partial products stand from this one on
 abbrev pub links_from : ℕ → List FactorSites → List (Option Link)
 links_from start [] = []
-links_from start (F ∷ Fs) = Some (record { node = F.node; behind = suc start; sites = F.sites }) ∷ links_from (suc start) Fs
+links_from start (F ∷ Fs) =
+    Some (record { node = F.node; behind = suc start; sites = F.sites }) ∷ links_from (suc start) Fs
 
 -- the rows of a scope: its factors, and the end
 abbrev pub rows_of_scope : List ℕ → plain.Scope → List (Option Link)
@@ -54,11 +57,13 @@ placed_scope width S = record { own = S.own; node = S.node; sites = S.sites; sta
 
 abbrev pub placed_scopes : List ℕ → List (Option Link) → List plain.Scope → List Scope
 placed_scopes starts links [] = []
-placed_scopes starts links (S ∷ Ss) = placed_scope (length links) S ∷ placed_scopes starts (links ++ rows_of_scope starts S) Ss
+placed_scopes starts links (S ∷ Ss) =
+    placed_scope (length links) S ∷ placed_scopes starts (links ++ rows_of_scope starts S) Ss
 
 -- one more recipe
 abbrev pub lay : List ℕ → Laid → Recipe → Laid
-lay starts l (of_scopes Ss) = record { tasks = l.tasks ++ Scopes (placed_scopes starts l.links Ss) ∷ []; links = l.links ++ rows_of_scopes starts Ss }
+lay starts l (of_scopes Ss) =
+    record { tasks = l.tasks ++ Scopes (placed_scopes starts l.links Ss) ∷ []; links = l.links ++ rows_of_scopes starts Ss }
 lay starts l (of_each x body_site) = record { tasks = l.tasks ++ Walk x body_site ∷ []; links = l.links }
 
 abbrev pub lay_all : List ℕ → Laid → List Recipe → Laid
@@ -84,6 +89,7 @@ IsProductShape (shape.Product parts) = Unit {0}
 IsProductShape _ = ⊥
 
 -- and so have scopes
-pub record ArePushed (starts : List ℕ) (old new : List (Option Link)) (Zs : List Scope) (Ss : List plain.Scope) : Type 0 where
+pub record ArePushed
+    (starts : List ℕ) (old new : List (Option Link)) (Zs : List Scope) (Ss : List plain.Scope) : Type 0 where
   pub are : Zs ≡ placed_scopes starts old Ss
   pub rows : new ≡ old ++ rows_of_scopes starts Ss

@@ -7,7 +7,7 @@ use Rattle.luo_model.specs.declared.program.Shape.TheVariants.{Atom, Union, Prod
 use Rattle.luo_model.specs.Program.{Program, shape_of}
 use Rattle.luo_model.specs.Levels.{IsRank}
 use Rattle.luo_engine.specs.declared.layout.Layout.{Layout}
-use Rattle.luo_engine.specs.inner.Partial.{AreLinks}
+use Rattle.luo_recipes.specs.Partial.{AreLinks}
 
 -- the rows of a product: its factors, and the end
 abbrev pub rows_of_parts : List Part → List (Option ℕ)
@@ -15,7 +15,8 @@ rows_of_parts parts = map (λ part. Some part.node) parts ++ None ∷ []
 
 -- one more node: the rows of a product stand behind all others
 abbrev pub laid_behind : Layout → Shape → Layout
-laid_behind l (Product parts) = record { starts = l.starts ++ length l.factors ∷ []; factors = l.factors ++ rows_of_parts parts }
+laid_behind l (Product parts) =
+    record { starts = l.starts ++ length l.factors ∷ []; factors = l.factors ++ rows_of_parts parts }
 laid_behind l (Atom weight) = record { starts = l.starts ++ 0 ∷ []; factors = l.factors }
 laid_behind l (Union parts) = record { starts = l.starts ++ 0 ∷ []; factors = l.factors }
 laid_behind l (Coll kind part low high) = record { starts = l.starts ++ 0 ∷ []; factors = l.factors }
@@ -26,7 +27,8 @@ pub record AreLaidBelow (p : Program) (l : Layout) (x : ℕ) : Type 0 where
   pub links : AreLinks l.factors (length p.nodes)
   pub few : length l.factors ≤ (PART_LIMIT + 1) * x
   pub products : (y : ℕ) (parts : List Part) → y < x → shape_of p y ≡ Product parts
-      → (rest : List (Option ℕ)) × (drop (slice_index l.starts y) l.factors ≡ map (λ part. Some part.node) parts ++ (None ∷ rest))
+      → (rest : List (Option ℕ))
+      × (drop (slice_index l.starts y) l.factors ≡ map (λ part. Some part.node) parts ++ (None ∷ rest))
 
 -- the ranks of the nodes below x
 pub record AreRanksBelow (p : Program) (ranks : List ℕ) (x : ℕ) : Type 0 where

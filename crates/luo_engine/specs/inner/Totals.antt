@@ -4,10 +4,10 @@ use Rattle.luo_model.specs.Program.{Program}
 use Rattle.luo_model.specs.View.{plain_of}
 use Rattle.luo_engine.specs.declared.tasks.Task.TheVariants.{Walk}
 use Rattle.luo_engine.specs.declared.tasks.Sites.{Sites}
-use Rattle.luo_engine.specs.inner.Plan.{Planned, IsPlan}
+use Rattle.luo_recipes.specs.Plan.{Planned, IsPlan}
 use Rattle.luo_engine.specs.inner.Laid.{AreSites}
-use Rattle.luo_engine.specs.inner.Asked.{AskedWalk}
-use Rattle.luo_engine.specs.inner.Walks.{IsWalkAsked}
+use Rattle.luo_recipes.specs.Asked.{AskedWalk}
+use Rattle.luo_recipes.specs.Walks.{IsWalkAsked}
 
 -- the sites are those of the plan's program
 pub record ArePlanned (plan : Planned) (s : Sites) : Type 0 where
@@ -16,5 +16,7 @@ pub record ArePlanned (plan : Planned) (s : Sites) : Type 0 where
 
 -- the walks before place k of the order have answered size n, and those from it on the sizes below n
 pub record AreWalked (p : Program) (n_max : ℕ) (s : Sites) (walks : List (Option AskedWalk)) (n k : ℕ) : Type 0 where
-  pub asked : (j i collection body : ℕ) → j < k → slice_get s.order j ≡ Some i → slice_get s.tasks i ≡ Some (Walk collection body) → IsWalkAsked p n_max walks i body (n + 1)
-  pub to_ask : (j i collection body : ℕ) → k ≤ j → slice_get s.order j ≡ Some i → slice_get s.tasks i ≡ Some (Walk collection body) → IsWalkAsked p n_max walks i body n
+  pub asked : (j i collection body : ℕ) → j < k → slice_get s.order j ≡ Some i
+      → slice_get s.tasks i ≡ Some (Walk collection body) → IsWalkAsked p n_max walks i body (n + 1)
+  pub to_ask : (j i collection body : ℕ) → k ≤ j → slice_get s.order j ≡ Some i
+      → slice_get s.tasks i ≡ Some (Walk collection body) → IsWalkAsked p n_max walks i body n

@@ -1,6 +1,6 @@
 use Rattle.std.proofs.Common.{◌≡◌, ◌+◌, ◌++◌, drop, map}
 use Rattle.luo_model.specs.View.{item_list}
-use Rattle.luo_engine.specs.inner.Tasks.{factors_from}
+use Rattle.luo_recipes.specs.Tasks.{factors_from}
 use Rattle.luo_engine.specs.inner.Laying.{links_from}
 use Rattle.luo_engine.proofs.scopes.push_factors.Given as goal
 

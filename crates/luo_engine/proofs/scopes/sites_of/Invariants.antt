@@ -1,6 +1,6 @@
 use Rattle.std.proofs.Common.{◌≡◌, ◌++◌, drop}
 use Rattle.luo_model.specs.View.{item_list}
-use Rattle.luo_engine.specs.inner.Tasks.{sites_on}
+use Rattle.luo_recipes.specs.Tasks.{sites_on}
 use Rattle.luo_engine.proofs.scopes.sites_of.Given as goal
 
 abbrev pub invariant-loop-item : goal.invariant-loop-item
