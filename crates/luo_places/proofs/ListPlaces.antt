@@ -41,20 +41,20 @@ rest_within low None k o m = omega (arith, m)
 
 module _ {A : Type 0} (M : A → Type 0) (size : A → ℕ) (lab : A → List ℕ) (Before : A → A → Type 0) (o : IsByRoom size lab Before) (solid : (x : A) → M x → size x ≡ 0 → ⊥) (a b : ℕ → ℕ) (low : ℕ) (high : Option ℕ) (one : AllowsOne high) where
   -- what may stand behind the first
-  abbrev Behind : (List A → Type 0) → List A → Type 0
+  abbrev pub Behind : (List A → Type 0) → List A → Type 0
   Behind Tail xs = IsWithin (low - 1) (one_less high) (length xs) × Each M xs × Tail xs
 
   Join : A × List A → List A
   Join v = v.0 ∷ v.1
 
-  abbrev Listed : (A × List A → Type 0) → List A → Type 0
+  abbrev pub Listed : (A × List A → Type 0) → List A → Type 0
   Listed P xs = (v : A × List A) × P v × (xs ≡ v.0 ∷ v.1)
 
   -- from pairs to lists
   joined : (P : A × List A → Type 0) (r : ℕ) (x : A) (xs : List A) → IsPlace P (Lex Before (ListBefore Before)) r (x, xs) → IsPlace (Listed P) (ListBefore Before) r (x ∷ xs)
   joined P r x xs m = Place-map P (Lex Before (ListBefore Before)) (ListBefore Before) (λ v. v.0 ∷ v.1) r (x, xs) (λ y z p q e. cons_one y z e) (λ y p h. h) (λ y p h. h) m
 
-  abbrev Items : Universe → (List A → Type 0) → List ℕ → ℕ → A × List A → Type 0
+  abbrev pub Items : Universe → (List A → Type 0) → List ℕ → ℕ → A × List A → Type 0
   Items u Tail L n = PairOn u M (Behind Tail) size (total size) lab (flat_map lab) L n
 
   -- sequences
@@ -114,13 +114,13 @@ module _ {A : Type 0} (M : A → Type 0) (size : A → ℕ) (lab : A → List �
 
   -- labelled, with the least label in the first
   module _ (Tail : List A → Type 0) (Whole : List A → Type 0) (l : ℕ) (L : List ℕ) (n : ℕ) (room : IsRoom Labelled (l ∷ L) n) (sized : IsSized Labelled M size lab) where
-    abbrev Wholes : List A → Type 0
+    abbrev pub Wholes : List A → Type 0
     Wholes xs = IsWithin low high (length xs) × Each M xs × Whole xs × (total size xs ≡ n) × Holds (l ∷ L) (flat_map lab xs)
 
-    abbrev Rests : List ℕ → ℕ → List A → Type 0
+    abbrev pub Rests : List ℕ → ℕ → List A → Type 0
     Rests T j xs = IsWithin (low - 1) (one_less high) (length xs) × Each M xs × Tail xs × (total size xs ≡ j) × Holds T (flat_map lab xs)
 
-    LedPairs : A × List A → Type 0
+    unfoldable pub LedPairs : A × List A → Type 0
     LedPairs v = Items Labelled Tail (l ∷ L) n v × In l (sorted (lab v.0))
 
     -- the whole stands right exactly where the least label is in the first and the rest stands right
@@ -128,14 +128,14 @@ module _ {A : Type 0} (M : A → Type 0) (size : A → ℕ) (lab : A → List �
     Heads = (y : A) (ys : List A) → M y → Each M ys → Holds (l ∷ L) (lab y ++ flat_map lab ys) → (Whole (y ∷ ys) → In l (lab y) × Tail ys) × (In l (lab y) → Tail ys → Whole (y ∷ ys))
 
     module _ (heads : Heads) where
-      to_whole : (xs : List A) → Listed LedPairs xs → Wholes xs
+      pub to_whole : (xs : List A) → Listed LedPairs xs → Wholes xs
       unfolding LedPairs
       to_whole xs r =
           let v = r.0 in
           let m = r.1.0 in
           subst Wholes (sym r.2) (rest_within low high (length v.1) one m.1.0, (m.0, m.1.1), (heads v.0 v.1 m.0 m.1.1 m.3).1 (In-sorted (lab v.0) l r.1.1) m.1.2, m.2, subst (Holds (l ∷ L)) (sym (flat_map-cons lab v.0 v.1)) m.3)
 
-      of_whole : 1 ≤ n → (xs : List A) → Wholes xs → Listed LedPairs xs
+      pub of_whole : 1 ≤ n → (xs : List A) → Wholes xs → Listed LedPairs xs
       unfolding LedPairs
       of_whole g [] m = absurd (omega (arith, g, m.3))
       of_whole g (x ∷ xs) m =

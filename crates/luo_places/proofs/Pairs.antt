@@ -67,7 +67,7 @@ module _ {A B : Type 0} (M : A → Type 0) (N : B → Type 0) (size : A → ℕ)
     Shared z = PairOn Labelled M N size other la lb L n z × F (sorted (la z.0))
 
     -- where the labels of the first are known
-    to_parts : (C T : List ℕ) (k j : ℕ) → In (C, T) (splits L) → length C ≡ k → k + j ≡ n → (z : A × B) → PairOn Labelled M N size other la lb L n z → sorted (la z.0) ≡ C
+    pub to_parts : (C T : List ℕ) (k j : ℕ) → In (C, T) (splits L) → length C ≡ k → k + j ≡ n → (z : A × B) → PairOn Labelled M N size other la lb L n z → sorted (la z.0) ≡ C
         → On Labelled M size la C k z.0 × On Labelled N other lb T j z.1
     to_parts C T k j i e f z p q =
         let h = Holds-split L (la z.0) (lb z.1) p.3 in
@@ -79,7 +79,7 @@ module _ {A B : Type 0} (M : A → Type 0) (N : B → Type 0) (size : A → ℕ)
         let c : size z.0 ≡ k = sized z.0 p.0 ∙ Holds-length (h.0).0 (la z.0) rises.0 left ∙ ap length g ∙ e in
         ((p.0, c, subst (λ l. Holds l (la z.0)) g left), (p.1, omega (arith, p.2, c, f), subst (λ l. Holds l (lb z.1)) t h.2.1))
 
-    from_parts : (C T : List ℕ) (k j : ℕ) → In (C, T) (splits L) → k + j ≡ n → (z : A × B) → On Labelled M size la C k z.0 × On Labelled N other lb T j z.1
+    pub from_parts : (C T : List ℕ) (k j : ℕ) → In (C, T) (splits L) → k + j ≡ n → (z : A × B) → On Labelled M size la C k z.0 × On Labelled N other lb T j z.1
         → PairOn Labelled M N size other la lb L n z × (sorted (la z.0) ≡ C)
     from_parts C T k j i f z p = (
       (p.0.0, p.1.0, omega (arith, p.0.1, p.1.1, f), split-Holds L (la z.0) (lb z.1) (C, T) room.0 i p.0.2 p.1.2),
@@ -87,7 +87,7 @@ module _ {A B : Type 0} (M : A → Type 0) (N : B → Type 0) (size : A → ℕ)
     )
 
     -- the labels of a first of size k are a choice
-    chosen_labels : (k : ℕ) (z : A × B) → Shared z → size z.0 ≡ k → IsChoice L k (sorted (la z.0)) × F (sorted (la z.0))
+    pub chosen_labels : (k : ℕ) (z : A × B) → Shared z → size z.0 ≡ k → IsChoice L k (sorted (la z.0)) × F (sorted (la z.0))
     chosen_labels k z p e =
         let h = Holds-split L (la z.0) (lb z.1) p.0.3 in
         let rises = split-rising L h.0 room.0 h.1 in

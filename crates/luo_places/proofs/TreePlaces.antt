@@ -86,14 +86,14 @@ module _ (p : Program) (x n : ℕ) (L : List ℕ) (room : IsRoom p.universe L n)
 
   -- UNIONS: the structures of the branches before, and then the place inside
   module _ (parts : List Part) (is : shape_of p x ≡ shape.Union parts) where
-    branch : Tree → ℕ
+    pub branch : Tree → ℕ
     branch (Inj (suc i) t) = i
     branch _ = 0
 
-    abbrev InBranch : ℕ → Tree → Type 0
+    abbrev pub InBranch : ℕ → Tree → Type 0
     InBranch node s = IsStructureOn p node L n s
 
-    inject : (i : ℕ) (part : Part) → slice_get parts i ≡ Some part → (t : Tree) → InBranch part.node t → IsStructureOn p x L n (Inj (suc i) t)
+    pub inject : (i : ℕ) (part : Part) → slice_get parts i ≡ Some part → (t : Tree) → InBranch part.node t → IsStructureOn p x L n (Inj (suc i) t)
     inject i part e t m = (subst (λ z. Fits p z (Inj (suc i) t)) (sym is) (part, e, m.0), m.1, bears_carries p.universe L (Inj (suc i) t) (carries_bears p.universe L t m.2))
 
     -- what a structure of the node is
@@ -105,37 +105,37 @@ module _ (p : Program) (x n : ℕ) (L : List ℕ) (room : IsRoom p.universe L n)
     inside (Tup ts) m e c = absurd m
     inside (Coll ts) m e c = absurd m
 
-    inside_of : (s : Tree) → IsStructureOn p x L n s → (t : Tree) × (part : Part) × (slice_get parts (branch s) ≡ Some part) × InBranch part.node t × (s ≡ Inj (suc (branch s)) t)
+    pub inside_of : (s : Tree) → IsStructureOn p x L n s → (t : Tree) × (part : Part) × (slice_get parts (branch s) ≡ Some part) × InBranch part.node t × (s ≡ Inj (suc (branch s)) t)
     inside_of s m = inside s (subst (λ z. Fits p z s) is m.0) m.1 m.2
 
     same_part : (i : ℕ) (part other : Part) → slice_get parts i ≡ Some part → slice_get parts i ≡ Some other → other ≡ part
     same_part i part other e f = cc
 
     -- the structures of one branch are an image
-    of_branch : (i : ℕ) (part : Part) → slice_get parts i ≡ Some part → (s : Tree) → IsStructureOn p x L n s × (branch s ≡ i) → (t : Tree) × InBranch part.node t × (s ≡ Inj (suc i) t)
+    pub of_branch : (i : ℕ) (part : Part) → slice_get parts i ≡ Some part → (s : Tree) → IsStructureOn p x L n s × (branch s ≡ i) → (t : Tree) × InBranch part.node t × (s ≡ Inj (suc i) t)
     of_branch i part e s m =
         let k = inside_of s m.0 in
         let q : k.1 ≡ part = same_part i part k.1 e (subst (λ j. slice_get parts j ≡ Some k.1) m.1 k.2) in
         (k.0, subst (λ (o : Part). InBranch o.node k.0) q k.3, k.4 ∙ ap (λ j. Inj (suc j) k.0) m.1)
 
-    in_branch : (i : ℕ) (part : Part) → slice_get parts i ≡ Some part → (s : Tree) → (t : Tree) × InBranch part.node t × (s ≡ Inj (suc i) t) → IsStructureOn p x L n s × (branch s ≡ i)
+    pub in_branch : (i : ℕ) (part : Part) → slice_get parts i ≡ Some part → (s : Tree) → (t : Tree) × InBranch part.node t × (s ≡ Inj (suc i) t) → IsStructureOn p x L n s × (branch s ≡ i)
     unfolding branch
     in_branch i part e s r = (subst (IsStructureOn p x L n) (sym r.2) (inject i part e r.0 r.1), ap branch r.2)
 
     -- the order of two branches
-    earlier_branch : (i j : ℕ) (s t : Tree) → i < j → by_form (Inj (suc i) s) (Inj (suc j) t) ≡ Less
+    pub earlier_branch : (i j : ℕ) (s t : Tree) → i < j → by_form (Inj (suc i) s) (Inj (suc j) t) ≡ Less
     earlier_branch i j s t l = then_less (nat_cmp (suc i) (suc j)) (then_by (by_size_and_labels s t) (by_form s t)) (nat_less (suc i) (suc j) (omega arith))
 
-    branch_within : (i j : ℕ) (s t : Tree) → by_form (Inj (suc i) s) (Inj (suc j) t) ≡ Less → i ≤ j
+    pub branch_within : (i j : ℕ) (s t : Tree) → by_form (Inj (suc i) s) (Inj (suc j) t) ≡ Less → i ≤ j
     branch_within i j s t e = ⊎_elim (λ l. let k : suc i < suc j = less_nat (suc i) (suc j) l in omega arith) (λ k. let q : suc i ≡ suc j = nat_equal (suc i) (suc j) k.0 in omega arith)
         (then_cases (nat_cmp (suc i) (suc j)) (then_by (by_size_and_labels s t) (by_form s t)) e)
 
     -- of one branch the order inside
-    to_inside : (i : ℕ) (s t : Tree) → by_form (Inj i s) (Inj i t) ≡ Less → IsBefore s t
+    pub to_inside : (i : ℕ) (s t : Tree) → by_form (Inj i s) (Inj i t) ≡ Less → IsBefore s t
     unfolding order_of
     to_inside i s t e = ⊎_elim (λ l. let k : i < i = less_nat i i l in absurd (omega arith)) (λ k. k.1) (then_cases (nat_cmp i i) (then_by (by_size_and_labels s t) (by_form s t)) e)
 
-    from_inside : (i : ℕ) (s t : Tree) → IsBefore s t → by_form (Inj i s) (Inj i t) ≡ Less
+    pub from_inside : (i : ℕ) (s t : Tree) → IsBefore s t → by_form (Inj i s) (Inj i t) ≡ Less
     unfolding order_of
     from_inside i s t e = then_more (nat_cmp i i) (then_by (by_size_and_labels s t) (by_form s t)) (nat_itself i) e
 
@@ -166,10 +166,10 @@ module _ (p : Program) (x n : ℕ) (L : List ℕ) (room : IsRoom p.universe L n)
     abbrev pub PartsOn : List Part → List ℕ → ℕ → Trees → Type 0
     PartsOn parts L n ts = FitAll p parts ts × (sizes_of ts ≡ n) × Bears p.universe L (all_labels_of ts)
 
-    tuple_in : (ts : Trees) → PartsOn parts L n ts → IsStructureOn p x L n (Tup ts)
+    pub tuple_in : (ts : Trees) → PartsOn parts L n ts → IsStructureOn p x L n (Tup ts)
     tuple_in ts m = (subst (λ z. Fits p z (Tup ts)) (sym is) m.0, m.1, bears_carries p.universe L (Tup ts) m.2)
 
-    tuple_of : (s : Tree) → Fits p (shape.Product parts) s → size_of s ≡ n → Carries p.universe L s → (ts : Trees) × PartsOn parts L n ts × (s ≡ Tup ts)
+    pub tuple_of : (s : Tree) → Fits p (shape.Product parts) s → size_of s ≡ n → Carries p.universe L s → (ts : Trees) × PartsOn parts L n ts × (s ≡ Tup ts)
     tuple_of (Atom w l) m e c = absurd m
     tuple_of (Inj i t) m e c = absurd m
     tuple_of (Tup ts) m e c = (ts, (m, e, carries_bears p.universe L (Tup ts) c), refl)
@@ -209,17 +209,17 @@ module _ (p : Program) (light : AreLight p) where
   abbrev pub PartsAt : List Part → List ℕ → ℕ → Trees → Type 0
   PartsAt parts L n ts = FitAll p parts ts × (sizes_of ts ≡ n) × Bears p.universe L (all_labels_of ts)
 
-  abbrev Firsts : Part → List Part → List ℕ → ℕ → Tree × Trees → Type 0
+  abbrev pub Firsts : Part → List Part → List ℕ → ℕ → Tree × Trees → Type 0
   Firsts part parts L n = PairOn p.universe (Member p part.node) (FitAll p parts) size_of sizes_of labels_of all_labels_of L n
 
-  to_firsts : (part : Part) (parts : List Part) (L : List ℕ) (n : ℕ) (ts : Trees) → PartsAt (part ∷ parts) L n ts → (z : Tree × Trees) × Firsts part parts L n z × (ts ≡ more z.0 z.1)
+  pub to_firsts : (part : Part) (parts : List Part) (L : List ℕ) (n : ℕ) (ts : Trees) → PartsAt (part ∷ parts) L n ts → (z : Tree × Trees) × Firsts part parts L n z × (ts ≡ more z.0 z.1)
   to_firsts part parts L n none m = absurd m.0
   to_firsts part parts L n (more t ts) m = ((t, ts), (m.0.0, m.0.1, m.1, m.2), refl)
 
-  from_firsts : (part : Part) (parts : List Part) (L : List ℕ) (n : ℕ) (ts : Trees) → (z : Tree × Trees) × Firsts part parts L n z × (ts ≡ more z.0 z.1) → PartsAt (part ∷ parts) L n ts
+  pub from_firsts : (part : Part) (parts : List Part) (L : List ℕ) (n : ℕ) (ts : Trees) → (z : Tree × Trees) × Firsts part parts L n z × (ts ≡ more z.0 z.1) → PartsAt (part ∷ parts) L n ts
   from_firsts part parts L n ts r = subst (PartsAt (part ∷ parts) L n) (sym r.2) (let m = r.1 in ((m.0, m.1), m.2, m.3))
 
-  parts_sized : (parts : List Part) → IsSized p.universe (FitAll p parts) sizes_of all_labels_of
+  pub parts_sized : (parts : List Part) → IsSized p.universe (FitAll p parts) sizes_of all_labels_of
   parts_sized parts = by_universe p.universe refl
     where
       by_universe : (u : Universe) → p.universe ≡ u → IsSized u (FitAll p parts) sizes_of all_labels_of

@@ -1,0 +1,11 @@
+pub mod Next
+pub mod Steps
+pub mod Choices
+pub mod Pairs
+pub mod Trees
+pub mod Lists
+pub mod Led
+pub mod Bags
+pub mod Tails
+pub mod BoundedBags
+pub mod FactLemmas

@@ -1,0 +1,4 @@
+pub mod Next
+pub mod Rooms
+pub mod Laws
+pub mod Facts
