@@ -1,0 +1,12 @@
+pub mod ListLemmas
+pub mod PlaneLemmas
+pub mod LookupLemmas
+pub mod TailLemmas
+pub mod StepLemmas
+pub mod PartLemmas
+pub mod ShareLemmas
+pub mod BagLemmas
+pub mod MadeLemmas
+pub mod FillLemmas
+pub mod RankerLemmas
+pub mod HalvingLemmas
