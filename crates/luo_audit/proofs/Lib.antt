@@ -1,0 +1,4 @@
+pub mod Cuts
+pub mod WholeSites
+pub mod AuditLemmas
+pub mod WalkLemmas

@@ -1,0 +1,4 @@
+pub mod Pieces
+pub mod Audit
+pub mod Laws
+pub mod inner
