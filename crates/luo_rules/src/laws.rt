@@ -4,7 +4,7 @@
 ghost use Rattle.luo_rules.specs.Facts.{CirclesAreTold, SecondDefinitionsAreTold, UnboundVariablesAreTold, CopiesHaveTheirOwnNodes, CallsStandBeforeTheWhole};
 ghost use Rattle.luo_rules.specs.FactsBroken.{DefinitionsAreTold, StatementsAreTold, ResultsAreTold};
 ghost use Rattle.luo_rules.specs.FactsCores.{CoresAreThePrograms};
-ghost use Rattle.luo_rules.specs.BrokenLaws.{ListedIsBroken, BrokenIsListed, FirstBreachIsFirstBroken};
+ghost use Rattle.luo_rules.specs.BrokenLaws.{ListedIsBroken, BrokenIsListed, FirstBreachIsFirstBroken, FirstBrokenIsFirstBreach, NoBreachBreaksNothing, NothingBrokenIsNoBreach};
 ghost use Rattle.luo_rules.specs.Laws.{HasOneCore, HasCore, CoresArePrograms, HasOneError, ProgramsHaveNoError, BreachesAreSingle, BreachesRise, FirstBreachIsLeast};
 
 /// A source has at most one core form.
@@ -60,6 +60,21 @@ pub fn broken_is_listed()
 /// The first breach of the list breaks its rule, and nothing breaks a rule before it.
 pub fn first_breach_is_first_broken()
     ensures { FirstBreachIsFirstBroken }
+{}
+
+/// What breaks a rule before all else that does is the first breach of the list.
+pub fn first_broken_is_first_breach()
+    ensures { FirstBrokenIsFirstBreach }
+{}
+
+/// A source whose list of breaches is empty breaks no rule.
+pub fn no_breach_breaks_nothing()
+    ensures { NoBreachBreaksNothing }
+{}
+
+/// A source that breaks no rule has an empty list of breaches.
+pub fn nothing_broken_is_no_breach()
+    ensures { NothingBrokenIsNoBreach }
 {}
 
 /// Each definition on a circle of names is told with those it leads through.

@@ -8,6 +8,7 @@ ghost use Rattle.luo_rules.specs.declared.error.CheckError.TheVariants as error;
 ghost use Rattle.luo_rules.specs.declared.error.CountLimit.{CountLimit};
 ghost use Rattle.luo_rules.specs.declared.error.CountLimit.TheVariants as count;
 ghost use Rattle.luo_rules.specs.Checks.{IsSource, IsWithinLimits, PassesFirst, BreaksFirst, WalksTooMuch, IsChecked, IsUnchecked, IsRefusal, IsProgramAnswer};
+ghost use Rattle.luo_rules.specs.BrokenLaws.{BreaksNothing, IsFirstBroken, TellsFirstBroken};
 ghost use Rattle.luo_types.specs.inner.Typed.{IsTyped};
 ghost use Rattle.luo_rules.specs.Whole.{breaches};
 
@@ -96,6 +97,9 @@ pub fn check(alloc: Global, source: &Source) -> Result<Program, CheckError>
     ensures limit { (which : CountLimit) → PassesFirst source.now which → IsRefusal (error.Limit which) result }
     ensures rule { (b : Breach) → IsWithinLimits source.now → BreaksFirst source.now b → IsRefusal (error.Rule b.rule b.token b.names) result }
     ensures walks { IsWithinLimits source.now → WalksTooMuch source.now → IsRefusal (error.Limit count.Walks) result }
+    ensures tells { IfErr result (λ e. TellsFirstBroken source.now e) }
+    ensures first { (b : Breach) → IsWithinLimits source.now → IsFirstBroken source.now b → IsRefusal (error.Rule b.rule b.token b.names) result }
+    ensures unbroken { IfOk result (λ p. BreaksNothing source.now) }
     ensures checked { (p : plain.Program) → IsChecked source.now p → IsProgramAnswer result }
 {
     decide(alloc, source)
