@@ -6,4 +6,4 @@ mod table;
 mod text;
 
 pub use table::Table;
-pub use text::report;
+pub use text::{put_row, report, universe_line};

@@ -48,8 +48,8 @@ fn put_average(text: &mut Vec<u8>, total: u128, count: u128) -> Result<(), NoMem
     Ok(())
 }
 
-// Puts a row behind the text.
-fn put_row(text: &mut Vec<u8>, row: &Row) -> Result<(), NoMemory>
+/// Puts the line of a row behind the text: the size, the count, the total, and the average in lowest terms.
+pub fn put_row(text: &mut Vec<u8>, row: &Row) -> Result<(), NoMemory>
     ensures { OnOk result (text.new.items ≡ text.old.items ++ row_text row.now) }
 {
     put_number(text, row.n as u128)?;
@@ -132,7 +132,8 @@ fn put_tables(text: &mut Vec<u8>, program: &Program, tables: &[Table]) -> Result
     Ok(())
 }
 
-fn universe_line(universe: Universe) -> &'static [u8]
+/// The line of a universe.
+pub fn universe_line(universe: Universe) -> &'static [u8]
     ensures { result.now ≡ universe_text universe }
 {
     match universe {

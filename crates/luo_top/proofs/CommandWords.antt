@@ -1,117 +1,115 @@
 -- The words of each command.
-use Rattle.std.proofs.Common.{◌≡◌, ℕ, List, [], ◌∷◌, refl, sym, ap, ◌∙◌, inl, inr, ⊎_elim, Bool, true, false, Option, None, Some}
-use Rattle.std.specs.Prelude.{◌⊎◌, codes, if◌then◌else◌}
-use Rattle.std.specs.Option.{option_map}
+use Rattle.std.proofs.Common.{◌≡◌, ℕ, List, [], ◌∷◌, refl, sym, subst, ap, ◌∙◌, Bool, true, false, Option, None, Some}
+use Rattle.std.specs.Prelude.{codes, if◌then◌else◌}
+use Rattle.std.specs.Option.{option_map, option_and_then}
 use Rattle.std.specs.Str.{bytes_eq}
 use Rattle.std.proofs.lemmas.Slice.Eq.{bytes_eq-Decides}
+use Rattle.luo_finite.proofs.Places.{some_same}
 use Rattle.luo_top.specs.Laws.{IsNumberWord}
-use Rattle.luo_top.specs.Words.{Command, Analyse, Format, Run, number_of, analyse_of, format_of, run_of, command_of}
+use Rattle.luo_top.specs.Words.{Command, Analyse, Format, Run, Sample, number_of, analyse_of, format_of, run_of, sample_of, command_of, Listing, list_of}
 use Rattle.luo_top.proofs.NumberWords.{number_word, word_number}
 
 none_some : {A : Type 0} {x : A} → None ≡ Some x → ⊥
 none_some e = cc
 
-analyse_format : {file other : List ℕ} {n : ℕ} → Some (Analyse file n) ≡ Some (Format other) → ⊥
-analyse_format e = cc
+-- the words have the form of this command
+abbrev pub IsSpelled : Command → List (List ℕ) → Type 0
+IsSpelled (Analyse file n) words = (word : List ℕ) × (words ≡ codes "analyse" ∷ file ∷ word ∷ []) × IsNumberWord word n
+IsSpelled (Format file) words = words ≡ codes "format" ∷ file ∷ []
+IsSpelled (Run file procedure structure) words = words ≡ codes "run" ∷ file ∷ procedure ∷ structure ∷ []
+IsSpelled (Sample number n) words = (first : List ℕ) × (second : List ℕ) × (words ≡ codes "sample" ∷ first ∷ second ∷ []) × IsNumberWord first number × IsNumberWord second n
+IsSpelled (Listing file name n start count) words =
+    (size : List ℕ) × (place : List ℕ) × (most : List ℕ) × (words ≡ codes "list" ∷ file ∷ name ∷ size ∷ place ∷ most ∷ [])
+    × IsNumberWord size n × IsNumberWord place start × IsNumberWord most count
 
-analyse_run : {file other procedure structure : List ℕ} {n : ℕ} → Some (Analyse file n) ≡ Some (Run other procedure structure) → ⊥
-analyse_run e = cc
+-- they are given by these words
+is_spelled : (words : List (List ℕ)) (c d : Command) → Some d ≡ Some c → IsSpelled d words → IsSpelled c words
+is_spelled words c d e h = subst (λ (x : Command). IsSpelled x words) (some_same d c e) h
 
-format_run : {file other procedure structure : List ℕ} → Some (Format file) ≡ Some (Run other procedure structure) → ⊥
-format_run e = cc
-
--- one of the names was found
-chosen : (a b r : Bool) (rest : List (List ℕ)) (c : Command) → (if a then analyse_of rest else if b then format_of rest else if r then run_of rest else None) ≡ Some c
-    → ((a ≡ true) × (analyse_of rest ≡ Some c)) ⊎ ((b ≡ true) × (format_of rest ≡ Some c)) ⊎ ((r ≡ true) × (run_of rest ≡ Some c))
-chosen true b r rest c e = inl (refl, e)
-chosen false true r rest c e = inr (inl (refl, e))
-chosen false false true rest c e = inr (inr (refl, e))
-chosen false false false rest c e = absurd (none_some e)
-
--- the names of the words, as they are looked at
-named : (name : List ℕ) (rest : List (List ℕ)) (c : Command) → command_of (name ∷ rest) ≡ Some c
-    → ((bytes_eq name (codes "analyse") ≡ true) × (analyse_of rest ≡ Some c)) ⊎ ((bytes_eq name (codes "format") ≡ true) × (format_of rest ≡ Some c)) ⊎ ((bytes_eq name (codes "run") ≡ true) × (run_of rest ≡ Some c))
-named name rest c e = chosen (bytes_eq name (codes "analyse")) (bytes_eq name (codes "format")) (bytes_eq name (codes "run")) rest c e
-
-analysed : (rest : List (List ℕ)) (c : Command) → analyse_of rest ≡ Some c → (file : List ℕ) × (word : List ℕ) × (n : ℕ) × (rest ≡ file ∷ word ∷ []) × (number_of word ≡ Some n) × (c ≡ Analyse file n)
-analysed [] c e = absurd (none_some e)
-analysed (file ∷ []) c e = absurd (none_some e)
-analysed (file ∷ word ∷ other ∷ more) c e = absurd (none_some e)
-analysed (file ∷ word ∷ []) c e = by (number_of word) refl e
+-- behind a name stands what its form asks for
+analyse_rest : (rest : List (List ℕ)) (c : Command) → analyse_of rest ≡ Some c → IsSpelled c (codes "analyse" ∷ rest)
+analyse_rest [] c e = absurd (none_some e)
+analyse_rest (file ∷ []) c e = absurd (none_some e)
+analyse_rest (file ∷ word ∷ other ∷ more) c e = absurd (none_some e)
+analyse_rest (file ∷ word ∷ []) c e = by (number_of word) refl e
   where
-    by : (o : Option ℕ) → number_of word ≡ o → option_map (Analyse file) o ≡ Some c → (f : List ℕ) × (w : List ℕ) × (n : ℕ) × (file ∷ word ∷ [] ≡ f ∷ w ∷ []) × (number_of w ≡ Some n) × (c ≡ Analyse f n)
+    by : (o : Option ℕ) → number_of word ≡ o → option_map (Analyse file) o ≡ Some c → IsSpelled c (codes "analyse" ∷ file ∷ word ∷ [])
     by None h k = absurd (none_some k)
-    by (Some n) h k = (file, word, n, refl, h, (let d : c ≡ Analyse file n = cc in d))
+    by (Some n) h k = is_spelled _ c (Analyse file n) k (word, refl, word_number word n h)
 
-formatted : (rest : List (List ℕ)) (c : Command) → format_of rest ≡ Some c → (file : List ℕ) × (rest ≡ file ∷ []) × (c ≡ Format file)
-formatted [] c e = absurd (none_some e)
-formatted (file ∷ []) c e = (file, refl, (let d : c ≡ Format file = cc in d))
-formatted (file ∷ other ∷ more) c e = absurd (none_some e)
+format_rest : (rest : List (List ℕ)) (c : Command) → format_of rest ≡ Some c → IsSpelled c (codes "format" ∷ rest)
+format_rest [] c e = absurd (none_some e)
+format_rest (file ∷ []) c e = is_spelled _ c (Format file) e refl
+format_rest (file ∷ other ∷ more) c e = absurd (none_some e)
 
-ran : (rest : List (List ℕ)) (c : Command) → run_of rest ≡ Some c → (file : List ℕ) × (procedure : List ℕ) × (structure : List ℕ) × (rest ≡ file ∷ procedure ∷ structure ∷ []) × (c ≡ Run file procedure structure)
-ran [] c e = absurd (none_some e)
-ran (file ∷ []) c e = absurd (none_some e)
-ran (file ∷ procedure ∷ []) c e = absurd (none_some e)
-ran (file ∷ procedure ∷ structure ∷ []) c e = (file, procedure, structure, refl, (let d : c ≡ Run file procedure structure = cc in d))
-ran (file ∷ procedure ∷ structure ∷ other ∷ more) c e = absurd (none_some e)
+run_rest : (rest : List (List ℕ)) (c : Command) → run_of rest ≡ Some c → IsSpelled c (codes "run" ∷ rest)
+run_rest [] c e = absurd (none_some e)
+run_rest (file ∷ []) c e = absurd (none_some e)
+run_rest (file ∷ procedure ∷ []) c e = absurd (none_some e)
+run_rest (file ∷ procedure ∷ structure ∷ []) c e = is_spelled _ c (Run file procedure structure) e refl
+run_rest (file ∷ procedure ∷ structure ∷ other ∷ more) c e = absurd (none_some e)
 
-pub analyse_word : (words : List (List ℕ)) (file : List ℕ) (n : ℕ) → (word : List ℕ) × (words ≡ codes "analyse" ∷ file ∷ word ∷ []) × IsNumberWord word n → command_of words ≡ Some (Analyse file n)
-analyse_word words file n (word, e, h) = ap command_of e ∙ ap (λ o. option_map (Analyse file) o) (number_word word n h)
-
-pub format_word : (words : List (List ℕ)) (file : List ℕ) → words ≡ codes "format" ∷ file ∷ [] → command_of words ≡ Some (Format file)
-format_word words file e = ap command_of e
-
-pub run_word : (words : List (List ℕ)) (file procedure structure : List ℕ) → words ≡ codes "run" ∷ file ∷ procedure ∷ structure ∷ [] → command_of words ≡ Some (Run file procedure structure)
-run_word words file procedure structure e = ap command_of e
-
-pub word_analyse : (words : List (List ℕ)) (file : List ℕ) (n : ℕ) → command_of words ≡ Some (Analyse file n) → (word : List ℕ) × (words ≡ codes "analyse" ∷ file ∷ word ∷ []) × IsNumberWord word n
-word_analyse [] file n e = absurd (none_some e)
-word_analyse (name ∷ rest) file n e = ⊎_elim first (⊎_elim second third) (named name rest (Analyse file n) e)
+sample_rest : (rest : List (List ℕ)) (c : Command) → sample_of rest ≡ Some c → IsSpelled c (codes "sample" ∷ rest)
+sample_rest [] c e = absurd (none_some e)
+sample_rest (first ∷ []) c e = absurd (none_some e)
+sample_rest (first ∷ second ∷ other ∷ more) c e = absurd (none_some e)
+sample_rest (first ∷ second ∷ []) c e = by (number_of first) (number_of second) refl refl e
   where
-    first : (bytes_eq name (codes "analyse") ≡ true) × (analyse_of rest ≡ Some (Analyse file n)) → (word : List ℕ) × (name ∷ rest ≡ codes "analyse" ∷ file ∷ word ∷ []) × IsNumberWord word n
-    first (t, h) =
-        let (f, word, m, r, k, c) = analysed rest (Analyse file n) h in
-        let named : name ≡ codes "analyse" = (bytes_eq-Decides name (codes "analyse")).0 t in
-        let same_file : f ≡ file = cc in
-        let same_number : m ≡ n = cc in
-        (word, (λ i. named i ∷ (r ∙ ap (λ g. g ∷ word ∷ []) same_file) i), word_number word n (k ∙ ap Some same_number))
+    by : (o p : Option ℕ) → number_of first ≡ o → number_of second ≡ p → option_and_then (λ k. option_map (Sample k) p) o ≡ Some c → IsSpelled c (codes "sample" ∷ first ∷ second ∷ [])
+    by None p h g k = absurd (none_some k)
+    by (Some number) None h g k = absurd (none_some k)
+    by (Some number) (Some n) h g k = is_spelled _ c (Sample number n) k (first, second, refl, word_number first number h, word_number second n g)
 
-    second : (bytes_eq name (codes "format") ≡ true) × (format_of rest ≡ Some (Analyse file n)) → (word : List ℕ) × (name ∷ rest ≡ codes "analyse" ∷ file ∷ word ∷ []) × IsNumberWord word n
-    second (t, h) = let (f, r, c) = formatted rest (Analyse file n) h in absurd (analyse_format (ap Some c))
-
-    third : (bytes_eq name (codes "run") ≡ true) × (run_of rest ≡ Some (Analyse file n)) → (word : List ℕ) × (name ∷ rest ≡ codes "analyse" ∷ file ∷ word ∷ []) × IsNumberWord word n
-    third (t, h) = let (f, p, s, r, c) = ran rest (Analyse file n) h in absurd (analyse_run (ap Some c))
-
-pub word_format : (words : List (List ℕ)) (file : List ℕ) → command_of words ≡ Some (Format file) → words ≡ codes "format" ∷ file ∷ []
-word_format [] file e = absurd (none_some e)
-word_format (name ∷ rest) file e = ⊎_elim first (⊎_elim second third) (named name rest (Format file) e)
+list_rest : (rest : List (List ℕ)) (c : Command) → list_of rest ≡ Some c → IsSpelled c (codes "list" ∷ rest)
+list_rest [] c e = absurd (none_some e)
+list_rest (file ∷ []) c e = absurd (none_some e)
+list_rest (file ∷ name ∷ []) c e = absurd (none_some e)
+list_rest (file ∷ name ∷ size ∷ []) c e = absurd (none_some e)
+list_rest (file ∷ name ∷ size ∷ place ∷ []) c e = absurd (none_some e)
+list_rest (file ∷ name ∷ size ∷ place ∷ most ∷ other ∷ more) c e = absurd (none_some e)
+list_rest (file ∷ name ∷ size ∷ place ∷ most ∷ []) c e = by (number_of size) (number_of place) (number_of most) refl refl refl e
   where
-    first : (bytes_eq name (codes "analyse") ≡ true) × (analyse_of rest ≡ Some (Format file)) → name ∷ rest ≡ codes "format" ∷ file ∷ []
-    first (t, h) = let (f, word, m, r, k, c) = analysed rest (Format file) h in absurd (analyse_format (ap Some (sym c)))
+    by : (o p q : Option ℕ) → number_of size ≡ o → number_of place ≡ p → number_of most ≡ q
+        → option_and_then (λ n. option_and_then (λ start. option_map (Listing file name n start) q) p) o ≡ Some c
+        → IsSpelled c (codes "list" ∷ file ∷ name ∷ size ∷ place ∷ most ∷ [])
+    by None p q h g i k = absurd (none_some k)
+    by (Some n) None q h g i k = absurd (none_some k)
+    by (Some n) (Some start) None h g i k = absurd (none_some k)
+    by (Some n) (Some start) (Some count) h g i k =
+        is_spelled _ c (Listing file name n start count) k (size, place, most, refl, word_number size n h, word_number place start g, word_number most count i)
 
-    second : (bytes_eq name (codes "format") ≡ true) × (format_of rest ≡ Some (Format file)) → name ∷ rest ≡ codes "format" ∷ file ∷ []
-    second (t, h) =
-        let (f, r, c) = formatted rest (Format file) h in
-        let named : name ≡ codes "format" = (bytes_eq-Decides name (codes "format")).0 t in
-        let same_file : f ≡ file = cc in
-        λ i. named i ∷ (r ∙ ap (λ g. g ∷ []) same_file) i
+module _ (name : List ℕ) (rest : List (List ℕ)) (c : Command) where
+  -- the name is this one, or one of the others
+  this_or : (word : List ℕ) (found other : Option Command) → (found ≡ Some c → IsSpelled c (word ∷ rest)) → (other ≡ Some c → IsSpelled c (name ∷ rest))
+      → (if bytes_eq name word then found else other) ≡ Some c → IsSpelled c (name ∷ rest)
+  this_or word found other this or e = by (bytes_eq name word) refl e
+    where
+      by : (b : Bool) → bytes_eq name word ≡ b → (if b then found else other) ≡ Some c → IsSpelled c (name ∷ rest)
+      by true h k = subst (λ w. IsSpelled c (w ∷ rest)) (sym ((bytes_eq-Decides name word).0 h)) (this k)
+      by false h k = or k
 
-    third : (bytes_eq name (codes "run") ≡ true) × (run_of rest ≡ Some (Format file)) → name ∷ rest ≡ codes "format" ∷ file ∷ []
-    third (t, h) = let (f, p, s, r, c) = ran rest (Format file) h in absurd (format_run (ap Some c))
+  named : command_of (name ∷ rest) ≡ Some c → IsSpelled c (name ∷ rest)
+  named =
+      this_or (codes "analyse") (analyse_of rest) _ (analyse_rest rest c) (
+      this_or (codes "format") (format_of rest) _ (format_rest rest c) (
+      this_or (codes "run") (run_of rest) _ (run_rest rest c) (
+      this_or (codes "sample") (sample_of rest) _ (sample_rest rest c) (
+      this_or (codes "list") (list_of rest) None (list_rest rest c) (λ e. absurd (none_some e))))))
 
-pub word_run : (words : List (List ℕ)) (file procedure structure : List ℕ) → command_of words ≡ Some (Run file procedure structure) → words ≡ codes "run" ∷ file ∷ procedure ∷ structure ∷ []
-word_run [] file procedure structure e = absurd (none_some e)
-word_run (name ∷ rest) file procedure structure e = ⊎_elim first (⊎_elim second third) (named name rest (Run file procedure structure) e)
-  where
-    first : (bytes_eq name (codes "analyse") ≡ true) × (analyse_of rest ≡ Some (Run file procedure structure)) → name ∷ rest ≡ codes "run" ∷ file ∷ procedure ∷ structure ∷ []
-    first (t, h) = let (f, word, m, r, k, c) = analysed rest (Run file procedure structure) h in absurd (analyse_run (ap Some (sym c)))
+-- a command is asked for by the words of its form
+pub command_spelled : (words : List (List ℕ)) (c : Command) → command_of words ≡ Some c → IsSpelled c words
+command_spelled [] c e = absurd (none_some e)
+command_spelled (name ∷ rest) c e = named name rest c e
 
-    second : (bytes_eq name (codes "format") ≡ true) × (format_of rest ≡ Some (Run file procedure structure)) → name ∷ rest ≡ codes "run" ∷ file ∷ procedure ∷ structure ∷ []
-    second (t, h) = let (f, r, c) = formatted rest (Run file procedure structure) h in absurd (format_run (ap Some (sym c)))
-
-    third : (bytes_eq name (codes "run") ≡ true) × (run_of rest ≡ Some (Run file procedure structure)) → name ∷ rest ≡ codes "run" ∷ file ∷ procedure ∷ structure ∷ []
-    third (t, h) =
-        let (f, p, s, r, c) = ran rest (Run file procedure structure) h in
-        let called : name ≡ codes "run" = (bytes_eq-Decides name (codes "run")).0 t in
-        let same : f ∷ p ∷ s ∷ [] ≡ file ∷ procedure ∷ structure ∷ [] = cc in
-        λ i. called i ∷ (r ∙ same) i
+-- and the words of its form ask for it
+pub spelled_command : (words : List (List ℕ)) (c : Command) → IsSpelled c words → command_of words ≡ Some c
+spelled_command words (Analyse file n) (word, e, h) = ap command_of e ∙ ap (λ o. option_map (Analyse file) o) (number_word word n h)
+spelled_command words (Format file) e = ap command_of e
+spelled_command words (Run file procedure structure) e = ap command_of e
+spelled_command words (Sample number n) (first, second, e, h, g) =
+    ap command_of e ∙ (ap (λ o. option_and_then (λ k. option_map (Sample k) (number_of second)) o) (number_word first number h) ∙ ap (λ o. option_map (Sample number) o) (number_word second n g))
+spelled_command words (Listing file name n start count) (size, place, most, e, h, g, k) =
+    let s = number_word size n h in
+    let l = number_word place start g in
+    let m = number_word most count k in
+    ap command_of e ∙ (λ z. option_and_then (λ size. option_and_then (λ place. option_map (Listing file name size place) (m z)) (l z)) (s z))

@@ -2,6 +2,9 @@ pub mod Asked
 pub mod CommandWords
 pub mod Digits
 pub mod HeadlineLemmas
+pub mod ListedLines
+pub mod ListKept
+pub mod ListLemmas
 pub mod NoRefusal
 pub mod Numbers
 pub mod NumberWords
@@ -18,8 +21,13 @@ pub mod RowLemmas
 pub mod RunKept
 pub mod RunLemmas
 pub mod SameSteps
+pub mod SampleRows
+pub mod SampleTaken
 pub mod SoleSteps
 pub mod SomeText
 pub mod StepLemmas
+pub mod Summaries
+pub mod SummaryKept
 pub mod TokenBytes
+pub mod TypeNames
 pub mod WrittenOutcome

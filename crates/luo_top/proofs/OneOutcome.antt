@@ -4,7 +4,7 @@ use Rattle.std.specs.Prelude.{◌⊎◌}
 use Rattle.luo_finite.specs.Steps.{IsSingle}
 use Rattle.luo_finite.proofs.Steps.{or_else-single}
 use Rattle.luo_model.specs.declared.table.Fill.{Fill}
-use Rattle.luo_model.specs.declared.table.Fill.TheVariants.{All}
+use Rattle.luo_model.specs.declared.table.Fill.TheVariants.{All, Counts}
 use Rattle.luo_model.specs.Program.{Program}
 use Rattle.luo_model.specs.Invariant.{IsProgram}
 use Rattle.luo_model.specs.Tree.{Tree}
@@ -29,7 +29,9 @@ use Rattle.luo_rules.specs.Whole.{IsCore, breaches}
 use Rattle.luo_top.specs.declared.status.Status.TheVariants.{Refused, Limit, Overflow}
 use Rattle.luo_top.specs.Answer.{Refusal}
 use Rattle.luo_top.specs.Commands.Analyse.{report}
+use Rattle.luo_top.specs.Commands.List.{type_of, list_sized, counted}
 use Rattle.luo_top.specs.Commands.Run.{procedure_of, parameter_node, structure_of, charge_of, run_text}
+use Rattle.luo_top.specs.Commands.Sample.{text_program, summary}
 use Rattle.luo_founded.proofs.OneAnswer.{first_once}
 use Rattle.luo_top.specs.FoundedRefusals.{founded_line, FoundedRefusal}
 use Rattle.luo_top.specs.Outcome.{Outcome, steps_of}
@@ -37,12 +39,14 @@ use Rattle.luo_top.specs.Overflows.{overflow_line, OverflowRefusal}
 use Rattle.luo_top.specs.Refusals.{LexicalRefusal, SyntaxRefusal, LimitRefusal, RuleRefusal, WalksRefusal, refusal_of_fault, refusal_of_error, byte_of_token, limit_line, rule_line}
 use Rattle.luo_top.specs.Steps.{tokens_of, source_of, core_of, file_source, file_program, founded, sized, tables}
 use Rattle.luo_top.specs.Told.{Told, ReadingRefusal, reading}
-use Rattle.luo_top.specs.Words.{Command, Analyse, Format, Run, command_of, WordsRefusal, asked_by}
+use Rattle.luo_top.specs.Words.{Command, Analyse, Format, Run, Sample, command_of, WordsRefusal, asked_by, Listing}
 use Rattle.luo_top.specs.WordRefusals.{refusal_of_structure}
-use Rattle.luo_top.proofs.ProgramFacts.{program_is}
+use Rattle.luo_top.proofs.ProgramFacts.{program_is, text_program_is}
+use Rattle.luo_top.proofs.ListLemmas.{type_single, list_text_single}
 use Rattle.luo_top.proofs.RunLemmas.{named_single, taken, run_text_single}
 use Rattle.luo_top.proofs.SoleSteps.{IsSole, or_makes-sole, and_then-sole, makes-sole, ends-single, refused-single}
 use Rattle.luo_top.proofs.OneReport.{reports_one}
+use Rattle.luo_top.proofs.Summaries.{summary_one}
 
 -- the first lexical fault is one
 lexical-single : (text : List ℕ) → IsSingle (LexicalRefusal text)
@@ -136,6 +140,9 @@ program-sole : (file : List ℕ) (told : Told) → IsSole (file_program file tol
 program-sole file told =
     and_then-sole _ _ (reading-sole _ _ file told) (λ text _. and_then-sole _ _ (tokens-sole text) (λ ts _. and_then-sole _ _ (source-sole text ts) (λ s _. core-sole text ts s)))
 
+pub text_program-sole : (text : List ℕ) → IsSole (text_program text)
+text_program-sole text = and_then-sole _ _ (tokens-sole text) (λ ts _. and_then-sole _ _ (source-sole text ts) (λ s _. core-sole text ts s))
+
 founded-single : (p : Program) → IsSingle (FoundedRefusal p)
 founded-single p a b (d, h, e) (c, k, g) = e ∙ ap (λ x. Refusal Refused (founded_line p x)) (first_once p d c h k) ∙ sym g
 
@@ -156,6 +163,9 @@ tables-sole fill p n q f = or_makes-sole _ _ (overflow-single fill p n q f) (λ 
 report-sole : (p : Program) (n : ℕ) → IsProgram p → IsSole (report p n)
 report-sole p n q = makes-sole _ (reports_one p (totals_are_single p (sites_are_apart p q)) n)
 
+summary-sole : (number : ℕ) (p : Program) (n : ℕ) → IsProgram p → IsSole (summary number p n)
+summary-sole number p n q = makes-sole _ (summary_one p n number q)
+
 procedure-sole : (p : Program) (name : List ℕ) → IsProgram p → IsSole (procedure_of p name)
 procedure-sole p name q = or_makes-sole _ _ (refused-single _ _ _) (λ none. named_single p q name)
 
@@ -166,6 +176,15 @@ structure-sole p x text q =
 charge-sole : (p : Program) (f : ℕ) (t : Tree) → IsSole (charge_of p f t)
 charge-sole p f t = or_makes-sole _ _ (λ a b (m, h, l, e) (n, k, o, d). e ∙ sym d) (λ none. charges_one p f t)
 
+type-sole : (p : Program) (name : List ℕ) → IsProgram p → IsSole (type_of p name)
+type-sole p name q = or_makes-sole _ _ (refused-single _ _ _) (λ none. type_single p q name)
+
+list_sized-sole : (n : ℕ) → IsSole (list_sized n)
+list_sized-sole n = or_makes-sole _ _ (refused-single _ _ _) (λ none x y e d. e ∙ sym d)
+
+counted-sole : (k : ℕ) → IsSole (counted k)
+counted-sole k = or_makes-sole _ _ (refused-single _ _ _) (λ none x y e d. e ∙ sym d)
+
 steps-sole : (c : Command) (told : Told) → IsSole (steps_of c told)
 steps-sole (Analyse file n) told = and_then-sole _ _ (program-sole file told) (λ p h.
     let is = program_is file told p h in
@@ -175,12 +194,21 @@ steps-sole (Run file procedure structure) told = and_then-sole _ _ (program-sole
     let is = program_is file told p h in
     and_then-sole _ _ (founded-sole p) (λ _ k. and_then-sole _ _ (procedure-sole p procedure is) (λ f n. and_then-sole _ _ (structure-sole p (parameter_node p f) structure is) (λ t r.
     and_then-sole _ _ (charge-sole p f t) (λ q _. makes-sole _ (run_text_single p is k.1 f t (taken p f (n.1.0, n.1.1) structure t r.1) q))))))
+steps-sole (Sample number n) told = and_then-sole _ _ (text_program-sole _) (λ p h.
+    let is = text_program_is _ p h in
+    and_then-sole _ _ (founded-sole p) (λ _ k. and_then-sole _ _ (tables-sole All p n is k.1) (λ _ _. summary-sole number p n is)))
+steps-sole (Listing file name n start k) told = and_then-sole _ _ (program-sole file told) (λ p h.
+    let is = program_is file told p h in
+    and_then-sole _ _ (founded-sole p) (λ _ f. and_then-sole _ _ (type-sole p name is) (λ x _. and_then-sole _ _ (list_sized-sole n) (λ m _. and_then-sole _ _ (counted-sole k) (λ j _.
+    and_then-sole _ _ (tables-sole Counts p m is f.1) (λ _ _. makes-sole _ (list_text_single p x m start j)))))))
 
 pub words-single : (o : Option Command) → IsSingle (WordsRefusal o)
 words-single None a b p q = p ∙ sym q
 words-single (Some (Analyse file n)) a b p q = absurd p
 words-single (Some (Format file)) a b p q = absurd p
 words-single (Some (Run file procedure structure)) a b p q = absurd p
+words-single (Some (Sample number n)) a b p q = or_else-single _ _ (refused-single _ _ _) (refused-single _ _ _) a b p q
+words-single (Some (Listing file name n start k)) a b p q = absurd p
 
 asked-sole : (words : List (List ℕ)) → IsSole (asked_by words)
 asked-sole words = or_makes-sole _ _ (words-single (command_of words)) (λ none. some_one (command_of words))

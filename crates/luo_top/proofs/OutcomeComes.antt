@@ -3,7 +3,7 @@ use Rattle.std.proofs.Common.{◌≡◌, ℕ, List, [], ◌∷◌, refl, sym, �
 use Rattle.std.specs.Prelude.{◌⊎◌}
 use Rattle.luo_model.specs.Program.{Program}
 use Rattle.luo_model.specs.declared.table.Fill.{Fill}
-use Rattle.luo_model.specs.declared.table.Fill.TheVariants.{All}
+use Rattle.luo_model.specs.declared.table.Fill.TheVariants.{All, Counts}
 use Rattle.luo_model.specs.Invariant.{IsProgram}
 use Rattle.luo_model.specs.Founded.{IsFounded}
 use Rattle.luo_model.specs.Tree.{Tree}
@@ -22,16 +22,20 @@ use Rattle.luo_founded.proofs.SomeAnswer.{founded_or_first}
 use Rattle.luo_interp.specs.Takes.{Takes}
 use Rattle.luo_top.proofs.SomeText.{read_or_refused}
 use Rattle.luo_top.specs.Answer.{Answer, Output, Untold}
+use Rattle.luo_top.specs.Commands.List.{type_of}
 use Rattle.luo_top.specs.Commands.Run.{procedure_of, parameter_node, structure_of, charge_of}
+use Rattle.luo_top.specs.Commands.Sample.{text_program}
 use Rattle.luo_top.specs.Outcome.{Outcome, steps_of}
 use Rattle.luo_top.specs.Refusals.{LimitRefusal}
 use Rattle.luo_top.specs.Step.{Step, HasNone, ◌or_makes◌, ◌and_then◌, ends}
 use Rattle.luo_top.specs.Steps.{tokens_of, source_of, core_of, CoreRefusal, file_source, file_program, founded, tables}
 use Rattle.luo_top.specs.Told.{Told, ReadingRefusal, reading}
-use Rattle.luo_top.specs.Words.{Command, Analyse, Format, Run, command_of, WordsRefusal, asked_by}
-use Rattle.luo_top.proofs.ProgramFacts.{program_is}
+use Rattle.luo_top.specs.Words.{Command, Analyse, Format, Run, Sample, command_of, WordsRefusal, asked_by, Listing}
+use Rattle.luo_top.proofs.ProgramFacts.{program_is, text_program_is}
+use Rattle.luo_top.proofs.ListLemmas.{ordered_listing}
 use Rattle.luo_top.proofs.ReportComes.{report_comes}
 use Rattle.luo_top.proofs.RunLemmas.{taken, run_text_comes}
+use Rattle.luo_top.proofs.Summaries.{summary_comes}
 
 -- where nothing refuses, something is handed on
 abbrev GoesOn : {X : Type 0} → Step X → Type 0
@@ -85,6 +89,9 @@ program-goes_on : (file : List ℕ) (told : Told) → GoesOn (file_program file 
 program-goes_on file told =
     and_then-goes_on _ _ (reading-goes_on _ _ file told) (λ text _. and_then-goes_on _ _ (tokens-goes_on text) (λ ts t. and_then-goes_on _ _ (source-goes_on text ts t.1) (λ s _. core-goes_on text ts s)))
 
+text_program-goes_on : (text : List ℕ) → GoesOn (text_program text)
+text_program-goes_on text = and_then-goes_on _ _ (tokens-goes_on text) (λ ts t. and_then-goes_on _ _ (source-goes_on text ts t.1) (λ s _. core-goes_on text ts s))
+
 founded-goes_on : (p : Program) → GoesOn (founded p)
 founded-goes_on p = or_makes-goes_on _ _ (λ none nothing. founded_or_first p (λ e b. none _ (e, b, refl)) (λ f. nothing tt f))
 
@@ -100,6 +107,9 @@ structure-goes_on p x text = or_makes-goes_on _ _ (λ none nothing. read_or_refu
 charge-goes_on : (p : Program) (f : ℕ) (t : Tree) → IsProgram p → IsFounded p → Takes p f t → GoesOn (charge_of p f t)
 charge-goes_on p f t q founded (P, there, member) = or_makes-goes_on _ _ (λ none nothing. let c = one_charge p q founded.no_endless f P there t member in nothing c.0 c.1)
 
+type-goes_on : (p : Program) (name : List ℕ) → GoesOn (type_of p name)
+type-goes_on p name = or_makes-goes_on _ _ (λ none nothing. none _ (nothing, refl))
+
 steps-go_on : (c : Command) (told : Told) → GoesOn (steps_of c told)
 steps-go_on (Analyse file n) told = and_then-goes_on _ _ (program-goes_on file told) (λ p h.
     let is = program_is file told p h in
@@ -111,6 +121,14 @@ steps-go_on (Run file procedure structure) told = and_then-goes_on _ _ (program-
     and_then-goes_on _ _ (founded-goes_on p) (λ _ k. and_then-goes_on _ _ (procedure-goes_on p procedure) (λ f n. and_then-goes_on _ _ (structure-goes_on p (parameter_node p f) structure) (λ t r.
     let takes = taken p f (n.1.0, n.1.1) structure t r.1 in
     and_then-goes_on _ _ (charge-goes_on p f t is k.1 takes) (λ q _. or_makes-goes_on _ _ (λ none nothing. let b = run_text_comes p is k.1 f t takes q in nothing b.0 b.1))))))
+steps-go_on (Sample number n) told = and_then-goes_on _ _ (text_program-goes_on _) (λ p h.
+    let is = text_program_is _ p h in
+    and_then-goes_on _ _ (founded-goes_on p) (λ _ k. and_then-goes_on _ _ (tables-goes_on All p n is k.1) (λ _ t. or_makes-goes_on _ _ (λ none nothing. let b = summary_comes p n number is k.1 in nothing b.0 b.1))))
+steps-go_on (Listing file name n start j) told = and_then-goes_on _ _ (program-goes_on file told) (λ p h.
+    let is = program_is file told p h in
+    and_then-goes_on _ _ (founded-goes_on p) (λ _ k. and_then-goes_on _ _ (type-goes_on p name) (λ x _. and_then-goes_on _ _ (or_makes-goes_on _ _ (λ none nothing. nothing n refl)) (λ m _.
+    and_then-goes_on _ _ (or_makes-goes_on _ _ (λ none nothing. nothing j refl)) (λ i _. and_then-goes_on _ _ (tables-goes_on Counts p m is k.1) (λ _ _. or_makes-goes_on _ _ (λ none nothing.
+    let l = ordered_listing p is k.1 x m in nothing _ (l.0, l.1, refl))))))))
 
 asked-goes_on : (words : List (List ℕ)) → GoesOn (asked_by words)
 asked-goes_on words = or_makes-goes_on _ _ (by (command_of words))

@@ -22,10 +22,14 @@ use Rattle.luo_meaning.proofs.WalksKept.{walks_kept}
 use Rattle.luo_top.specs.Answer.{Answer}
 use Rattle.luo_top.specs.AsWritten.Outcome.{OutcomeAsWritten, steps_as_written}
 use Rattle.luo_top.specs.AsWritten.Report.{IsReportOf}
+use Rattle.luo_top.specs.AsWritten.List.{defined_type, list_by, list_source}
 use Rattle.luo_top.specs.AsWritten.Run.{defined_procedure, run_by, run_source}
+use Rattle.luo_top.specs.AsWritten.Sample.{sound_text, sound_sample, IsSummaryOf, summary_of, sample_source}
 use Rattle.luo_top.specs.AsWritten.Steps.{WalksRefusalOf, SourceRefusal, sound, sound_source, OverflowOf, numbers, report_of, analyse_source}
 use Rattle.luo_top.specs.Commands.Analyse.{report, analyse}
+use Rattle.luo_top.specs.Commands.List.{type_of, list_of, list}
 use Rattle.luo_top.specs.Commands.Run.{procedure_of, run_on, run}
+use Rattle.luo_top.specs.Commands.Sample.{text_program, sampled, IsSummary, summary, sample}
 use Rattle.luo_top.specs.Outcome.{Outcome, steps_of}
 use Rattle.luo_top.specs.Overflows.{OverflowRefusal}
 use Rattle.luo_top.specs.Refusals.{LimitRefusal, RuleRefusal, WalksRefusal}
@@ -33,9 +37,11 @@ use Rattle.luo_top.specs.Report.{IsReport}
 use Rattle.luo_top.specs.Step.{Step, HasNone, ◌and_then◌}
 use Rattle.luo_top.specs.Steps.{text_of, tokens_of, source_of, core_of, CoreRefusal, file_program, founded, sized, tables}
 use Rattle.luo_top.specs.Told.{Told}
-use Rattle.luo_top.specs.Words.{Command, Analyse, Format, Run, asked_by}
+use Rattle.luo_top.specs.Words.{Command, Analyse, Format, Run, Sample, asked_by, Listing}
+use Rattle.luo_top.proofs.ListKept.{list_rest_same}
 use Rattle.luo_top.proofs.ReportKept.{report_kept}
 use Rattle.luo_top.proofs.RunKept.{run_rest_same}
+use Rattle.luo_top.proofs.SummaryKept.{summary_kept}
 use Rattle.luo_top.proofs.SameSteps.{Match, same_rest, same_step, same_makes, same_both, same_first, same_ends}
 
 no_elements : {A : Type 0} (l : List A) → ((x : A) (rest : List A) → l ≡ x ∷ rest → ⊥) → l ≡ []
@@ -89,6 +95,11 @@ program_same file told =
     same_first IsProgramOf (text_of file told) _ _ (λ text r. same_first IsProgramOf (tokens_of text) _ _ (λ tokens t. same_first IsProgramOf (source_of text tokens) _ _ (λ source d.
     core_same text tokens source (record { text = text; tokens = tokens; scanned = t.1; derived = d.1 }))))
 
+text_same : (text : List ℕ) → Match IsProgramOf (text_program text) (sound_text text)
+text_same text =
+    same_first IsProgramOf (tokens_of text) _ _ (λ tokens t. same_first IsProgramOf (source_of text tokens) _ _ (λ source d.
+    core_same text tokens source (record { text = text; tokens = tokens; scanned = t.1; derived = d.1 })))
+
 -- a source and its program, from there on
 module _ (source : Source) (is : IsSource source) (is_checked : IsChecked source (core source)) (n : ℕ) where
   over_same : IsOver (core source) MAX n ↔ HasOver source MAX n
@@ -128,6 +139,12 @@ module _ (source : Source) (is : IsSource source) (is_checked : IsChecked source
       kept : (bytes : List ℕ) → IsReport (core source) n bytes ↔ IsReportOf source n bytes
       kept = report_kept source (clean_source source is is_checked.1.0) (measures_none source is_checked.1.0) (checked_program source (core source) is is_checked) n
 
+  summary_same : (number : ℕ) → Match (λ x y. x ≡ y) (summary number (core source) n) (summary_of number source n)
+  summary_same number = same_makes (λ x y. x ≡ y) _ _ (IsSummary number (core source) n) (IsSummaryOf number source n) (λ a. (λ h. h, λ h. h)) (λ none x h. (x, (kept x).0 h, refl)) (λ none y h. (y, (kept y).1 h, refl))
+    where
+      kept : (bytes : List ℕ) → IsSummary number (core source) n bytes ↔ IsSummaryOf number source n bytes
+      kept = summary_kept source (clean_source source is is_checked.1.0) (measures_none source is_checked.1.0) (checked_program source (core source) is is_checked) n number
+
 analyse_same : (file : List ℕ) (n : ℕ) (told : Told) → Match (λ x y. x ≡ y) (analyse file n told) (analyse_source file n told)
 analyse_same file n told =
     same_both IsProgramOf (λ x y. x ≡ y) (file_program file told) (sound_source file told) _ _ (program_same file told)
@@ -158,10 +175,42 @@ run_same file procedure structure told =
     rest : (source : Source) → IsSource source → IsChecked source (core source) → Match (λ x y. x ≡ y) (from (core source)) (from_source source)
     rest source is c = same_first (λ x y. x ≡ y) (founded (core source)) _ _ (λ _ _. run_rest_same source is c.1.0 (checked_program source (core source) is c) procedure structure)
 
+sample_same : (number n : ℕ) → Match (λ x y. x ≡ y) (sample number n) (sample_source number n)
+sample_same number n =
+    same_both IsProgramOf (λ x y. x ≡ y) (sampled number) (sound_sample number) _ _ (text_same _)
+    (λ p source is. subst (λ q. Match (λ x y. x ≡ y) (from q) (from_source source)) (sym is.1.1.1) (rest source is.0 (subst (IsChecked source) is.1.1.1 is.1)))
+  where
+    from : Program → Step (List ℕ)
+    from p = founded p and_then λ _. tables All p n and_then λ _. summary number p n
+
+    from_source : Source → Step (List ℕ)
+    from_source source = founded (core source) and_then λ _. numbers source n and_then λ _. summary_of number source n
+
+    rest : (source : Source) → IsSource source → IsChecked source (core source) → Match (λ x y. x ≡ y) (from (core source)) (from_source source)
+    rest source is c =
+        same_first (λ x y. x ≡ y) (founded (core source)) _ _ (λ _ _.
+        same_both (λ _ _. ⊤) (λ x y. x ≡ y) (tables All (core source) n) (numbers source n) _ _ (tables_same source is c n) (λ _ _ _. summary_same source is c n number))
+
+list_same : (file name : List ℕ) (n start k : ℕ) (told : Told) → Match (λ x y. x ≡ y) (list file name n start k told) (list_source file name n start k told)
+list_same file name n start k told =
+    same_both IsProgramOf (λ x y. x ≡ y) (file_program file told) (sound_source file told) _ _ (program_same file told)
+    (λ p source is. subst (λ q. Match (λ x y. x ≡ y) (from q) (from_source source)) (sym is.1.1.1) (rest source is.0 (subst (IsChecked source) is.1.1.1 is.1)))
+  where
+    from : Program → Step (List ℕ)
+    from p = founded p and_then λ _. type_of p name and_then list_of p n start k
+
+    from_source : Source → Step (List ℕ)
+    from_source source = founded (core source) and_then λ _. defined_type source name and_then list_by source n start k
+
+    rest : (source : Source) → IsSource source → IsChecked source (core source) → Match (λ x y. x ≡ y) (from (core source)) (from_source source)
+    rest source is c = same_first (λ x y. x ≡ y) (founded (core source)) _ _ (λ _ _. list_rest_same source is c.1.0 name n start k)
+
 steps_same : (command : Command) (told : Told) → Match (λ x y. x ≡ y) (steps_of command told) (steps_as_written command told)
 steps_same (Analyse file n) told = analyse_same file n told
 steps_same (Format file) told = same_step _
 steps_same (Run file procedure structure) told = run_same file procedure structure told
+steps_same (Sample number n) told = sample_same number n
+steps_same (Listing file name n start k) told = list_same file name n start k told
 
 pub outcome_kept : (told : Told) (words : List (List ℕ)) (a : Answer) → Outcome told words a ↔ OutcomeAsWritten told words a
 unfolding Outcome OutcomeAsWritten

@@ -8,11 +8,13 @@ use Rattle.luo_source.specs.declared.source.Source.{Source}
 use Rattle.luo_top.specs.declared.status.Status.{Status}
 use Rattle.luo_top.specs.Answer.{Output, Refusal, Untold}
 use Rattle.luo_model.specs.declared.table.Fill.{Fill}
-use Rattle.luo_model.specs.declared.table.Fill.TheVariants.{All}
+use Rattle.luo_model.specs.declared.table.Fill.TheVariants.{All, Counts}
 use Rattle.luo_model.specs.Program.{Program}
 use Rattle.luo_model.specs.Tree.{Tree}
 use Rattle.luo_read.specs.declared.answers.StructError.TheVariants as structure
+use Rattle.luo_top.specs.Commands.List.{type_of, list_sized, counted}
 use Rattle.luo_top.specs.Commands.Run.{StructureRefusal, ChargeRefusal, procedure_of, parameter_node, structure_of, charge_of}
+use Rattle.luo_top.specs.Commands.Sample.{text_program, sampled}
 use Rattle.luo_top.specs.FoundedRefusals.{FoundedRefusal}
 use Rattle.luo_top.specs.Laws.{FilesAreTold}
 use Rattle.luo_top.specs.Outcome.{Outcome, steps_of}
@@ -21,7 +23,7 @@ use Rattle.luo_top.specs.Refusals.{LexicalRefusal, SyntaxRefusal}
 use Rattle.luo_top.specs.Step.{Step, ◌and_then◌}
 use Rattle.luo_top.specs.Steps.{text_of, tokens_of, source_of, core_of, CoreRefusal, file_source, file_program, founded, sized, tables}
 use Rattle.luo_top.specs.Told.{Told, ReadingRefusal}
-use Rattle.luo_top.specs.Words.{Command, Analyse, Format, Run, command_of, files_of, WordsRefusal}
+use Rattle.luo_top.specs.Words.{Command, Analyse, Format, Run, Sample, command_of, files_of, WordsRefusal, Listing}
 
 untold : (s : Status) (bytes : List ℕ) → Untold ≡ Refusal s bytes → ⊥
 untold s bytes e = cc
@@ -59,6 +61,9 @@ program-tells : (file : List ℕ) (told : Told) → (told file ≡ None → ⊥)
 program-tells file told n =
     tells_both (text_of file told) _ (reading-tells _ _ (told file) n) (λ text. tells_both (tokens_of text) _ (tokens-tells text) (λ ts. tells_both (source_of text ts) (core_of text ts) (source-tells text ts) (core-tells text ts)))
 
+text_program-tells : (text : List ℕ) → (text_program text).refuses Untold → ⊥
+text_program-tells text = tells_both (tokens_of text) _ (tokens-tells text) (λ ts. tells_both (source_of text ts) (core_of text ts) (source-tells text ts) (core-tells text ts))
+
 founded-tells : (p : Program) → FoundedRefusal p Untold → ⊥
 founded-tells p (e, h, u) = untold _ _ u
 
@@ -84,12 +89,20 @@ steps-tell (Format file) told there = tells_both (file_source file told) _ (sour
 steps-tell (Run file procedure structure) told there =
     tells_both (file_program file told) _ (program-tells file told (there file (inl refl))) (λ p. tells_both (founded p) _ (founded-tells p) (λ _. tells_both (procedure_of p procedure) _ (λ u. untold _ _ u.1) (λ f.
     tells_both (structure_of p (parameter_node p f) structure) _ (structure-tells p (parameter_node p f) structure) (λ t. tells_both (charge_of p f t) _ (charge-tells p f t) (λ q r. r)))))
+steps-tell (Sample number n) told there =
+    tells_both (sampled number) _ (text_program-tells _) (λ p. tells_both (founded p) _ (founded-tells p) (λ _. tells_both (tables All p n) _ (overflow-tells p All n) (λ _ r. r)))
+steps-tell (Listing file name n start k) told there =
+    tells_both (file_program file told) _ (program-tells file told (there file (inl refl))) (λ p. tells_both (founded p) _ (founded-tells p) (λ _. tells_both (type_of p name) _ (λ u. untold _ _ u.1) (λ x.
+    tells_both (list_sized n) _ (λ u. untold _ _ u.1) (λ m. tells_both (counted k) _ (λ u. untold _ _ u.1) (λ j. tells_both (tables Counts p m) _ (overflow-tells p Counts m) (λ _ r. r))))))
 
 words-tell : (o : Option Command) → WordsRefusal o Untold → ⊥
 words-tell None e = untold _ _ e
 words-tell (Some (Analyse file n)) w = w
 words-tell (Some (Format file)) w = w
 words-tell (Some (Run file procedure structure)) w = w
+words-tell (Some (Sample number n)) (inl w) = untold _ _ w.1
+words-tell (Some (Sample number n)) (inr w) = untold _ _ w.1.1
+words-tell (Some (Listing file name n start k)) w = w
 
 untold_output : (bytes : List ℕ) → Untold ≡ Output bytes → ⊥
 untold_output bytes e = cc

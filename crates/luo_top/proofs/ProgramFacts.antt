@@ -1,21 +1,25 @@
--- The program of a file has what holds of every program.
+-- The program of a file or of a text has what holds of every program.
 use Rattle.std.proofs.Common.{◌≡◌, ℕ, ◌<◌, ◌≤◌, List, [], ◌∷◌, refl, sym, subst, ◌∙◌, arith, inl, inr, ⊎_elim}
 use Rattle.std.specs.Prelude.{◌⊎◌}
 use Rattle.luo_model.specs.Program.{Program}
 use Rattle.luo_model.specs.Invariant.{IsProgram}
+use Rattle.luo_scan.specs.declared.token.Token.{Token}
+use Rattle.luo_scan.specs.Tokens.{Tokens}
+use Rattle.luo_source.specs.declared.source.Source.{Source}
+use Rattle.luo_source.specs.Grammar.{Derives}
 use Rattle.luo_rules.specs.declared.error.CountLimit.{CountLimit}
 use Rattle.luo_rules.specs.Checks.{IsSource}
 use Rattle.luo_rules.specs.Counted.{limits_passed}
 use Rattle.luo_rules.specs.Whole.{core, walk_count}
 use Rattle.luo_rules.proofs.CoreIsProgram.{core_is_program}
+use Rattle.luo_top.specs.Commands.Sample.{text_program}
 use Rattle.luo_top.specs.Step.{◌and_then◌}
-use Rattle.luo_top.specs.Steps.{file_program}
+use Rattle.luo_top.specs.Steps.{core_of, file_program}
 use Rattle.luo_top.specs.Told.{Told}
 
-pub program_is : (file : List ℕ) (told : Told) (p : Program) → (file_program file told).hands p → IsProgram p
-unfolding ◌and_then◌
-program_is file told p (text, h, (ts, t, (s, d, (none, c)))) =
-    let source : IsSource s = record { text = text; tokens = ts; scanned = t.1; derived = d.1 } in
+core_is : (text : List ℕ) (ts : List Token) (s : Source) (p : Program) → Tokens text ts → Derives text ts s → (core_of text ts s).hands p → IsProgram p
+core_is text ts s p scanned derived (none, c) =
+    let source : IsSource s = record { text = text; tokens = ts; scanned = scanned; derived = derived } in
     subst IsProgram (sym c.1) (core_is_program s source (within (limits_passed s) refl) c.0 (walks (walk_count (core s)) refl))
   where
     within : (ws : List CountLimit) → limits_passed s ≡ ws → limits_passed s ≡ []
@@ -31,3 +35,11 @@ program_is file told p (text, h, (ts, t, (s, d, (none, c)))) =
       where
         cases : (m n : ℕ) → (m ≤ n) ⊎ (n < m)
         cases m n = grind arith
+
+pub program_is : (file : List ℕ) (told : Told) (p : Program) → (file_program file told).hands p → IsProgram p
+unfolding ◌and_then◌
+program_is file told p (text, h, (ts, t, (s, d, c))) = core_is text ts s p t.1 d.1 c
+
+pub text_program_is : (text : List ℕ) (p : Program) → (text_program text).hands p → IsProgram p
+unfolding ◌and_then◌
+text_program_is text p (ts, t, (s, d, c)) = core_is text ts s p t.1 d.1 c

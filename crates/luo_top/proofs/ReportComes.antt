@@ -17,7 +17,7 @@ use Rattle.luo_top.specs.Report.{AreRowsFrom, AreTables, IsReport}
 use Rattle.luo_top.proofs.RowLemmas.{whole_there}
 
 module _ (p : Program) (q : IsProgram p) (f : IsFounded p) where
-  row_comes : (g : ℕ) (P : Procedure) → slice_get p.procs g ≡ Some P → (n : ℕ) → (row : Row) × (row.n ≡ n) × IsRow p g row
+  pub row_comes : (g : ℕ) (P : Procedure) → slice_get p.procs g ≡ Some P → (n : ℕ) → (row : Row) × (row.n ≡ n) × IsRow p g row
   row_comes g P there n =
       let c = count_exists p q f P.on.node n in
       let t = total_exists p q f P.site n (whole_there p q g P there) in

@@ -34,7 +34,7 @@ use Rattle.luo_top.specs.inner.Found.{place_from, place_of, IsThere, is_result, 
 use Rattle.luo_top.specs.inner.Passes.{Passes, RefusedBy}
 
 -- the names of a list without doubles stand at one place each
-one_place : {A : Type 0} (name : A → List ℕ) (xs : List A) → NoDouble (map name xs) → (f g : ℕ) (x y : A) → slice_get xs f ≡ Some x → slice_get xs g ≡ Some y → name x ≡ name y → f ≡ g
+pub one_place : {A : Type 0} (name : A → List ℕ) (xs : List A) → NoDouble (map name xs) → (f g : ℕ) (x y : A) → slice_get xs f ≡ Some x → slice_get xs g ≡ Some y → name x ≡ name y → f ≡ g
 one_place name [] n f g x y a b e = absurd (none_some x a)
 one_place name (z ∷ xs) n zero zero x y a b e = refl
 one_place name (z ∷ xs) n zero (suc g) x y a b e = absurd (n.0 (subst (λ m. In m (map name xs)) (sym e ∙ ap name (sym (some_same z x a))) (In-map name y xs (In_get xs g y b))))

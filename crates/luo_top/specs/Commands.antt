@@ -1,3 +1,5 @@
 pub mod Analyse
 pub mod Format
+pub mod List
 pub mod Run
+pub mod Sample

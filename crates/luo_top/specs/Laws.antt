@@ -1,16 +1,18 @@
 -- What holds of every outcome.
-use Rattle.std.specs.Prelude.{◌≡◌, ◌↔◌, ℕ, List, [], ◌∷◌, codes, None, Some}
+use Rattle.std.specs.Prelude.{◌≡◌, ◌⊎◌, ◌↔◌, ◌≤◌, ℕ, List, [], ◌∷◌, codes, None, Some}
 use Rattle.std.specs.List.{AllByRecursion}
 use Rattle.luo_finite.specs.Listing.{In}
 use Rattle.luo_finite.specs.Steps.{IsSingle}
+use Rattle.luo_num.specs.declared.limits.TheConstants.{SIZE_LIMIT, SAMPLE_LIMIT}
 use Rattle.luo_scan.specs.Bytes.{IsDigit}
 use Rattle.luo_scan.specs.Spellings.{value_after}
-use Rattle.luo_top.specs.Answer.{Answer, Untold}
+use Rattle.luo_top.specs.declared.status.Status.TheVariants.{Overflow}
+use Rattle.luo_top.specs.Answer.{Answer, Output, Refusal, Untold}
 use Rattle.luo_top.specs.AsWritten.Outcome.{OutcomeAsWritten}
 use Rattle.luo_top.specs.Outcome.{Outcome}
 use Rattle.luo_top.specs.Step.{HasNone}
 use Rattle.luo_top.specs.Told.{Told}
-use Rattle.luo_top.specs.Words.{Command, Analyse, Format, Run, command_of, files_of, number_of}
+use Rattle.luo_top.specs.Words.{Command, Analyse, Format, Run, Sample, command_of, files_of, number_of, Listing}
 
 -- at most one answer is the outcome
 abbrev pub OutcomeIsOne : Type 0
@@ -58,3 +60,28 @@ abbrev pub RunIsSpelled : Type 0
 RunIsSpelled =
     (words : List (List ℕ)) (file procedure structure : List ℕ)
     → (command_of words ≡ Some (Run file procedure structure)) ↔ (words ≡ codes "run" ∷ file ∷ procedure ∷ structure ∷ [])
+
+-- the words of `sample NUMBER N`, and no others, ask for it
+abbrev pub SampleIsSpelled : Type 0
+SampleIsSpelled =
+    (words : List (List ℕ)) (number n : ℕ)
+    → (command_of words ≡ Some (Sample number n))
+    ↔ ((first : List ℕ) × (second : List ℕ) × (words ≡ codes "sample" ∷ first ∷ second ∷ []) × IsNumberWord first number × IsNumberWord second n)
+
+-- an output, or a number that is too large
+abbrev pub IsTaken : Answer → Type 0
+IsTaken answer = ((bytes : List ℕ) × (answer ≡ Output bytes)) ⊎ ((bytes : List ℕ) × (answer ≡ Refusal Overflow bytes))
+
+-- a sample within its limits is refused for nothing but a number that is too large
+abbrev pub SamplesAreTaken : Type 0
+SamplesAreTaken =
+    (told : Told) (words : List (List ℕ)) (number n : ℕ) → command_of words ≡ Some (Sample number n) → number ≤ SAMPLE_LIMIT → n ≤ SIZE_LIMIT
+    → (answer : Answer) → OutcomeAsWritten told words answer → IsTaken answer
+
+-- the words of `list FILE TYPE N START COUNT`, and no others, ask for it
+abbrev pub ListIsSpelled : Type 0
+ListIsSpelled =
+    (words : List (List ℕ)) (file name : List ℕ) (n start count : ℕ)
+    → (command_of words ≡ Some (Listing file name n start count))
+    ↔ ((size : List ℕ) × (place : List ℕ) × (most : List ℕ) × (words ≡ codes "list" ∷ file ∷ name ∷ size ∷ place ∷ most ∷ [])
+    × IsNumberWord size n × IsNumberWord place start × IsNumberWord most count)

@@ -1,6 +1,6 @@
--- The refusals of words that name something of a program: a procedure, or a structure by its text.
+-- The refusals of words that name something of a program: a type, a procedure, or a structure by its text; and of numbers of a listing.
 use Rattle.std.specs.Prelude.{ℕ, ◌++◌, List, [], codes, decimal}
-use Rattle.luo_num.specs.declared.limits.TheConstants.{STRUCTURE_TEXT_LIMIT, NESTING_LIMIT}
+use Rattle.luo_num.specs.declared.limits.TheConstants.{STRUCTURE_TEXT_LIMIT, NESTING_LIMIT, LIST_SIZE_LIMIT, COUNT_LIMIT}
 use Rattle.luo_num.specs.Limits.{limit_message}
 use Rattle.luo_read.specs.declared.answers.StructError.{StructError}
 use Rattle.luo_read.specs.declared.answers.StructError.TheVariants.{Long, S1, Deep, S2, S3, NoMemory}
@@ -11,6 +11,13 @@ use Rattle.luo_top.specs.Refusals.{line, at_byte}
 -- the word names nothing of the kind that is asked for
 abbrev pub unknown_line : List ℕ → List ℕ
 unknown_line word = line (codes "refused: U1: " ++ word)
+
+-- a size past the limit of listings, and a number of structures past its limit
+abbrev pub list_size_line : List ℕ
+list_size_line = line (limit_message (codes "size") LIST_SIZE_LIMIT)
+
+abbrev pub count_line : List ℕ
+count_line = line (limit_message (codes "count") COUNT_LIMIT)
 
 -- the refusal of a text that gives no structure
 abbrev pub refusal_of_structure : StructError → Answer

@@ -1,13 +1,15 @@
 -- The words of the command line.
-use Rattle.std.specs.Prelude.{◌≡◌, ℕ, List, [], ◌∷◌, map, codes, string_bytes, String, Bool, true, false, not, ◌&&◌, leb, ◌==◌, if◌then◌else◌, Option, None, Some}
+use Rattle.std.specs.Prelude.{◌≡◌, ◌<◌, ℕ, List, [], ◌∷◌, map, codes, string_bytes, String, Bool, true, false, not, ◌&&◌, leb, ◌==◌, if◌then◌else◌, Option, None, Some}
 use Rattle.std.specs.declared.alloc.Global.{Global}
-use Rattle.std.specs.Option.{option_map}
+use Rattle.std.specs.Option.{option_map, option_and_then}
 use Rattle.std.specs.Str.{bytes_eq}
+use Rattle.luo_finite.specs.Steps.{◌or_else◌}
+use Rattle.luo_num.specs.declared.limits.TheConstants.{SIZE_LIMIT, SAMPLE_LIMIT}
 use Rattle.luo_scan.specs.Spellings.{value_after}
-use Rattle.luo_top.specs.declared.status.Status.TheVariants.{Usage}
+use Rattle.luo_top.specs.declared.status.Status.TheVariants.{Usage, Limit}
 use Rattle.luo_top.specs.Answer.{Answer, Refusal}
-use Rattle.luo_top.specs.Refusals.{usage_line}
-use Rattle.luo_top.specs.Step.{Step, ◌or_makes◌}
+use Rattle.luo_top.specs.Refusals.{usage_line, size_line, sample_line}
+use Rattle.luo_top.specs.Step.{Step, ◌or_makes◌, RefusedWhere}
 
 -- the bytes of each word
 abbrev pub texts : List (String Global) → List (List ℕ)
@@ -18,6 +20,8 @@ pub data Command : Type 0 where
   Analyse : List ℕ → ℕ → Command
   Format : List ℕ → Command
   Run : List ℕ → List ℕ → List ℕ → Command
+  Sample : ℕ → ℕ → Command
+  Listing : List ℕ → List ℕ → ℕ → ℕ → ℕ → Command
 
 abbrev pub are_digits : List ℕ → Bool
 are_digits [] = true
@@ -48,6 +52,17 @@ abbrev pub run_of : List (List ℕ) → Option Command
 run_of (file ∷ procedure ∷ structure ∷ []) = Some (Run file procedure structure)
 run_of other = None
 
+-- NUMBER N
+abbrev pub sample_of : List (List ℕ) → Option Command
+sample_of (number ∷ n ∷ []) = option_and_then (λ k. option_map (Sample k) (number_of n)) (number_of number)
+sample_of other = None
+
+-- FILE TYPE N START COUNT
+abbrev pub list_of : List (List ℕ) → Option Command
+list_of (file ∷ name ∷ n ∷ start ∷ count ∷ []) =
+    option_and_then (λ size. option_and_then (λ place. option_map (Listing file name size place) (number_of count)) (number_of start)) (number_of n)
+list_of other = None
+
 -- the command whose form the words have
 abbrev pub command_of : List (List ℕ) → Option Command
 command_of [] = None
@@ -55,6 +70,8 @@ command_of (name ∷ rest) =
     if bytes_eq name (codes "analyse") then analyse_of rest
     else if bytes_eq name (codes "format") then format_of rest
     else if bytes_eq name (codes "run") then run_of rest
+    else if bytes_eq name (codes "sample") then sample_of rest
+    else if bytes_eq name (codes "list") then list_of rest
     else None
 
 -- the words have the form of no command
@@ -66,12 +83,20 @@ abbrev pub files_of : Command → List (List ℕ)
 files_of (Analyse file n) = file ∷ []
 files_of (Format file) = file ∷ []
 files_of (Run file procedure structure) = file ∷ []
+files_of (Sample number n) = []
+files_of (Listing file name n start count) = file ∷ []
+
+-- a number that is too large, and else a size that is
+abbrev pub LimitOfSample : ℕ → ℕ → Answer → Type 0
+LimitOfSample number n = RefusedWhere (SAMPLE_LIMIT < number) Limit sample_line or_else RefusedWhere (SIZE_LIMIT < n) Limit size_line
 
 -- the limits that the words of a command pass by themselves: none, where its numbers are looked at behind its file
 abbrev pub LimitOfWords : Command → Answer → Type 0
 LimitOfWords (Analyse file n) answer = ⊥
 LimitOfWords (Format file) answer = ⊥
 LimitOfWords (Run file procedure structure) answer = ⊥
+LimitOfWords (Sample number n) answer = LimitOfSample number n answer
+LimitOfWords (Listing file name n start count) answer = ⊥
 
 -- what the words alone refuse: that they have no form, or a limit that they pass
 abbrev pub WordsRefusal : Option Command → Answer → Type 0

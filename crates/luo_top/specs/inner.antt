@@ -1,4 +1,5 @@
 pub mod Filled
 pub mod Found
+pub mod Listed
 pub mod Passes
 pub mod Requests

@@ -23,5 +23,13 @@ pub fn answer<F: Files>(alloc: Global, words: &[String], files: &mut F) -> Resul
             procedure,
             structure,
         } => commands::run_procedure(alloc, files, file, procedure, structure),
+        Request::Sample { number, last } => commands::sample_summary(alloc, number, last),
+        Request::Listing {
+            file,
+            name,
+            last,
+            start,
+            most,
+        } => commands::list_structures(alloc, files, file, name, last, start, most),
     }
 }

@@ -1,5 +1,6 @@
 // Laws of the outcome.
-ghost use Rattle.luo_top.specs.Laws.{OutcomeIsOne, OutcomeComes, OutcomeIsTold, OutcomeIsAsWritten, NumbersAreSpelled, AnalyseIsSpelled, FormatIsSpelled, RunIsSpelled};
+ghost use Rattle.luo_top.specs.Laws.{OutcomeIsOne, OutcomeComes, OutcomeIsTold, OutcomeIsAsWritten, SamplesAreTaken};
+ghost use Rattle.luo_top.specs.Laws.{NumbersAreSpelled, AnalyseIsSpelled, FormatIsSpelled, RunIsSpelled, ListIsSpelled, SampleIsSpelled};
 
 /// Over what a source tells, and for all words, at most one answer is the outcome.
 pub fn outcome_is_one()
@@ -27,5 +28,13 @@ pub fn commands_are_spelled()
     ensures analyse { AnalyseIsSpelled }
     ensures format { FormatIsSpelled }
     ensures run { RunIsSpelled }
+    ensures sample { SampleIsSpelled }
+    ensures list { ListIsSpelled }
     ensures numbers { NumbersAreSpelled }
+{}
+
+/// A sample whose words pass no limit is refused for nothing but a number that is too large: its text has tokens and
+/// derives a source, which passes no limit, breaks no rule, and has a well-founded core form.
+pub fn samples_are_taken()
+    ensures { SamplesAreTaken }
 {}

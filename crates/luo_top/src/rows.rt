@@ -22,8 +22,8 @@ fn procedure_at(procs: &[Proc], f: usize) -> &Proc
     &procs[f]
 }
 
-// The row of procedure f of size n.
-fn row_at(program: &Program, engine: &Engine<'_>, last: u32, f: usize, n: u32) -> Row
+/// The row of procedure f of size n.
+pub fn row_at(program: &Program, engine: &Engine<'_>, last: u32, f: usize, n: u32) -> Row
     requires full { engine.now ≡ full program.now All last }
     requires there { f < length program.now.procs }
     requires size { n ≤ last }

@@ -1,6 +1,7 @@
 // The steps that commands share. Each answers the next thing, or a refusal.
 mod filling;
 mod founding;
+mod listing;
 mod program;
 mod size;
 mod source;
@@ -9,7 +10,8 @@ mod text;
 
 pub use filling::tables;
 pub use founding::founded;
-pub use program::file_program;
+pub use listing::{counted, list_sized, type_of};
+pub use program::{core_of, file_program};
 pub use size::sized;
-pub use source::file_source;
+pub use source::{file_source, source_of, tokens_of};
 pub use structure::{procedure_of, structure_of};

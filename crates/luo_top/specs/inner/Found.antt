@@ -1,6 +1,7 @@
--- The procedure of a name, found from the first one on; and the text of a run, put behind another.
+-- The type or the procedure of a name, found from the first one on; and the text of a run, put behind another.
 use Rattle.std.specs.Prelude.{◌≡◌, ℕ, suc, Bool, true, false, List, [], ◌∷◌, ◌++◌, if◌then◌else◌, Option, None, Some, slice_get}
 use Rattle.std.specs.Str.{bytes_eq}
+use Rattle.luo_model.specs.declared.program.Def.{Def}
 use Rattle.luo_model.specs.declared.program.Proc.{Proc}
 use Rattle.luo_model.specs.Program.{Program, Procedure, Result}
 use Rattle.luo_model.specs.Tree.{Tree}
@@ -13,6 +14,11 @@ place_from f (P ∷ procs) name = if bytes_eq P.name name then Some f else place
 -- the place of the first procedure of a name
 abbrev pub place_of : List Proc → List ℕ → Option ℕ
 place_of procs name = place_from 0 procs name
+
+-- the node of the first type of a name
+abbrev pub def_of : List Def → List ℕ → Option ℕ
+def_of [] name = None
+def_of (d ∷ defs) name = if bytes_eq d.name name then Some d.whole.node else def_of defs name
 
 -- procedure f is there
 abbrev pub IsThere : Program → ℕ → Type 0

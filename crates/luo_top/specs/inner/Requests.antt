@@ -4,7 +4,7 @@ use Rattle.luo_top.specs.declared.refusal.Refusal.{Refusal}
 use Rattle.luo_top.specs.declared.refusal.Refusal.TheVariants.{Usage, Refused, Limit, Overflow, ReadFault, NoMemory}
 use Rattle.luo_top.specs.declared.words.TheConstants.{NUMBER_CAP}
 use Rattle.luo_top.specs.declared.words.Request.{Request}
-use Rattle.luo_top.specs.declared.words.Request.TheVariants.{Analyse, Format, Run}
+use Rattle.luo_top.specs.declared.words.Request.TheVariants.{Analyse, Format, Run, Sample, Listing}
 use Rattle.luo_top.specs.declared.status.Status.TheVariants as way
 use Rattle.luo_top.specs.Answer as answer
 use Rattle.luo_top.specs.Outcome.{steps_of}
@@ -23,6 +23,20 @@ abbrev pub IsRequest : words'.Command → Request → Type 0
 IsRequest command (Analyse file last) = (n : ℕ) × (command ≡ words'.Analyse file.now n) × (last ≡ min n NUMBER_CAP)
 IsRequest command (Format file) = command ≡ words'.Format file.now
 IsRequest command (Run file procedure structure) = command ≡ words'.Run file.now procedure.now structure.now
+IsRequest command (Sample number last) = (k : ℕ) × (n : ℕ) × (command ≡ words'.Sample k n) × (number ≡ min k NUMBER_CAP) × (last ≡ min n NUMBER_CAP)
+IsRequest command (Listing file name last start most) =
+    (n : ℕ) × (s : ℕ) × (k : ℕ) × (command ≡ words'.Listing file.now name.now n s k)
+    × (last ≡ min n NUMBER_CAP) × (start ≡ min s NUMBER_CAP) × (most ≡ min k NUMBER_CAP)
+
+-- the request goes on, where the words of its command pass no limit by themselves, and else their limit refuses it
+abbrev pub Keeps : words'.Command → Request → Result Request Refusal → Type 0
+Keeps c request (Ok r) = (r ≡ request) × HasNone (LimitOfWords c)
+Keeps c request (Err Usage) = ⊥
+Keeps c request (Err (Refused l)) = ⊥
+Keeps c request (Err (Limit l)) = LimitOfWords c (answer.Refusal way.Limit (bytes_of l))
+Keeps c request (Err (Overflow l)) = ⊥
+Keeps c request (Err ReadFault) = ⊥
+Keeps c request (Err NoMemory) = ⊥
 
 -- there is no command and no request, or the request is that of the command
 abbrev pub IsRequestOf : Option words'.Command → Option Request → Type 0

@@ -46,7 +46,7 @@ pub fn analyse_file<F: Files>(
     alloc: Global,
     files: &mut F,
     file: &str,
-    last: u64,
+    last: u128,
 ) -> Result<Text, Refusal>
     ensures { (n : ℕ) → last ≡ min n NUMBER_CAP → PassesOver itself (file.now ∷ [])
         (steps.analyse file.now n) (seen F.named F.faults files.old files.new) result }

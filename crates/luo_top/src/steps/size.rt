@@ -9,11 +9,11 @@ use crate::refusal::{Line, Refusal};
 use luo_num::limits::{SIZE_LIMIT, SIZE_LIMIT_LINE};
 
 /// A size within its limit, from a number that is told up to `NUMBER_CAP`.
-pub fn sized(last: u64) -> Result<u32, Refusal>
+pub fn sized(last: u128) -> Result<u32, Refusal>
     ensures passes { (n : ℕ) → last ≡ min n NUMBER_CAP → Passes itself (steps.sized n) result }
     ensures size { IfOk result (λ m. m ≤ SIZE_LIMIT) }
 {
-    if last > SIZE_LIMIT {
+    if last > u128::from(SIZE_LIMIT) {
         return Err(Refusal::Limit(Line::Fixed(SIZE_LIMIT_LINE)));
     }
     Ok(last as u32)

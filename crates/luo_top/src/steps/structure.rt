@@ -20,8 +20,8 @@ use luo_read::{StructError, read_structure};
 use luo_struct::Structure;
 use std::alloc::Global;
 
-// The line of a word that names nothing of the kind that is asked for.
-fn unknown_line(alloc: Global, word: &[u8]) -> Result<Vec<u8>, NoMemory>
+/// The line of a word that names nothing of the kind that is asked for.
+pub fn unknown_line(alloc: Global, word: &[u8]) -> Result<Vec<u8>, NoMemory>
     ensures { IfOk result (λ text. text.items ≡ unknown_line word.now) }
 {
     let mut text = Vec::from_slice(alloc, b"refused: U1: ")?;

@@ -1,0 +1,62 @@
+-- `list FILE TYPE N START COUNT` from a source on, by what it means as it is written.
+use Rattle.std.specs.Prelude.{◌≡◌, ◌<◌, ◌≤◌, ⊤, ℕ, List}
+use Rattle.luo_finite.specs.Listing.{In, Lists, Pairwise}
+use Rattle.luo_num.specs.declared.TheConstants.{MAX}
+use Rattle.luo_model.specs.declared.table.Fill.TheVariants.{Counts}
+use Rattle.luo_model.specs.Order.{IsBefore}
+use Rattle.luo_model.specs.Tree.{Tree}
+use Rattle.luo_source.specs.declared.names.Name.{Name}
+use Rattle.luo_source.specs.declared.source.Source.{Source}
+use Rattle.luo_source.specs.declared.types.TypeDef.{TypeDef}
+use Rattle.luo_source.specs.declared.types.TypeExpr.{Named}
+use Rattle.luo_rules.specs.Whole.{core}
+use Rattle.luo_meaning.specs.Over.{HasCount}
+use Rattle.luo_meaning.specs.Rows.{IsStructureOf}
+use Rattle.luo_top.specs.declared.status.Status.TheVariants.{Refused}
+use Rattle.luo_top.specs.Answer.{Answer}
+use Rattle.luo_top.specs.AsWritten.Steps.{sound_source, founded_source}
+use Rattle.luo_top.specs.Commands.List.{list_sized, counted, lines_from}
+use Rattle.luo_top.specs.Overflows.{OverflowRefusal}
+use Rattle.luo_top.specs.Step.{Step, ◌or_makes◌, ◌and_then◌, RefusedWhere, makes}
+use Rattle.luo_top.specs.Told.{Told}
+use Rattle.luo_top.specs.WordRefusals.{unknown_line}
+
+-- `type .., name, .. = ..;` stands in the source, and the name has this text
+abbrev pub IsTypeName : Source → List ℕ → Name → Type 0
+IsTypeName source text name = (d : TypeDef) × In d source.types × In name d.names × (name.text ≡ text)
+
+-- a word that names no type, and else the type of this name
+abbrev pub defined_type : Source → List ℕ → Step Name
+defined_type source text = RefusedWhere ((name : Name) → IsTypeName source text name → ⊥) Refused (unknown_line text) or_makes IsTypeName source text
+
+-- some construct has more structures of a size up to `last` than `most`
+abbrev pub HasCountOver : Source → ℕ → ℕ → Type 0
+HasCountOver source most last = (n : ℕ) × (v : ℕ) × (n ≤ last) × (most < v) × HasCount source n v
+
+-- some count up to size n is too large; the first one is named in the order of the core form
+abbrev pub CountOverflowOf : Source → ℕ → Answer → Type 0
+CountOverflowOf source n answer = HasCountOver source MAX n × OverflowRefusal (core source) Counts n answer
+
+-- a count that is too large, and else none up to size n is
+abbrev pub counts : Source → ℕ → Step ⊤
+counts source n = CountOverflowOf source n or_makes λ _. HasCountOver source MAX n → ⊥
+
+-- the structures of the type of this name of size n, each once and in order
+abbrev pub IsOrderedListingOf : Source → Name → ℕ → List Tree → Type 0
+IsOrderedListingOf source name n l = Lists (IsStructureOf source (Named name) n) l × Pairwise IsBefore l
+
+-- these bytes are the lines of the structures of the type of size n from place `start` on, at most k of them
+abbrev pub IsListTextOf : Source → Name → ℕ → ℕ → ℕ → List ℕ → Type 0
+IsListTextOf source name n start k bytes = (l : List Tree) × IsOrderedListingOf source name n l × (bytes ≡ lines_from start k l)
+
+abbrev pub listed_of : Source → Name → ℕ → ℕ → ℕ → Step (List ℕ)
+listed_of source name n start k = makes (IsListTextOf source name n start k)
+
+-- from the type on
+abbrev pub list_by : Source → ℕ → ℕ → ℕ → Name → Step (List ℕ)
+list_by source n start k name = list_sized n and_then λ size. counted k and_then λ count. counts source size and_then λ _. listed_of source name size start count
+
+-- the structures of the type of this name of size n from place `start` on, at most k of them
+abbrev pub list_source : List ℕ → List ℕ → ℕ → ℕ → ℕ → Told → Step (List ℕ)
+list_source file name n start k told =
+    sound_source file told and_then λ source. founded_source source and_then λ _. defined_type source name and_then list_by source n start k
