@@ -50,6 +50,10 @@ listed p x n start k = makes (IsListText p x n start k)
 abbrev pub list_of : Program → ℕ → ℕ → ℕ → ℕ → Step (List ℕ)
 list_of p n start k x = list_sized n and_then λ size. counted k and_then λ count. tables Counts p size and_then λ _. listed p x size start count
 
+-- from the program on
+abbrev pub list_named : List ℕ → ℕ → ℕ → ℕ → Program → Step (List ℕ)
+list_named name n start k p = founded p and_then λ _. type_of p name and_then list_of p n start k
+
 -- the structures of the type of this name of size n from place `start` on, at most k of them
 abbrev pub list : List ℕ → List ℕ → ℕ → ℕ → ℕ → Told → Step (List ℕ)
-list file name n start k told = file_program file told and_then λ p. founded p and_then λ _. type_of p name and_then list_of p n start k
+list file name n start k told = file_program file told and_then list_named name n start k

@@ -21,7 +21,7 @@ use itoa::Buffer;
 use luo_engine::Engine;
 use luo_founded::Ranks;
 use luo_list::Cursor;
-use luo_model::Fill;
+use luo_model::{Fill, Program};
 use luo_num::{Items, NoMemory, Text};
 use luo_outside::Files;
 use luo_rank::Ranker;
@@ -123,6 +123,46 @@ fn listed<'p>(
     Ok(Items::from_vec(text))
 }
 
+// The structures of a node, where the size and how many there are keep within the limits of listings.
+fn list_node<'p>(
+    alloc: Global,
+    program: &'p Program,
+    ranks: &'p Ranks<'p>,
+    node: usize,
+    last: u128,
+    start: u128,
+    most: u128,
+) -> Result<Text, Refusal>
+    requires ranks { ranks.now ≡ program.now }
+    requires node { node < length program.now.nodes }
+    ensures { (n s k : ℕ) → last ≡ min n NUMBER_CAP → start ≡ min s NUMBER_CAP
+        → most ≡ min k NUMBER_CAP
+        → Passes itself (steps.list_of (plain_of program.now) n s k node) result }
+{
+    let size = list_sized(last)?;
+    let count = counted(most)?;
+    let engine = tables(alloc, program, ranks, size, Fill::Counts)?;
+    listed(alloc, ranks, &engine, node, size, start, count)
+}
+
+// The structures of the type of this name in a program.
+fn list_type(
+    alloc: Global,
+    program: &Program,
+    name: &str,
+    last: u128,
+    start: u128,
+    most: u128,
+) -> Result<Text, Refusal>
+    ensures { (n s k : ℕ) → last ≡ min n NUMBER_CAP → start ≡ min s NUMBER_CAP
+        → most ≡ min k NUMBER_CAP
+        → Passes itself (steps.list_named name.now n s k (plain_of program.now)) result }
+{
+    let ranks = founded(alloc, program)?;
+    let node = type_of(alloc, program, name)?;
+    list_node(alloc, program, &ranks, node, last, start, most)
+}
+
 /// The structures of the type of this name of size `last`, from the place `start` on, and at most `most` of them. The
 /// three numbers are told up to `NUMBER_CAP`.
 pub fn list_structures<F: Files>(
@@ -139,10 +179,5 @@ pub fn list_structures<F: Files>(
         (steps.list file.now name.now n s k) (seen F.named F.faults files.old files.new) result }
 {
     let program = file_program(alloc, files, file)?;
-    let ranks = founded(alloc, &program)?;
-    let node = type_of(alloc, &program, name)?;
-    let size = list_sized(last)?;
-    let count = counted(most)?;
-    let engine = tables(alloc, &program, &ranks, size, Fill::Counts)?;
-    listed(alloc, &ranks, &engine, node, size, start, count)
+    list_type(alloc, &program, name, last, start, most)
 }
