@@ -4,7 +4,9 @@ use Rattle.luo_model.specs.Tree.{Tree, Trees, Inj, Tup, Coll}
 use Rattle.luo_model.specs.Charges.{EachCharges}
 use Rattle.luo_source.specs.declared.statements.Stmt.{Stmt, Skip, Charge, Call, Block', Case', Forall', Row_of-Stmt, end_of-Stmt, more_of-Stmt, Row_of-SourceArm, end_of-SourceArm, more_of-SourceArm}
 use Rattle.luo_source.specs.declared.values.SourceValue as value
-use Rattle.luo_source.specs.declared.values.SourceValue.{SourceValue, Given, Made, Atom, Tuple', Branch', Row_of-SourceValue, end_of-SourceValue, more_of-SourceValue, Row_of-SourceValueArm, end_of-SourceValueArm, more_of-SourceValueArm}
+use Rattle.luo_source.specs.declared.values.SourceValue.{SourceValue, Given, Made, Atom, Tuple', Branch'}
+use Rattle.luo_source.specs.declared.values.SourceValue.{Row_of-SourceValue, end_of-SourceValue, more_of-SourceValue}
+use Rattle.luo_source.specs.declared.values.SourceValue.{Row_of-SourceValueArm, end_of-SourceValueArm, more_of-SourceValueArm}
 use Rattle.luo_source.specs.declared.source.ProcBody.{ProcBody}
 use Rattle.luo_source.specs.declared.source.ProcBody.TheVariants.{Statements, Value}
 use Rattle.luo_source.specs.declared.source.ProcDef.{ProcDef}

@@ -17,7 +17,11 @@ choices = record {
   universe = Unlabelled;
   types =
       record { names = name (codes "a") 1 ∷ name (codes "b") 3 ∷ []; body = Atom 1 7 5 }
-      ∷ record { names = name (codes "z") 11 ∷ []; body = Union' (tt ∷ tt ∷ []) (more_of-TypeExpr (Named (name (codes "a") 13)) (more_of-TypeExpr (Named (name (codes "b") 15)) end_of-TypeExpr)) }
+      ∷ record {
+        names = name (codes "z") 11 ∷ [];
+        body = Union' (tt ∷ tt ∷ [])
+            (more_of-TypeExpr (Named (name (codes "a") 13)) (more_of-TypeExpr (Named (name (codes "b") 15)) end_of-TypeExpr));
+      }
       ∷ record { names = name (codes "u") 18 ∷ []; body = Coll' Powerset _ (more_of-TypeExpr (Named (name (codes "z") 22)) end_of-TypeExpr) (Some (record { range = AtMost 2; at = 24 })) 20 }
       ∷ record { names = name (codes "x") 30 ∷ []; body = Coll' Multiset _ (more_of-TypeExpr (Named (name (codes "z") 34)) end_of-TypeExpr) (Some (record { range = AtMost 2; at = 36 })) 32 }
       ∷ [];

@@ -38,12 +38,14 @@ ConstructsAreKept =
 -- a procedure charges what the one of its name does
 abbrev pub ChargesAreKept : Type 0
 ChargesAreKept =
-    (source : Source) (p : Program) → IsSource source → IsCore source p → (f : ℕ) (P : Procedure) → slice_get p.procs f ≡ Some P → (t : Tree) (q : ℕ) → Charges p f t q ↔ ProcCharges source P.name t q
+    (source : Source) (p : Program) → IsSource source → IsCore source p → (f : ℕ) (P : Procedure) → slice_get p.procs f ≡ Some P
+    → (t : Tree) (q : ℕ) → Charges p f t q ↔ ProcCharges source P.name t q
 
 -- a procedure makes what the one of its name does
 abbrev pub MadeIsKept : Type 0
 MadeIsKept =
-    (source : Source) (p : Program) → IsSource source → IsCore source p → (f : ℕ) (P : Procedure) → slice_get p.procs f ≡ Some P → (t r : Tree) → Makes p f t r ↔ ProcMakes source P.name t r
+    (source : Source) (p : Program) → IsSource source → IsCore source p → (f : ℕ) (P : Procedure) → slice_get p.procs f ≡ Some P
+    → (t r : Tree) → Makes p f t r ↔ ProcMakes source P.name t r
 
 -- a number is the count of some node exactly where it is that of some construct
 abbrev pub CountsAreKept : Type 0
@@ -58,7 +60,8 @@ TotalsAreKept =
 -- the rows of a procedure are those of the one in its place of the source
 abbrev pub RowsAreKept : Type 0
 RowsAreKept =
-    (source : Source) (p : Program) → IsSource source → IsChecked source p → (f : ℕ) (d : ProcDef) → slice_get source.procs f ≡ Some d → (row : Row) → IsRow p f row ↔ IsRowOf source d row
+    (source : Source) (p : Program) → IsSource source → IsChecked source p → (f : ℕ) (d : ProcDef) → slice_get source.procs f ≡ Some d
+    → (row : Row) → IsRow p f row ↔ IsRowOf source d row
 
 -- rows of procedure f for the sizes n, n + 1, ..
 abbrev pub AreRows : Program → ℕ → ℕ → List Row → Type 0
@@ -74,7 +77,8 @@ AreTables p last _ _ = ⊥
 -- the tables of the analyze lines are those of the source
 abbrev pub TablesAreKept : Type 0
 TablesAreKept =
-    (source : Source) (p : Program) → IsSource source → IsChecked source p → (last : ℕ) (tables : List (List Row)) → AreTables p last p.analyses tables ↔ AreTablesOf source last source.analyses tables
+    (source : Source) (p : Program) → IsSource source → IsChecked source p
+    → (last : ℕ) (tables : List (List Row)) → AreTables p last p.analyses tables ↔ AreTablesOf source last source.analyses tables
 
 -- a procedure has the name that it has in the source, and its parameter's part names the definition of the type's name
 abbrev pub HeadingsAreKept : Type 0

@@ -4,7 +4,9 @@ use Rattle.luo_model.specs.Tree as tree
 use Rattle.luo_model.specs.Tree.{Tree, Trees, Inj, Tup, none, more}
 use Rattle.luo_source.specs.declared.types.TypeExpr as type
 use Rattle.luo_source.specs.declared.types.TypeExpr.{TypeExpr}
-use Rattle.luo_source.specs.declared.values.SourceValue.{SourceValue, Given, Made, Atom, Tuple', Branch', Case', Row_of-SourceValue, end_of-SourceValue, more_of-SourceValue, Row_of-SourceValueArm, end_of-SourceValueArm, more_of-SourceValueArm}
+use Rattle.luo_source.specs.declared.values.SourceValue.{SourceValue, Given, Made, Atom, Tuple', Branch', Case'}
+use Rattle.luo_source.specs.declared.values.SourceValue.{Row_of-SourceValue, end_of-SourceValue, more_of-SourceValue}
+use Rattle.luo_source.specs.declared.values.SourceValue.{Row_of-SourceValueArm, end_of-SourceValueArm, more_of-SourceValueArm}
 use Rattle.luo_source.specs.declared.source.ProcBody.{ProcBody}
 use Rattle.luo_source.specs.declared.source.ProcBody.TheVariants.{Statements, Value}
 use Rattle.luo_source.specs.declared.source.ProcDef.{ProcDef}
@@ -29,7 +31,8 @@ module _ (source : Source) (R : List ℕ → Tree → Tree → Type 0) where
     ValueMakes e env (Tuple' size parts at) r = (es : List TypeExpr) × (ts : Trees) × IsProductOf source e es × ValuesMake es env parts ts × (r ≡ Tup ts)
     -- `i : v`, where e leads to a union: what v makes for branch i, under this number
     ValueMakes e env (Branch' number at size inner) r =
-        (es : List TypeExpr) × (i : ℕ) × (f : TypeExpr) × (t : Tree) × IsUnionOf source e es × (number ≡ suc i) × (slice_get es i ≡ Some f) × InnerMakes f env inner t × (r ≡ Inj number t)
+        (es : List TypeExpr) × (i : ℕ) × (f : TypeExpr) × (t : Tree) × IsUnionOf source e es × (number ≡ suc i)
+        × (slice_get es i ≡ Some f) × InnerMakes f env inner t × (r ≡ Inj number t)
     -- `case x of .. end`: what the arm for the structure of x makes
     ValueMakes e env (Case' var size arms) r = (t : Tree) × (structure_of env var.text ≡ Some t) × ArmsMake e arms t r
 

@@ -22,7 +22,9 @@ module _ (source : Source) (P : TypeExpr → (Tree → ℕ → Type 0) → Type 
     pub SomeSite : Types → Stmt → Type 0
     SomeSite types (Call callee arg) = (e : TypeExpr) × (type_of types arg.text ≡ Some e) × P e (ProcCharges source callee.text)
     SomeSite types (Block' size stmts) = SomeSites types stmts
-    SomeSite types (Case' var size arms) = (e : TypeExpr) × (stands : List TypeExpr) × (type_of types var.text ≡ Some e) × AreStands source e stands × (P e (ArmsCharge source (ProcCharges source) arms) ⊎ SomeArm stands arms)
+    SomeSite types (Case' var size arms) =
+        (e : TypeExpr) × (stands : List TypeExpr) × (type_of types var.text ≡ Some e) × AreStands source e stands
+        × (P e (ArmsCharge source (ProcCharges source) arms) ⊎ SomeArm stands arms)
     SomeSite types (Forall' var over size body) =
         (e : TypeExpr) × (f : TypeExpr) × (type_of types over.text ≡ Some e) × IsCollectionOf source e f
         × (P e (λ t q. (ts : Trees) × (t ≡ Coll ts) × EachCharges (λ u. StmtsCharge source (ProcCharges source) ((var.text, u) ∷ []) body) ts q)
@@ -46,7 +48,8 @@ module _ (source : Source) (P : TypeExpr → (Tree → ℕ → Type 0) → Type 
     SomeValueSite types (Tuple' size parts at) = SomePartSite types parts
     SomeValueSite types (Branch' number at size inner) = SomeInnerSite types inner
     SomeValueSite types (value.Case' var size arms) =
-        (e : TypeExpr) × (stands : List TypeExpr) × (type_of types var.text ≡ Some e) × AreStands source e stands × (P e (ValueArmsCharge source (ProcCharges source) arms) ⊎ SomeValueArm stands arms)
+        (e : TypeExpr) × (stands : List TypeExpr) × (type_of types var.text ≡ Some e) × AreStands source e stands
+        × (P e (ValueArmsCharge source (ProcCharges source) arms) ⊎ SomeValueArm stands arms)
     SomeValueSite types _ = ⊥
 
     pub SomePartSite : Types → {n : _} → Row_of-SourceValue n → Type 0

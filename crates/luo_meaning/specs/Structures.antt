@@ -49,7 +49,8 @@ mutual
     -- `product(e0, e1, ..)`: a tuple with a structure of each factor, in order
     tuple : {size : _} {parts : _} {at : ℕ} {ts : Trees} → AreOf source (exprs_in parts) ts → IsOf source (Product' size parts at) (Tup ts)
     -- `sequence(e, bound)`, `set`, `cycle`, `multiset`, `powerset`: structures of e, of a number that is allowed, standing as the kind says
-    collection : {kind : Kind} {size : _} {part : _} {bound : Option Bound} {at : ℕ} {ts : Trees} (e : TypeExpr) → exprs_in part ≡ e ∷ [] → AllowsCount kind bound (length (to_list ts)) → EachOf source e ts
+    collection : {kind : Kind} {size : _} {part : _} {bound : Option Bound} {at : ℕ} {ts : Trees} (e : TypeExpr)
+        → exprs_in part ≡ e ∷ [] → AllowsCount kind bound (length (to_list ts)) → EachOf source e ts
         → ComponentsStand kind (to_list ts) → IsOf source (Coll' kind size part bound at) (Coll ts)
 
   -- as many trees as type expressions, each of its own

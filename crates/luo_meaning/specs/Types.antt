@@ -27,7 +27,8 @@ pub data IsProductOf (source : Source) (e : TypeExpr) : List TypeExpr → Type 0
 
 -- it leads to a collection of this component
 pub data IsCollectionOf (source : Source) (e : TypeExpr) : TypeExpr → Type 0 where
-  collection_of : {kind : Kind} {size : _} {part : _} {bound : Option Bound} {at : ℕ} (f : TypeExpr) → exprs_in part ≡ f ∷ [] → LeadsTo source (Coll' kind size part bound at) e → IsCollectionOf source e f
+  collection_of : {kind : Kind} {size : _} {part : _} {bound : Option Bound} {at : ℕ} (f : TypeExpr) → exprs_in part ≡ f ∷ []
+      → LeadsTo source (Coll' kind size part bound at) e → IsCollectionOf source e f
 
 -- the variables of a scope: names with types
 abbrev pub Types : Type 0

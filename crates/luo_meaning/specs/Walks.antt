@@ -15,7 +15,8 @@ use Rattle.luo_meaning.specs.Types.{LeadsTo, Types, type_of, BindsTypes, AreStan
 
 -- a walk over e has components of f, and counts 1 where e leads to a multiset or a powerset, and else 0
 pub data IsWalkOver (source : Source) (e f : TypeExpr) : ℕ → Type 0 where
-  walk_over : {kind : Kind} {size : _} {part : _} {bound : Option Bound} {at : ℕ} → exprs_in part ≡ f ∷ [] → LeadsTo source (Coll' kind size part bound at) e → IsWalkOver source e f (multiset_of kind)
+  walk_over : {kind : Kind} {size : _} {part : _} {bound : Option Bound} {at : ℕ} → exprs_in part ≡ f ∷ []
+      → LeadsTo source (Coll' kind size part bound at) e → IsWalkOver source e f (multiset_of kind)
 
 module _ (source : Source) where
   abbrev mutual
@@ -34,7 +35,8 @@ module _ (source : Source) where
     pub ArmsWalk : List TypeExpr → {n : _} → Row_of-SourceArm n → ℕ → Type 0
     ArmsWalk stands end_of-SourceArm n = n ≡ 0
     ArmsWalk [] (more_of-SourceArm pattern body rest) n = ⊥
-    ArmsWalk (e ∷ stands) (more_of-SourceArm pattern body rest) n = (types : Types) × (a : ℕ) × (b : ℕ) × BindsTypes source pattern e types × StmtWalks types body a × ArmsWalk stands rest b × (n ≡ a + b)
+    ArmsWalk (e ∷ stands) (more_of-SourceArm pattern body rest) n =
+        (types : Types) × (a : ℕ) × (b : ℕ) × BindsTypes source pattern e types × StmtWalks types body a × ArmsWalk stands rest b × (n ≡ a + b)
 
   abbrev pub ListWalks : Types → List Stmt → ℕ → Type 0
   ListWalks types [] n = n ≡ 0
