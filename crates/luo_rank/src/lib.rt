@@ -7,13 +7,13 @@ mod choices;
 mod filling;
 mod firsts;
 pub mod laws;
-mod lookup;
-mod making;
-mod parting;
+pub mod lookup;
+pub mod making;
+pub mod parting;
 mod planes;
 mod ranker;
 mod rests;
 mod shares;
-mod tables;
+pub mod tables;
 
 pub use ranker::Ranker;

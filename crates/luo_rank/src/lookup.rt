@@ -17,7 +17,11 @@ use luo_num::{Items, NoMemory};
 use luo_struct::Structure;
 use std::alloc::Global;
 
-// The structure at a place among those of a node on these labels.
+/// The structure at a place among those of a node of size `n` on these labels.
+///
+/// # Errors
+///
+/// `NoMemory` where memory is refused.
 #[cycle(lookup)]
 pub fn structure_at(
     alloc: Global,
@@ -59,9 +63,14 @@ pub fn structure_at(
     }
 }
 
-// Puts what stands at a place of what is left behind f parts behind those in `out`.
+/// Puts what stands at a place of what is left behind `f` parts of a structure of node `x`, of size `n`
+/// together, behind the structures in `out`.
+///
+/// # Errors
+///
+/// `NoMemory` where memory is refused.
 #[cycle(lookup)]
-fn row_at(
+pub fn row_at(
     alloc: Global,
     tables: &Tables<'_>,
     x: usize,

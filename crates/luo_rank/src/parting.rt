@@ -14,10 +14,12 @@ use luo_model::Universe;
 use luo_num::{Items, NoMemory};
 use std::alloc::Global;
 
-// Labels in two parts.
+/// Labels in two parts.
 #[derive(Drop)]
 pub struct Parted {
+    /// The labels of the first.
     pub first: Items<u32>,
+    /// The labels of the rest.
     pub rest: Items<u32>,
 }
 
@@ -76,7 +78,11 @@ fn choose_labels(
     Ok(Parted { first, rest })
 }
 
-// The labels of a first of this size with this place among those that it can have, and those of the rest.
+/// The labels of a first of this size with this place among those that it can have, and those of the rest.
+///
+/// # Errors
+///
+/// `NoMemory` where memory is refused.
 pub fn part_labels(
     alloc: Global,
     tables: &Tables<'_>,

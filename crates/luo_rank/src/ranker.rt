@@ -10,6 +10,7 @@ ghost use Rattle.luo_finite.specs.Places.{IsPlace};
 ghost use Rattle.luo_struct.specs.View.{tree_of};
 ghost use Rattle.luo_struct.specs.Small.{IsSmall};
 ghost use Rattle.luo_rank.specs.inner.Halving.{IsHalf};
+ghost use Rattle.luo_rank.specs.inner.Lookup.{IsLooked, entry_of};
 
 use crate::filling::tables_of;
 use crate::lookup::structure_at;
@@ -145,6 +146,23 @@ impl<'p> Ranker<'p> {
             size,
             rank,
         )
+    }
+
+    /// The node whose structures are found.
+    pub fn node(&self) -> usize
+        ensures { result ≡ self.now.node }
+    {
+        self.node
+    }
+
+    /// The tables in which structures are looked up.
+    pub fn tables(&self) -> &Tables<'p>
+        ensures looked { IsLooked result.now }
+        ensures same { (result.now.program ≡ self.now.program) × (result.now.last ≡ self.now.size) }
+        ensures node { self.now.node < length result.now.program.nodes }
+        ensures count { self.now.count ≡ entry_of result.now.counts self.now.node result.now.last }
+    {
+        &self.tables
     }
 
     // Half of the places, in which that of s lies.

@@ -15,15 +15,22 @@ use luo_model::{Kind, Program, Shape, Universe};
 use luo_num::Items;
 use std::marker::Model;
 
-// The numbers of a program up to a size.
+/// The numbers of a program up to a size.
 #[derive(Drop)]
 pub struct Tables<'p> {
+    /// The program.
     pub program: &'p Program,
+    /// The binomials.
     pub pascal: Pascal,
+    /// The last size.
     pub last: usize,
+    /// The rank of each node.
     pub ranks: Items<u32>,
+    /// For each node its counts.
     pub counts: Items<Items<u128>>,
+    /// For each node the counts of what is left behind its parts, from the last part down.
     pub rests: Items<Items<Items<u128>>>,
+    /// For each node of multisets or powersets the planes of its components.
     pub planes: Items<Items<Items<Items<u128>>>>,
 }
 
@@ -43,7 +50,7 @@ impl<'p> Model for Tables<'p> {
 }
 
 impl<'p> Tables<'p> {
-    // The construct of a node.
+    /// The construct of a node.
     pub fn shape(&self, node: usize) -> &'p Shape
         requires { node < length self.now.program.nodes }
         ensures { result.now ≡ shape_of (plain_of self.now.program) node }
@@ -52,7 +59,7 @@ impl<'p> Tables<'p> {
         &program.nodes.as_slice()[node].shape
     }
 
-    // The count of a node at a size.
+    /// The count of a node at a size.
     pub fn entry(&self, node: usize, n: usize) -> u128
         requires node { node < length self.now.program.nodes }
         requires size { n ≤ self.now.last }
@@ -62,7 +69,7 @@ impl<'p> Tables<'p> {
         row.as_slice()[n]
     }
 
-    // The label of an atom.
+    /// The label of an atom.
     pub fn label(&self, labels: &[u32]) -> u32
         ensures { result ≡ label_on self.now.program.universe labels.now }
     {
@@ -76,7 +83,7 @@ impl<'p> Tables<'p> {
         }
     }
 
-    // Whether something is left behind f parts, of size n.
+    /// Whether something is left behind f parts, of size n.
     pub fn goes_on(&self, x: usize, f: usize, n: usize) -> bool
         requires node { x < length self.now.program.nodes }
         requires stands { Stands (shape_of (plain_of self.now.program) x) self.now.last f n }
@@ -89,7 +96,7 @@ impl<'p> Tables<'p> {
         }
     }
 
-    // The node of the first that is left behind f parts.
+    /// The node of the first that is left behind f parts.
     pub fn first_node(&self, x: usize, f: usize, n: usize) -> usize
         requires node { x < length self.now.program.nodes }
         requires tables { IsCounted self.now }
@@ -105,7 +112,7 @@ impl<'p> Tables<'p> {
         }
     }
 
-    // Whether structures carry labels.
+    /// Whether structures carry labels.
     pub fn universe(&self) -> Universe
         ensures { result ≡ self.now.program.universe }
     {
@@ -113,14 +120,14 @@ impl<'p> Tables<'p> {
         program.universe
     }
 
-    // The binomials.
+    /// The binomials.
     pub fn pascal(&self) -> &Pascal
         ensures { result.now ≡ self.now.reach }
     {
         &self.pascal
     }
 
-    // Whether the first that is left behind f parts has the least label.
+    /// Whether the first that is left behind f parts has the least label.
     pub fn is_led(&self, x: usize, f: usize) -> bool
         requires { x < length self.now.program.nodes }
         ensures { IsTrue result ↔ IsLedTail (tail_at (plain_of self.now.program) x f) }
@@ -135,14 +142,14 @@ impl<'p> Tables<'p> {
         }
     }
 
-    // The last size.
+    /// The last size.
     pub fn last(&self) -> usize
         ensures { result ≡ self.now.last }
     {
         self.last
     }
 
-    // The number of nodes.
+    /// The number of nodes.
     pub fn nodes(&self) -> usize
         ensures { result ≡ length self.now.program.nodes }
     {
@@ -150,7 +157,7 @@ impl<'p> Tables<'p> {
         program.nodes.len()
     }
 
-    // The most parts behind which something may be left.
+    /// The most parts behind which something may be left.
     pub fn top(&self, x: usize) -> usize
         requires { x < length self.now.program.nodes }
         ensures { result ≡ top_of (shape_of (plain_of self.now.program) x) self.now.last }
@@ -162,7 +169,7 @@ impl<'p> Tables<'p> {
         }
     }
 
-    // The counts of a node.
+    /// The counts of a node.
     pub fn row(&self, node: usize) -> &[u128]
         requires { node < length self.now.program.nodes }
         ensures { result.now ≡ slice_index_or self.now.counts node [] }
@@ -179,7 +186,7 @@ impl<'p> Tables<'p> {
         self.rests.as_slice()[x].as_slice()
     }
 
-    // How many there are of what is left behind f parts, marked.
+    /// How many there are of what is left behind f parts, marked.
     pub fn rest(&self, x: usize, f: usize) -> &[u128]
         requires tables { IsLooked self.now }
         requires node { x < length self.now.program.nodes }
@@ -192,7 +199,7 @@ impl<'p> Tables<'p> {
         nth(all, at)
     }
 
-    // The plane of the sizes up to d of the components of a node.
+    /// The plane of the sizes up to d of the components of a node.
     pub fn plane(&self, x: usize, d: usize) -> &[Items<u128>]
         requires tables { IsLooked self.now }
         requires node { x < length self.now.program.nodes }
@@ -203,7 +210,7 @@ impl<'p> Tables<'p> {
         self.planes.as_slice()[x].as_slice()[d].as_slice()
     }
 
-    // Whether the components stand by the order.
+    /// Whether the components stand by the order.
     pub fn is_bag(&self, x: usize, f: usize) -> bool
         requires { x < length self.now.program.nodes }
         ensures bag { IsTrue result → IsBagTail (tail_at (plain_of self.now.program) x f) }
@@ -215,7 +222,7 @@ impl<'p> Tables<'p> {
         }
     }
 
-    // The ways to choose the k labels of the first of n.
+    /// The ways to choose the k labels of the first of n.
     pub fn ways(&self, x: usize, f: usize, n: usize, k: usize) -> u128
         requires tables { IsCounted self.now }
         requires node { x < length self.now.program.nodes }
