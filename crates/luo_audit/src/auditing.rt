@@ -11,11 +11,11 @@ ghost use Rattle.luo_audit.specs.inner.Answered.{IsPieceSum, Gathers};
 ghost use Rattle.luo_audit.specs.declared.auditing.AuditError.{AuditError};
 ghost use Rattle.luo_audit.specs.declared.auditing.AuditError.TheVariants as fault;
 
-use crate::piece::piece_sum;
+use crate::piece::{piece_sum, plus};
 use luo_founded::Ranks;
 use luo_model::{Counts, Proc, Program, Row};
 use luo_num::limits::WALKED_LIMIT;
-use luo_num::{Items, NoMemory, Over, add};
+use luo_num::{Items, NoMemory, Over};
 use luo_outside::Gate;
 use std::alloc::{AllocError, AllocFailed, Global};
 use std::thread;
@@ -164,10 +164,7 @@ fn gathered(
     let mut total = 0;
     for i in 0..workers as usize {
         let sum = found[i]?;
-        let Some(larger) = add(total, sum) else {
-            return Err(AuditError::Over);
-        };
-        total = larger;
+        total = plus(total, sum)?;
         sums.push(sum)?;
     }
     let row = Row { n, count, total };

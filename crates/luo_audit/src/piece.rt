@@ -1,5 +1,5 @@
 // One piece of the work.
-ghost use Rattle.std.specs.Prelude.{◌≡◌, ◌<◌, ◌≤◌, ℕ, List, length, slice_get, Some, IfOk};
+ghost use Rattle.std.specs.Prelude.{◌≡◌, ◌<◌, ◌≤◌, ◌+◌, ℕ, List, length, slice_get, Some, IfOk, MatchResult};
 ghost use Rattle.luo_num.specs.declared.TheConstants.{MAX};
 ghost use Rattle.luo_num.specs.declared.limits.TheConstants.{LIST_SIZE_LIMIT};
 ghost use Rattle.luo_model.specs.Program.{Procedure};
@@ -13,7 +13,7 @@ use luo_founded::Ranks;
 use luo_interp::charge;
 use luo_list::Cursor;
 use luo_model::{Counts, Program};
-use luo_num::add;
+use luo_num::{Over, add};
 use luo_outside::Gate;
 use luo_rank::Ranker;
 use std::alloc::Global;
@@ -26,6 +26,15 @@ fn begin(count: u128, workers: u128, piece: u128) -> u128
     ensures within { result ≤ count }
 {
     piece * (count / workers) + piece.min(count % workers)
+}
+
+// The sum of two numbers. Its error has a type of its own, so that `?` gives `AuditError::Over` and nothing else.
+pub(crate) fn plus(a: u128, b: u128) -> Result<u128, Over>
+    requires a_small { a ≤ MAX }
+    requires b_small { b ≤ MAX }
+    ensures { MatchResult result (λ s. (s ≡ a + b) × (s ≤ MAX)) (λ _. a + b ≤ MAX → ⊥) }
+{
+    add(a, b).ok_or(Over)
 }
 
 // The sum of what a procedure charges on the structures of its parameter's node that a cursor has yet to answer.
@@ -49,10 +58,8 @@ fn walked(
     let mut total = 0;
     while let Some(structure) = cursor.next(alloc)? {
         let charged = charge(program, ranks, callee, &structure)?;
-        let Some(larger) = add(total, charged) else {
-            return Err(AuditError::Over);
-        };
-        total = larger;
+        total = plus(total, charged)?;
+        cursor.step_from(structure);
     }
     Ok(total)
 }

@@ -11,7 +11,7 @@ use Rattle.luo_counting.proofs.Orders.{trees_ordered}
 use Rattle.luo_finite.proofs.OrderedPlaces.{at_listed}
 use Rattle.luo_struct.specs.declared.structure.Structure.{Structure}
 use Rattle.luo_struct.specs.View.{tree_of}
-use Rattle.luo_list.specs.Span.{Span, Answers, Goes, StandsAt, Walk}
+use Rattle.luo_list.specs.Span.{Span, Answers, Goes, HasPassed, StandsAt, Walk}
 
 -- what stands at a place of a list is the first behind those before it
 pub first_behind : {A : Type 0} (l : List A) (r : ℕ) (x : A) → slice_get l r ≡ Some x → drop r l ≡ x ∷ drop (r + 1) l
@@ -63,3 +63,7 @@ goes_on c (t ∷ ss) d s e (f, b, g) a = (f, b, goes_on f ss d s e g a)
 pub goes_to_end : (c : Span) (ss : List Structure) (d : Span) → Goes c ss d → d.place ≡ d.end → Walk c ss
 goes_to_end c [] d g e = (subst (λ (z : Span). z.place ≡ z.end) g e, refl)
 goes_to_end c (s ∷ ss) d (f, b, g) e = (f, b, goes_to_end f ss d g e)
+
+-- what a cursor has answered has the place before the next one
+pub has_passed : (c : Span) (s : Structure) (d : Span) → Answers c (Some s) d → HasPassed d (tree_of s)
+has_passed c s d a = subst (λ (e : Span). HasPassed e (tree_of s)) (sym a.2) (c.place, refl, a.1)

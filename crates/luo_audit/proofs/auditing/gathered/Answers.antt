@@ -1,7 +1,7 @@
 use Rattle.std.proofs.Common.{ℕ, subst, refl, arith, Ok}
 use Rattle.luo_model.specs.View.{plain_of}
 use Rattle.luo_audit.specs.inner.Answered.{IsPieceSum}
-use Rattle.luo_audit.proofs.WalkLemmas.{none_gathered, piece_refused, sum_over, one_gathered, all_gathered}
+use Rattle.luo_audit.proofs.WalkLemmas.{none_gathered, piece_refused, sums_refused, sum_over, one_gathered, all_gathered}
 use Rattle.luo_audit.proofs.auditing.gathered.Goals as goal
 
 pub loop-i-init : goal.loop-i-init
@@ -14,24 +14,25 @@ returns-in_err-sum-clause-sums c =
     (subst (IsPieceSum (plain_of c.args._program.now) c.args._callee c.args.n c.args.workers i) c.in_err-sum.was (c.requires.each i (Ok 0) c.loop-i-test.true))
     c.from_residual.result c.from_residual.ensures.1
 
-pub add-requires-clause-b_in_range : goal.add-requires-clause-b_in_range
-add-requires-clause-b_in_range c =
+pub plus-requires-clause-b_small : goal.plus-requires-clause-b_small
+plus-requires-clause-b_small c =
     let i : ℕ = c.loop-i.i in
     (subst (IsPieceSum (plain_of c.args._program.now) c.args._callee c.args.n c.args.workers i) c.in_ok-sum.was (c.requires.each i (Ok 0) c.loop-i-test.true)).small
 
-pub returns-in_default-clause-sums : goal.returns-in_default-clause-sums
-returns-in_default-clause-sums c =
+pub returns-in_err-total-clause-sums : goal.returns-in_err-total-clause-sums
+returns-in_err-total-clause-sums c = λ charges m.
     let i : ℕ = c.loop-i.i in
-    sum_over c.args._program.now c.args._callee c.args.n c.args.workers i c.loop-i.sums c.loop-i.total c.loop-i.invariant c.in_ok-sum.sum
+    sums_refused charges c.args.workers c.from_residual-in_err-total.result c.from_residual-in_err-total.ensures.1
+    (sum_over c.args._program.now c.args._callee c.args.n c.args.workers i c.loop-i.sums c.loop-i.total c.loop-i.invariant c.in_ok-sum.sum
     (subst (IsPieceSum (plain_of c.args._program.now) c.args._callee c.args.n c.args.workers i) c.in_ok-sum.was (c.requires.each i (Ok 0) c.loop-i-test.true))
-    c.in_default.ensures
+    c.in_err-total.ensures charges m)
 
 pub loop-i-preserved : goal.loop-i-preserved
 loop-i-preserved c =
     let i : ℕ = c.loop-i.i in
     one_gathered c.args._program.now c.args._callee c.args.n c.args.workers i c.loop-i.sums c.loop-i.total c.loop-i.invariant c.in_ok-sum.sum
     (subst (IsPieceSum (plain_of c.args._program.now) c.args._callee c.args.n c.args.workers i) c.in_ok-sum.was (c.requires.each i (Ok 0) c.loop-i-test.true))
-    c.push.new.self c.in-Some.larger c.in_ok-push.ensures.ok c.in-Some.ensures.1 (omega (arith, c.in-Some.ensures.0, c.in-Some.ensures.1))
+    c.push.new.self c.in_ok-total.total c.in_ok-push.ensures.ok c.in_ok-total.ensures.0 c.in_ok-total.ensures.1
 
 pub returns-clause-sums : goal.returns-clause-sums
 returns-clause-sums c =
