@@ -30,7 +30,7 @@ sort_of source (Union' size parts) = inr tt
 sort_of source (Product' size parts at) = inr tt
 sort_of source (Coll' kind size part bound at) = inr tt
 
-names_none : (source : Source) (e : TypeExpr) → IsConstruct e → named_by (names_of source) e ≡ None
+pub names_none : (source : Source) (e : TypeExpr) → IsConstruct e → named_by (names_of source) e ≡ None
 names_none source (Named name) q = absurd q
 names_none source (Epsilon at) q = refl
 names_none source (Atom weight weight_at at) q = refl

@@ -1,13 +1,15 @@
 -- Counts of nodes are counts of constructs, totals of sites are totals of sites, and so for those that are too large.
-use Rattle.std.proofs.Common.{◌≡◌, ◌⊎◌, ◌↔◌, ℕ, zero, suc, ◌+◌, ◌<◌, List, [], ◌∷◌, ◌++◌, length, Some, slice_get, refl, sym, ap, ◌∙◌, subst, inl, inr, arith}
+use Rattle.std.proofs.Common.{◌≡◌, ◌↔◌, ℕ, zero, suc, ◌+◌, ◌<◌, List, [], ◌∷◌, ◌++◌, length, Some, slice_get, refl, sym, ap, ◌∙◌, subst, inl, inr, arith}
 use Rattle.std.specs.Prelude.{flat_map}
-use Rattle.luo_finite.specs.Listing.{In, Totals}
+use Rattle.luo_finite.specs.Listing.{Totals}
 use Rattle.luo_model.specs.Tree.{Tree}
-use Rattle.luo_model.specs.Program.{Program, Procedure}
+use Rattle.luo_model.specs.Levels as level_of
+use Rattle.luo_model.specs.Levels.{WholeLevel, IsLevel}
+use Rattle.luo_model.specs.Program.{Program, Procedure, site_node}
 use Rattle.luo_model.specs.Invariant.{IsProgram}
 use Rattle.luo_model.specs.Member.{Member}
 use Rattle.luo_model.specs.Structures.{IsStructure}
-use Rattle.luo_model.specs.Charges.{of_body, Charges, BodyCharges, WorkCharges}
+use Rattle.luo_model.specs.Charges.{of_body, Charges, BodyCharges, SiteCharges}
 use Rattle.luo_model.proofs.SiteLemmas.{procedures_charge_their_bodies}
 use Rattle.luo_source.specs.declared.types.TypeExpr.{TypeExpr, Named}
 use Rattle.luo_source.specs.declared.source.ProcBody.{ProcBody}
@@ -30,7 +32,8 @@ use Rattle.luo_rules.proofs.CleanSource.{Clean, clean_proc, def_node_is}
 use Rattle.luo_meaning.specs.Structures.{IsOf}
 use Rattle.luo_meaning.specs.Charges.{ProcCharges}
 use Rattle.luo_meaning.specs.Rows.{IsStructureOf}
-use Rattle.luo_meaning.specs.Sites.{SomeBodySite}
+use Rattle.luo_meaning.specs.Levels.{BodyLevel, ProcLevel}
+use Rattle.luo_meaning.specs.Sites.{sites_in, SomeBodySite, SomeProcSite, SomeSiteOf}
 use Rattle.luo_meaning.specs.Constructs.{IsConstructOf}
 use Rattle.luo_meaning.specs.Rows.{IsTotalOf}
 use Rattle.luo_meaning.specs.Over.{HasCount, HasTotal, HasOver}
@@ -44,12 +47,28 @@ use Rattle.luo_meaning.proofs.RowsKept.{clean_source, measures_none, counts_same
 use Rattle.luo_meaning.proofs.Typing.{Holds}
 use Rattle.luo_meaning.proofs.Held.{held}
 use Rattle.luo_meaning.proofs.TypedScopes.{typed_one}
-use Rattle.luo_meaning.proofs.SitesKept.{Related, At, list_some}
+use Rattle.luo_meaning.proofs.LevelsKept.{whole_kept}
+use Rattle.luo_meaning.proofs.SitesKept.{InNode, InType, Related, At, list_some}
+use Rattle.luo_meaning.proofs.ValueSites.{value_same}
 use Rattle.luo_meaning.proofs.ValueSitesKept.{value_some}
 
-module _ (source : Source) (c : Clean source) (none : measures_breaches (names_of source) 0 (measures source) ≡ []) (Q : ℕ → (Tree → ℕ → Type 0) → Type 0) (P : TypeExpr → (Tree → ℕ → Type 0) → Type 0) (related : Related source Q P) where
+module _ (source : Source) (c : Clean source) where
+  -- the core form has as many sites of a body
+  sites_same : (p : ProcDef) (body : ProcBody) (n : ℕ) → type_node (setting_of source) p.on ≡ Some n → body_breaches (setting_of source) p (Some n) body ≡ [] → sites_of (setting_of source) p body ≡ sites_in body
+  sites_same p (Statements stmts) n on e = refl
+  sites_same p (Value colon result value) n on e =
+      let s = setting_of source in
+      let node : node_or (type_node s p.on) ≡ n = ap node_or on in
+      value_same s value (parameter p.param (node_or (type_node s p.on))) (type_node s result)
+      (subst (λ z. value_breaches s (parameter p.param z) (type_node s result) value ≡ []) (sym node)
+      (nil_right (result_breaches s.universe colon p.name ++ type_use (meant s result) result) (value_breaches s (parameter p.param n) (type_node s result) value) e))
+
+  pub many_sites : (f : ℕ) (p : ProcDef) → slice_get source.procs f ≡ Some p → sites_of (setting_of source) p p.body ≡ sites_in p.body
+  many_sites f p there = let k = clean_proc source c f p there in sites_same p p.body (def_node (setting_of source) k.i) (ap (node_meant (setting_of source)) k.on) k.body
+
+module _ (source : Source) (c : Clean source) (none : measures_breaches (names_of source) 0 (measures source) ≡ []) (Q : InNode) (P : InType) (related : Related source Q P) where
   body_some : (p : ProcDef) (body : ProcBody) (n x at : ℕ) → type_node (setting_of source) p.on ≡ Some n → x ≡ n → Holds source x (Named p.on) → ProperBody body → body_breaches (setting_of source) p (Some n) body ≡ []
-      → InBody (core source) (At source c none Q P related) (x ∷ []) (body_core (setting_of source) p at body) ↔ SomeBodySite source P ((p.param.text, Named p.on) ∷ []) body
+      → InBody (core source) (At source c none Q P related) (x ∷ []) (body_core (setting_of source) p at body) ↔ SomeBodySite source P ((p.param.text, Named p.on) ∷ []) at body
   body_some p (Statements stmts) n x at on is holds proper e =
       let s = setting_of source in
       let m = node_or (type_node s p.on) in
@@ -65,15 +84,19 @@ module _ (source : Source) (c : Clean source) (none : measures_breaches (names_o
       (nil_right (result_breaches s.universe colon p.name ++ type_use (meant s result) result) (value_breaches s (parameter p.param n) (type_node s result) value) e))
 
   -- the site of a procedure's whole, and those inside it
-  abbrev Written : ProcDef → Type 0
-  Written p = P (Named p.on) (ProcCharges source p.name.text) ⊎ SomeBodySite source P ((p.param.text, Named p.on) ∷ []) p.body
+  abbrev Whole : ℕ → ProcDef → Type 0
+  Whole at p = P (at + sites_in p.body) (Named p.on) (ProcCharges source p.name.text) (BodyLevel (ProcLevel source) p.body)
 
-  abbrev InCore : ℕ → ProcDef → Type 0
-  InCore at p =
-      At source c none Q P related (proc_core (setting_of source) at p).site (proc_core (setting_of source) at p).on.node (of_body (proc_core (setting_of source) at p).body)
-      ⊎ InBody (core source) (At source c none Q P related) ((proc_core (setting_of source) at p).on.node ∷ []) (proc_core (setting_of source) at p).body
+  abbrev Inside : ℕ → ProcDef → Type 0
+  Inside at p = SomeBodySite source P ((p.param.text, Named p.on) ∷ []) at p.body
 
-  proc_some : (f : ℕ) (p : ProcDef) (at : ℕ) → ProperProc p → slice_get source.procs f ≡ Some p → slice_get (core source).procs f ≡ Some (proc_core (setting_of source) at p) → InCore at p ↔ Written p
+  abbrev WholeCore : ℕ → ProcDef → Type 0
+  WholeCore at p = At source c none Q P related (proc_core (setting_of source) at p).site (proc_core (setting_of source) at p).on.node (of_body (proc_core (setting_of source) at p).body)
+
+  abbrev InsideCore : ℕ → ProcDef → Type 0
+  InsideCore at p = InBody (core source) (At source c none Q P related) ((proc_core (setting_of source) at p).on.node ∷ []) (proc_core (setting_of source) at p).body
+
+  proc_some : (f : ℕ) (p : ProcDef) (at : ℕ) → ProperProc p → slice_get source.procs f ≡ Some p → slice_get (core source).procs f ≡ Some (proc_core (setting_of source) at p) → (WholeCore at p ↔ Whole at p) × (InsideCore at p ↔ Inside at p)
   proc_some f p at proper there core_there =
       let s = setting_of source in
       let names = names_of source in
@@ -92,35 +115,37 @@ module _ (source : Source) (c : Clean source) (none : measures_breaches (names_o
       let D : Tree → ℕ → Type 0 = λ t q. ProcCharges source p.name.text t q in
       let same : (t : Tree) (q : ℕ) → C t q ↔ D t q =
       λ t q. let own = procedures_charge_their_bodies (core source) f (proc_core s at p) t q core_there in let kept = charges_kept source c none p.name.text f k.own_name t q in (λ h. kept.0 (own.1 h), λ h. own.0 (kept.1 h)) in
-      let whole = related x (Named p.on) C D holds same in (
-        λ h. elim h [ inl h ↦ inl (whole.0 h) | inr h ↦ inr (body.0 h) ],
-        λ h. elim h [ inl h ↦ inl (whole.1 h) | inr h ↦ inr (body.1 h) ],
+      let L : ℕ → Type 0 = λ n. level_of.BodyLevel (WholeLevel (core source)) (proc_core s at p).body n in
+      let M : ℕ → Type 0 = BodyLevel (ProcLevel source) p.body in
+      let site = at + sites_in p.body in
+      let number : (proc_core s at p).site ≡ site = ap (λ n. at + n) (many_sites source c f p there) in
+      let whole = related site x (Named p.on) C D L M holds same (λ n. whole_kept source c f p there at n) in (
+        (λ h. whole.0 (subst (λ n. Q n x C L) number h), λ h. subst (λ n. Q n x C L) (sym number) (whole.1 h)),
+        body,
       )
 
   procs_some : (g first : ℕ) (ps : List ProcDef) → ((k : ℕ) (p : ProcDef) → slice_get ps k ≡ Some p → ProperProc p × (slice_get source.procs (g + k) ≡ Some p))
       → ((k : ℕ) (R : Procedure) → slice_get (procs_core (setting_of source) first ps) k ≡ Some R → slice_get (core source).procs (g + k) ≡ Some R)
-      → InProcs (core source) (At source c none Q P related) (procs_core (setting_of source) first ps) ↔ ((p : ProcDef) × In p ps × Written p)
-  procs_some g first [] there core_there = (λ h. absurd h, λ h. absurd h.1)
+      → InProcs (core source) (At source c none Q P related) (procs_core (setting_of source) first ps) ↔ SomeProcSite source P first ps
+  procs_some g first [] there core_there = (λ h. h, λ h. h)
   procs_some g first (p ∷ ps) there core_there =
       let s = setting_of source in
       let one = proc_some (g + 0) p first (there zero p refl).0 (there zero p refl).1 (core_there zero (proc_core s first p) refl) in
-      let more = procs_some (suc g) (first + sites_of s p p.body + 1) ps (λ k q e. let h = there (suc k) q e in (h.0, ap (slice_get source.procs) (omega arith) ∙ h.1)) (λ k R e. ap (slice_get (core source).procs) (omega arith) ∙ core_there (suc k) R e) in (
-        λ h. elim h [
-          | inl h ↦ (p, inl refl, one.0 (inl h))
-          | inr h ↦ elim h [ inl h ↦ (p, inl refl, one.0 (inr h)) | inr h ↦ let r = more.0 h in (r.0, inr r.1, r.2) ]
-        ],
-        λ h. elim h.1 [
-          | inl e ↦ elim (one.1 (subst Written e h.2)) [ inl k ↦ inl k | inr k ↦ inr (inl k) ]
-          | inr i ↦ inr (inr (more.1 (h.0, i, h.2)))
-        ],
+      let next : first + sites_of s p p.body + 1 ≡ first + sites_in p.body + 1 = ap (λ n. first + n + 1) (many_sites source c (g + 0) p (there zero p refl).1) in
+      let more_there : (k : ℕ) (R : Procedure) → slice_get (procs_core s (first + sites_in p.body + 1) ps) k ≡ Some R → slice_get (core source).procs (suc g + k) ≡ Some R =
+      λ k R e. ap (slice_get (core source).procs) (omega arith) ∙ core_there (suc k) R (ap (λ n. slice_get (procs_core s n ps) k) next ∙ e) in
+      let more = procs_some (suc g) (first + sites_in p.body + 1) ps (λ k q e. let h = there (suc k) q e in (h.0, ap (slice_get source.procs) (omega arith) ∙ h.1)) more_there in
+      let Rest : ℕ → Type 0 = λ n. InProcs (core source) (At source c none Q P related) (procs_core s n ps) in (
+        λ h. elim h [ inl h ↦ inl (one.0.0 h) | inr h ↦ elim h [ inl h ↦ inr (inl (one.1.0 h)) | inr h ↦ inr (inr (more.0 (subst Rest next h))) ] ],
+        λ h. elim h [ inl h ↦ inl (one.0.1 h) | inr h ↦ elim h [ inl h ↦ inr (inl (one.1.1 h)) | inr h ↦ inr (inr (subst Rest (sym next) (more.1 h))) ] ],
       )
 
--- the site's total, by its node and what is charged there
-abbrev NodeTotal : Program → ℕ → ℕ → ℕ → (Tree → ℕ → Type 0) → Type 0
-NodeTotal p n t x charges = Totals (IsStructure p x n) charges t
+-- the site's total, by its node or its type and what is charged there
+abbrev NodeTotal : Program → ℕ → ℕ → InNode
+NodeTotal p n t i x charges level = Totals (IsStructure p x n) charges t
 
-abbrev TotalOf : Source → ℕ → ℕ → TypeExpr → (Tree → ℕ → Type 0) → Type 0
-TotalOf source n t e charges = IsTotalOf source e charges n t
+abbrev TotalOf : Source → ℕ → ℕ → InType
+TotalOf source n t i e charges level = IsTotalOf source e charges n t
 
 module _ (source : Source) (is : IsSource source) (unbroken : breaches source ≡ []) where
   c : Clean source
@@ -146,8 +171,8 @@ module _ (source : Source) (is : IsSource source) (unbroken : breaches source �
         (k.0, k.1, counts_same (IsStructureOf source h.0 n) (IsStructure (core source) k.0 n) v (λ t. let b = structures k.0 h.0 k.2 n t in (b.1, b.0)) h.2),
   )
 
-  related : (n v : ℕ) → Related source (NodeTotal (core source) n v) (TotalOf source n v)
-  related n v x e C D h same = (
+  pub related : (n v : ℕ) → Related source (NodeTotal (core source) n v) (TotalOf source n v)
+  related n v i x e C D L M h same deep = (
     λ q. totals_same (IsStructure (core source) x n) (IsStructureOf source e n) C D v (λ t. structures x e (held source c x e h) n t) (λ t r. (same t r).0) q,
     λ q. totals_same (IsStructureOf source e n) (IsStructure (core source) x n) D C v (λ t. let b = structures x e (held source c x e h) n t in (b.1, b.0)) (λ t r. (same t r).1) q,
   )
@@ -156,14 +181,18 @@ module _ (source : Source) (is : IsSource source) (unbroken : breaches source �
   proper k p e = (all_get ProperProc source.procs k p (source_proper source is).bodies e, ap (slice_get source.procs) (omega arith) ∙ e)
 
   module _ (program : IsProgram (core source)) where
-    sites : (n v : ℕ) → ((i : ℕ) × (i < length (core source).sites) × IsTotal (core source) i n v) ↔ InProcs (core source) (λ i x w. NodeTotal (core source) n v x (WorkCharges (core source) w)) (core source).procs
-    sites n v = some_site (core source) program (NodeTotal (core source) n v) (λ x C D same q. totals_same (IsStructure (core source) x n) (IsStructure (core source) x n) C D v (λ t. (λ h. h, λ h. h)) (λ t r. (same t r).0) q)
-
-    written : (n v : ℕ) → InProcs (core source) (λ i x w. NodeTotal (core source) n v x (WorkCharges (core source) w)) (core source).procs ↔ HasTotal source n v
-    written n v = procs_some source c none (NodeTotal (core source) n v) (TotalOf source n v) (related n v) 0 0 source.procs proper (λ k R e. ap (slice_get (core source).procs) (omega arith) ∙ e)
+    -- what holds of some site by its number holds of some site as written
+    pub site_kept : (Q : InNode) (P : InType) → Related source Q P
+        → ((i x : ℕ) (C D : Tree → ℕ → Type 0) (L M : ℕ → Type 0) → ((t : Tree) (q : ℕ) → C t q ↔ D t q) → ((n : ℕ) → L n ↔ M n) → Q i x C L → Q i x D M)
+        → ((i : ℕ) × (i < length (core source).sites) × Q i (site_node (core source) i) (SiteCharges (core source) i) (IsLevel (core source) i)) ↔ SomeSiteOf source P
+    site_kept Q P related ext =
+        let sites = some_site (core source) program Q ext in
+        let written = procs_some source c none Q P related 0 0 source.procs proper (λ k R e. ap (slice_get (core source).procs) (omega arith) ∙ e) in
+        (λ h. written.0 (sites.0 h), λ h. sites.1 (written.1 h))
 
     pub totals_kept : (n v : ℕ) → ((i : ℕ) × (i < length (core source).sites) × IsTotal (core source) i n v) ↔ HasTotal source n v
-    totals_kept n v = (λ h. (written n v).0 ((sites n v).0 h), λ h. (sites n v).1 ((written n v).1 h))
+    totals_kept n v = site_kept (NodeTotal (core source) n v) (TotalOf source n v) (related n v)
+        (λ i x C D L M same deep q. totals_same (IsStructure (core source) x n) (IsStructure (core source) x n) C D v (λ t. (λ h. h, λ h. h)) (λ t r. (same t r).0) q)
 
     pub over_kept : (most last : ℕ) → IsOver (core source) most last ↔ HasOver source most last
     over_kept most last = (

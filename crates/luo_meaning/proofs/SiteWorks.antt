@@ -7,6 +7,7 @@ use Rattle.luo_model.specs.declared.program.Site.{Site}
 use Rattle.luo_model.specs.Tree.{Tree}
 use Rattle.luo_model.specs.Program.{Program, Procedure, Body, Does, Items, no_items, item, Item, Call, Case, Forall, Arms, no_arms, arm, shape_of, site_node}
 use Rattle.luo_model.specs.Charges.{Work, of_body, of_call, of_case, of_walk, works_of_body, works_of_items, works_of_item, works_of_arms, works_of_procedure, works_of, WorkCharges, SiteCharges}
+use Rattle.luo_model.specs.Levels.{IsLevel, WorkLevel}
 use Rattle.luo_model.specs.Scopes.{Stand, stands, component, bound_nodes, node_at, FitsBody, FitsItems, FitsItem, FitsArms, body_sites, items_sites, item_sites, arms_sites}
 use Rattle.luo_model.specs.Invariant.{IsProgram, procedure_sites, placed, sites_from}
 use Rattle.luo_model.proofs.WorkLemmas.{sites_are_apart, works_length, work_at}
@@ -227,18 +228,24 @@ module _ (p : Program) (Q : ℕ → ℕ → Work → Type 0) where
       ]
 
 -- a site by its number, and by the place where it stands
-pub some_site : (p : Program) → IsProgram p → (Q : ℕ → (Tree → ℕ → Type 0) → Type 0) → ((x : ℕ) (C D : Tree → ℕ → Type 0) → ((t : Tree) (q : ℕ) → C t q ↔ D t q) → Q x C → Q x D)
-    → ((i : ℕ) × (i < length p.sites) × Q (site_node p i) (SiteCharges p i)) ↔ InProcs p (λ i x w. Q x (WorkCharges p w)) p.procs
+pub some_site : (p : Program) → IsProgram p → (Q : ℕ → ℕ → (Tree → ℕ → Type 0) → (ℕ → Type 0) → Type 0)
+    → ((i x : ℕ) (C D : Tree → ℕ → Type 0) (L M : ℕ → Type 0) → ((t : Tree) (q : ℕ) → C t q ↔ D t q) → ((n : ℕ) → L n ↔ M n) → Q i x C L → Q i x D M)
+    → ((i : ℕ) × (i < length p.sites) × Q i (site_node p i) (SiteCharges p i) (IsLevel p i)) ↔ InProcs p (λ i x w. Q i x (WorkCharges p w) (WorkLevel p w)) p.procs
 some_site p is Q ext = (
   λ h.
       let v = get_below p.sites h.0 h.1 in
       let n = work_there h.0 h.1 in
       let node : (u : Site) → In (h.0, u) (sites_from p 0 p.procs) → u.node ≡ site_node p h.0 = λ u m. node_of h.0 u m in
-      procs_placed p (λ i x w. Q x (WorkCharges p w)) 0 p.procs (λ k P e. (is.procedures k P e).1) h.0 n.0 n.1
-      (λ u m. subst (λ y. Q y (WorkCharges p n.0)) (sym (node u m)) (ext (site_node p h.0) (SiteCharges p h.0) (WorkCharges p n.0) (charges h.0 n.0 n.1) h.2)),
+      procs_placed p (λ i x w. Q i x (WorkCharges p w) (WorkLevel p w)) 0 p.procs (λ k P e. (is.procedures k P e).1) h.0 n.0 n.1
+      (λ u m. subst (λ y. Q h.0 y (WorkCharges p n.0) (WorkLevel p n.0)) (sym (node u m))
+      (ext h.0 (site_node p h.0) (SiteCharges p h.0) (WorkCharges p n.0) (IsLevel p h.0) (WorkLevel p n.0) (charges h.0 n.0 n.1) (levels h.0 n.0 n.1) h.2)),
   λ h.
-      let f = procs_found p (λ i x w. Q x (WorkCharges p w)) 0 p.procs h in
-      (f.i, below f.i f.v f.there, ext (site_node p f.i) (WorkCharges p f.w) (SiteCharges p f.i) (λ t q. let b = charges f.i f.w f.work t q in (b.1, b.0)) (subst (λ y. Q y (WorkCharges p f.w)) (node_of f.i f.v f.there) f.is)),
+      let f = procs_found p (λ i x w. Q i x (WorkCharges p w) (WorkLevel p w)) 0 p.procs h in (
+        f.i,
+        below f.i f.v f.there,
+        ext f.i (site_node p f.i) (WorkCharges p f.w) (SiteCharges p f.i) (WorkLevel p f.w) (IsLevel p f.i) (λ t q. let b = charges f.i f.w f.work t q in (b.1, b.0)) (λ n. let b = levels f.i f.w f.work n in (b.1, b.0))
+            (subst (λ y. Q f.i y (WorkCharges p f.w) (WorkLevel p f.w)) (node_of f.i f.v f.there) f.is),
+      ),
 )
   where
     number : (i : ℕ) (v : Site) → In (i, v) (sites_from p 0 p.procs) → slice_get p.sites i ≡ Some v
@@ -259,5 +266,11 @@ some_site p is Q ext = (
     charges : (i : ℕ) (w : Work) → In (i, w) (works_of p) → (t : Tree) (q : ℕ) → SiteCharges p i t q ↔ WorkCharges p w t q
     charges i w m t q = (
       λ h. subst (λ v. WorkCharges p v t q) (second_one (works_of p) (sites_are_apart p is) i h.0 w h.1 m) h.2,
+      λ h. (w, m, h),
+    )
+
+    levels : (i : ℕ) (w : Work) → In (i, w) (works_of p) → (n : ℕ) → IsLevel p i n ↔ WorkLevel p w n
+    levels i w m n = (
+      λ h. subst (λ v. WorkLevel p v n) (second_one (works_of p) (sites_are_apart p is) i h.0 w h.1 m) h.2,
       λ h. (w, m, h),
     )

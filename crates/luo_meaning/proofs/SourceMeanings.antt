@@ -46,7 +46,7 @@ just source c clear text f t q means e =
     let charged = charge_is (core source) deep f t q e in
     ((charges_kept source c clear text f means t q).0 charged, λ other h. charges_one (core source) f t other q ((charges_kept source c clear text f means t other).1 h) charged)
 
-binary_clean : Clean binary_source
+pub binary_clean : Clean binary_source
 binary_clean =
     clean binary_source
     (record {
@@ -67,7 +67,7 @@ cycles_are_charged = (
   just permutations_source permutations_clean refl (codes "cycles") 0 (Coll (more (Coll (more (point 1) none)) (more (Coll (more (point 2) none)) none))) 2 refl refl,
 )
 
-choices_clean : Clean choices
+pub choices_clean : Clean choices
 choices_clean = clean choices (record { right_sides = (tt, ((omega arith, (tt, (tt, tt))), ((refl, (tt, tt)), ((refl, (tt, tt)), tt)))); values = (omega arith, tt); bodies = (((tt, tt), tt), tt) }) refl
 
 pub choices_of_two : ChoicesOfTwo

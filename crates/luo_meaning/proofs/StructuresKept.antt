@@ -35,7 +35,7 @@ no_label : (universe : Universe) (w l : ℕ) → w ≡ 0 → IsLabel universe w 
 no_label Unlabelled w l e h = h
 no_label Labelled w l e h = h.1 (λ one. absurd (omega (arith, e, one)))
 
-zero_label : (universe : Universe) → IsLabel universe 0 0
+pub zero_label : (universe : Universe) → IsLabel universe 0 0
 zero_label Unlabelled = refl
 zero_label Labelled = (λ one. absurd (omega (arith, one)), λ no. refl)
 
@@ -53,7 +53,7 @@ range_same kind at (AtLeast n) k = (λ h. h, λ h. h)
 range_same kind at (Between low high) k = (λ h. h, λ h. h)
 
 -- so many components are allowed
-bound_same : (kind : Kind) (bound : Option Bound) (k : ℕ) → IsWithin (low_of kind bound) (high_of bound) k ↔ AllowsCount kind bound k
+pub bound_same : (kind : Kind) (bound : Option Bound) (k : ℕ) → IsWithin (low_of kind bound) (high_of bound) k ↔ AllowsCount kind bound k
 bound_same kind None k = (λ h. omega (arith, h, least_same kind), λ h. omega (arith, h, least_same kind))
 bound_same kind (Some b) k = range_same kind b.at b.range k
 

@@ -3,7 +3,8 @@ use Rattle.std.proofs.Common.{◌≡◌, ◌↔◌, ℕ, ◌+◌, List, [], ◌�
 use Rattle.luo_model.specs.Tree.{Tree}
 use Rattle.luo_model.specs.Program.{Arms}
 use Rattle.luo_model.specs.Charges.{Charges, CaseCharges}
-use Rattle.luo_model.specs.Scopes.{Stand, stands, node_at, bound_nodes, value_sites, value_items, values_items, value_arm_bodies}
+use Rattle.luo_model.specs.Scopes as scopes
+use Rattle.luo_model.specs.Scopes.{Stand, stands, node_at, bound_nodes, value_items, values_items, value_arm_bodies}
 use Rattle.luo_source.specs.declared.names.Name.{Name}
 use Rattle.luo_source.specs.declared.types.TypeExpr.{TypeExpr}
 use Rattle.luo_source.specs.declared.values.SourceValue.{SourceValue, Given, Made, Atom, Tuple', Branch', Case', Row_of-SourceValue, end_of-SourceValue, more_of-SourceValue, Row_of-SourceValueArm, end_of-SourceValueArm, more_of-SourceValueArm}
@@ -26,19 +27,20 @@ use Rattle.luo_rules.proofs.ProperBodies.{ProperValue, ProperValues, ProperValue
 use Rattle.luo_rules.proofs.CleanSource.{Clean}
 use Rattle.luo_meaning.specs.Charges.{ValueArmsCharge, ProcCharges}
 use Rattle.luo_meaning.specs.Types.{Types, AreStands, BindsTypes}
-use Rattle.luo_meaning.specs.Sites.{SomeValueSite, SomePartSite, SomeInnerSite, SomeValueArm}
+use Rattle.luo_meaning.specs.Sites.{value_sites, value_arms_sites, SomeValueSite, SomePartSite, SomeInnerSite, SomeValueArm}
 use Rattle.luo_meaning.proofs.ValuesKept.{value_arms_kept}
 use Rattle.luo_meaning.proofs.ProceduresKept.{keeps_all}
 use Rattle.luo_meaning.proofs.SiteWorks.{InItems, InArms}
 use Rattle.luo_meaning.proofs.Sits.{shape_at_node}
-use Rattle.luo_meaning.proofs.SitesKept.{Related, At, in_join, place_node, call_some}
+use Rattle.luo_meaning.proofs.SitesKept.{InNode, InType, Related, At, at_zero, in_join, place_node, call_some}
 use Rattle.luo_meaning.proofs.Typing.{SameStands, AgreeTypes, stands_up, stands_down}
+use Rattle.luo_meaning.proofs.ValueSites.{value_same, value_arms_same}
 use Rattle.luo_meaning.proofs.TypedScopes.{bound_typed, types_bound}
 
-module _ (source : Source) (c : Clean source) (none : measures_breaches (names_of source) 0 (measures source) ≡ []) (Q : ℕ → (Tree → ℕ → Type 0) → Type 0) (P : TypeExpr → (Tree → ℕ → Type 0) → Type 0) (related : Related source Q P) where
+module _ (source : Source) (c : Clean source) (none : measures_breaches (names_of source) 0 (measures source) ≡ []) (Q : InNode) (P : InType) (related : Related source Q P) where
   mutual
     pub value_some : (v : SourceValue) (scope : List Variable) (types : Types) (vars : List ℕ) → AgreeTypes source scope types vars → (first : ℕ) (expected : Option ℕ) → ProperValue v → value_breaches (setting_of source) scope expected v ≡ []
-        → InItems (core source) (At source c none Q P related) vars (value_items first (value_core (setting_of source) scope expected v)) ↔ SomeValueSite source P types v
+        → InItems (core source) (At source c none Q P related) vars (value_items first (value_core (setting_of source) scope expected v)) ↔ SomeValueSite source P types first v
     value_some (Given name) scope types vars agree first expected p e = (λ h. h, λ h. h)
     value_some (Made callee arg) scope types vars agree first expected p e =
         let s = setting_of source in
@@ -68,13 +70,19 @@ module _ (source : Source) (c : Clean source) (none : measures_breaches (names_o
         let core_arms : Arms = value_arm_bodies first (value_arms_core s cs expected arms) in
         let C : Tree → ℕ → Type 0 = λ u q. CaseCharges (Charges (core source)) core_arms u q in
         let D : Tree → ℕ → Type 0 = λ u q. ValueArmsCharge source (ProcCharges source) arms u q in
-        let r = related v.1 t.e C D t.holds (λ u q. value_arms_kept source (Charges (core source)) (ProcCharges source) s (keeps_all source c none) arms cs var first expected long k.none u q) in
-        let inner : (es : List TypeExpr) → AreStands source t.e es → InArms (core source) (At source c none Q P related) cs core_arms ↔ SomeValueArm source P es arms =
+        let Z : ℕ → Type 0 = λ n. n ≡ 0 in
+        let core_site = first + scopes.value_arms_sites (value_arms_core s cs expected arms) in
+        let site = first + value_arms_sites arms in
+        let numbered : core_site ≡ site = ap (λ n. first + n) (value_arms_same s arms cs var expected long k.none) in
+        let r = related site v.1 t.e C D Z Z t.holds (λ u q. value_arms_kept source (Charges (core source)) (ProcCharges source) s (keeps_all source c none) arms cs var first expected long k.none u q) (at_zero source c none Q P related) in
+        let to_site : Q core_site v.1 C Z → Q site v.1 C Z = λ h. subst (λ n. Q n v.1 C Z) numbered h in
+        let to_core : Q site v.1 C Z → Q core_site v.1 C Z = λ h. subst (λ n. Q n v.1 C Z) (sym numbered) h in
+        let inner : (es : List TypeExpr) → AreStands source t.e es → InArms (core source) (At source c none Q P related) cs core_arms ↔ SomeValueArm source P es first arms =
         λ es are. value_arms_some arms cs es var (subst (λ z. SameStands source z es) (sym stood) (stands_down source c v.1 t.e es t.holds are)) first expected p.1 long k.none in
         let up = stands_up source c v.1 t.e t.holds (omega (arith, k.many, p.0)) in (
           λ h. elim h [
             | inl h ↦ elim h [
-              | inl h ↦ (t.e, up.es, t.type, up.are, inl (r.0 (subst (λ n. Q n C) node h)))
+              | inl h ↦ (t.e, up.es, t.type, up.are, inl (r.0 (to_site (subst (λ n. Q core_site n C Z) node h))))
               | inr h ↦ (t.e, up.es, t.type, up.are, inr ((inner up.es up.are).0 (subst (λ z. InArms (core source) (At source c none Q P related) z core_arms) stood_x h)))
             ]
             | inr h ↦ absurd h
@@ -83,40 +91,44 @@ module _ (source : Source) (c : Clean source) (none : measures_breaches (names_o
               let one : h.0 ≡ t.e = some_same h.0 t.e (sym h.2 ∙ t.type) in
               let are = subst (λ z. AreStands source z h.1) one h.3 in
               elim h.4 [
-                | inl g ↦ inl (inl (subst (λ n. Q n C) (sym node) (r.1 (subst (λ z. P z D) one g))))
+                | inl g ↦ inl (inl (subst (λ n. Q core_site n C Z) (sym node) (to_core (r.1 (subst (λ z. P site z D Z) one g)))))
                 | inr g ↦ inl (inr (subst (λ z. InArms (core source) (At source c none Q P related) z core_arms) (sym stood_x) ((inner h.1 are).1 g)))
               ],
         )
 
     values_some : {n : _} (row : Row_of-SourceValue n) (scope : List Variable) (types : Types) (vars : List ℕ) → AgreeTypes source scope types vars → (first : ℕ) (nodes : List ℕ) → ProperValues row → values_breaches (setting_of source) scope nodes row ≡ []
-        → InItems (core source) (At source c none Q P related) vars (values_items first (values_core (setting_of source) scope nodes row)) ↔ SomePartSite source P types row
+        → InItems (core source) (At source c none Q P related) vars (values_items first (values_core (setting_of source) scope nodes row)) ↔ SomePartSite source P types first row
     values_some end_of-SourceValue scope types vars agree first nodes p e = (λ h. h, λ h. h)
     values_some (more_of-SourceValue v rest) scope types vars agree first [] p e =
         let s = setting_of source in
         let core_value = value_core s scope None v in
         let one = value_some v scope types vars agree first None p.0 (nil_left (value_breaches s scope None v) (values_breaches s scope [] rest) e) in
-        let more = values_some rest scope types vars agree (first + value_sites core_value) [] p.1 (nil_right (value_breaches s scope None v) (values_breaches s scope [] rest) e) in
-        let join = in_join source c none Q P related vars (value_items first core_value) (values_items (first + value_sites core_value) (values_core s scope [] rest)) in (
-          λ h. elim (join.0 h) [ inl h ↦ inl (one.0 h) | inr h ↦ inr (more.0 h) ],
-          λ h. elim h [ inl h ↦ join.1 (inl (one.1 h)) | inr h ↦ join.1 (inr (more.1 h)) ],
+        let same : value_sites v ≡ scopes.value_sites core_value = sym (value_same s v scope None (nil_left (value_breaches s scope None v) (values_breaches s scope [] rest) e)) in
+        let more = values_some rest scope types vars agree (first + value_sites v) [] p.1 (nil_right (value_breaches s scope None v) (values_breaches s scope [] rest) e) in
+        let join = in_join source c none Q P related vars (value_items first core_value) (values_items (first + scopes.value_sites core_value) (values_core s scope [] rest)) in
+        let At' : ℕ → Type 0 = λ n. InItems (core source) (At source c none Q P related) vars (values_items (first + n) (values_core s scope [] rest)) in (
+          λ h. elim (join.0 h) [ inl h ↦ inl (one.0 h) | inr h ↦ inr (more.0 (subst At' (sym same) h)) ],
+          λ h. elim h [ inl h ↦ join.1 (inl (one.1 h)) | inr h ↦ join.1 (inr (subst At' same (more.1 h))) ],
         )
     values_some (more_of-SourceValue v rest) scope types vars agree first (node ∷ nodes) p e =
         let s = setting_of source in
         let core_value = value_core s scope (Some node) v in
         let one = value_some v scope types vars agree first (Some node) p.0 (nil_left (value_breaches s scope (Some node) v) (values_breaches s scope nodes rest) e) in
-        let more = values_some rest scope types vars agree (first + value_sites core_value) nodes p.1 (nil_right (value_breaches s scope (Some node) v) (values_breaches s scope nodes rest) e) in
-        let join = in_join source c none Q P related vars (value_items first core_value) (values_items (first + value_sites core_value) (values_core s scope nodes rest)) in (
-          λ h. elim (join.0 h) [ inl h ↦ inl (one.0 h) | inr h ↦ inr (more.0 h) ],
-          λ h. elim h [ inl h ↦ join.1 (inl (one.1 h)) | inr h ↦ join.1 (inr (more.1 h)) ],
+        let same : value_sites v ≡ scopes.value_sites core_value = sym (value_same s v scope (Some node) (nil_left (value_breaches s scope (Some node) v) (values_breaches s scope nodes rest) e)) in
+        let more = values_some rest scope types vars agree (first + value_sites v) nodes p.1 (nil_right (value_breaches s scope (Some node) v) (values_breaches s scope nodes rest) e) in
+        let join = in_join source c none Q P related vars (value_items first core_value) (values_items (first + scopes.value_sites core_value) (values_core s scope nodes rest)) in
+        let At' : ℕ → Type 0 = λ n. InItems (core source) (At source c none Q P related) vars (values_items (first + n) (values_core s scope nodes rest)) in (
+          λ h. elim (join.0 h) [ inl h ↦ inl (one.0 h) | inr h ↦ inr (more.0 (subst At' (sym same) h)) ],
+          λ h. elim h [ inl h ↦ join.1 (inl (one.1 h)) | inr h ↦ join.1 (inr (subst At' same (more.1 h))) ],
         )
 
     boxed_some : {n : _} (row : Row_of-SourceValue n) (scope : List Variable) (types : Types) (vars : List ℕ) → AgreeTypes source scope types vars → (first : ℕ) (expected : Option ℕ) → ProperValues row → boxed_value_breaches (setting_of source) scope expected row ≡ []
-        → InItems (core source) (At source c none Q P related) vars (value_items first (boxed_value_core (setting_of source) scope expected row)) ↔ SomeInnerSite source P types row
+        → InItems (core source) (At source c none Q P related) vars (value_items first (boxed_value_core (setting_of source) scope expected row)) ↔ SomeInnerSite source P types first row
     boxed_some end_of-SourceValue scope types vars agree first expected p e = (λ h. h, λ h. h)
     boxed_some (more_of-SourceValue v rest) scope types vars agree first expected p e = value_some v scope types vars agree first expected p.0 e
 
     value_arms_some : {n : _} (row : Row_of-SourceValueArm n) (ss : List Stand) (es : List TypeExpr) (var : Name) → SameStands source ss es → (first : ℕ) (expected : Option ℕ) → ProperValueArms row → length ss ≡ count_value_arms row → value_arms_breaches (setting_of source) ss expected var row ≡ []
-        → InArms (core source) (At source c none Q P related) ss (value_arm_bodies first (value_arms_core (setting_of source) ss expected row)) ↔ SomeValueArm source P es row
+        → InArms (core source) (At source c none Q P related) ss (value_arm_bodies first (value_arms_core (setting_of source) ss expected row)) ↔ SomeValueArm source P es first row
     value_arms_some end_of-SourceValueArm [] [] var stand first expected p l e = (λ h. h, λ h. h)
     value_arms_some end_of-SourceValueArm [] (f ∷ es) var stand first expected p l e = absurd stand
     value_arms_some end_of-SourceValueArm (t ∷ ss) es var stand first expected p l e = absurd (omega (arith, l))
@@ -127,10 +139,12 @@ module _ (source : Source) (c : Clean source) (none : measures_breaches (names_o
         let inner = value_breaches s (patterns.bound s t pattern) expected v in
         let a = arm_fits s t var pattern inner (nil_left (arm_breaches s t var pattern inner) (value_arms_breaches s ss expected var rest) e) in
         let core_value = value_core s (patterns.bound s t pattern) expected v in
-        let body_some : (types : Types) → BindsTypes source pattern f types → InItems (core source) (At source c none Q P related) (bound_nodes (core source) t (bind_of pattern)) (value_items first core_value) ↔ SomeValueSite source P types v =
+        let body_some : (types : Types) → BindsTypes source pattern f types → InItems (core source) (At source c none Q P related) (bound_nodes (core source) t (bind_of pattern)) (value_items first core_value) ↔ SomeValueSite source P types first v =
         λ types b. value_some v (patterns.bound s t pattern) types (bound_nodes (core source) t (bind_of pattern)) (bound_typed source c t pattern f types stand.0 b) first expected p.0 a.1 in
         let up = types_bound source c t pattern f stand.0 a.0 in
-        let more = value_arms_some rest ss es var stand.1 (first + value_sites core_value) expected p.1 (omega (arith, l)) (nil_right (arm_breaches s t var pattern inner) (value_arms_breaches s ss expected var rest) e) in (
-          λ h. elim h [ inl h ↦ inl (up.0, up.1, (body_some up.0 up.1).0 h) | inr h ↦ inr (more.0 h) ],
-          λ h. elim h [ inl g ↦ inl ((body_some g.0 g.1).1 g.2) | inr h ↦ inr (more.1 h) ],
+        let same : value_sites v ≡ scopes.value_sites core_value = sym (value_same s v (patterns.bound s t pattern) expected a.1) in
+        let At' : ℕ → Type 0 = λ n. InArms (core source) (At source c none Q P related) ss (value_arm_bodies (first + n) (value_arms_core s ss expected rest)) in
+        let more = value_arms_some rest ss es var stand.1 (first + value_sites v) expected p.1 (omega (arith, l)) (nil_right (arm_breaches s t var pattern inner) (value_arms_breaches s ss expected var rest) e) in (
+          λ h. elim h [ inl h ↦ inl (up.0, up.1, (body_some up.0 up.1).0 h) | inr h ↦ inr (more.0 (subst At' (sym same) h)) ],
+          λ h. elim h [ inl g ↦ inl ((body_some g.0 g.1).1 g.2) | inr h ↦ inr (subst At' same (more.1 h)) ],
         )

@@ -1,10 +1,17 @@
 -- What small sources mean.
-use Rattle.std.specs.Prelude.{◌≡◌, ℕ, List, [], ◌∷◌, codes}
+use Rattle.std.specs.Prelude.{◌≡◌, ℕ, List, [], ◌∷◌, codes, map}
 use Rattle.luo_finite.specs.Listing.{Lists}
 use Rattle.luo_model.specs.Tree.{Tree, Atom, Inj, Tup, Coll, none, more}
 use Rattle.luo_source.specs.declared.types.TypeExpr.{Named}
 use Rattle.luo_source.specs.declared.source.Source.{Source}
-use Rattle.luo_rules.specs.Sources.{binary_source, permutations_source, few_cycles, copying}
+use Rattle.luo_source.specs.declared.statements.Stmt.{Call}
+use Rattle.luo_rules.specs.declared.rule.Rule.TheVariants.{Y9}
+use Rattle.luo_rules.specs.declared.rule.Breach.{Breach}
+use Rattle.luo_rules.specs.Sources.{name, binary_source, permutations_source, few_cycles, copying}
+use Rattle.luo_model.specs.declared.table.Entry.TheVariants.{Count, Total}
+use Rattle.luo_meaning.specs.Broken.{StmtBreaks}
+use Rattle.luo_meaning.specs.Places.{Placed, of_name, IsSameType}
+use Rattle.luo_meaning.specs.Entries.{constructs, site_places, HasRank, HasLevel, Precedes}
 use Rattle.luo_meaning.specs.Examples.{choices, spines}
 use Rattle.luo_meaning.specs.Rows.{IsStructureOf}
 use Rattle.luo_meaning.specs.Charges.{ProcCharges}
@@ -91,3 +98,34 @@ BothIsMade =
     × ChargesJust copying (codes "both") (bits one_bit zero_bit) 3
     × ProcMakes copying (codes "both") (bits one_bit one_bit) (bits zero_bit one_bit)
     × ChargesJust copying (codes "both") (bits one_bit one_bit) 0
+
+-- the constructs of the source of binary trees, and its sites: two calls, a case and a whole, and then four calls
+abbrev pub PlacesOfBinaryTrees : Type 0
+PlacesOfBinaryTrees =
+    (map {B = List ℕ × ℕ} (λ (c : Placed). (c.name, c.place)) (constructs binary_source) ≡ (codes "leaf", 0) ∷ (codes "node", 0) ∷ (codes "tree", 0) ∷ (codes "tree", 1) ∷ [])
+    × (site_places binary_source
+    ≡ (codes "size", 0) ∷ (codes "size", 1) ∷ (codes "size", 2) ∷ (codes "size", 3)
+    ∷ (codes "path", 0) ∷ (codes "path", 1) ∷ (codes "path", 2) ∷ (codes "path", 3) ∷ (codes "path", 4) ∷ (codes "path", 5) ∷ [])
+
+-- a union keeps the size of its branches, and the product that of the node beside two leaves; so `tree.0` is of rank 2, and `tree.1` of rank 1
+abbrev pub RanksOfBinaryTrees : Type 0
+RanksOfBinaryTrees = HasRank binary_source (Count 0) 0 × HasRank binary_source (Count 1) 0 × HasRank binary_source (Count 2) 2 × HasRank binary_source (Count 3) 1
+
+-- a case is at level 0, and a procedure of one case at 1; its call is one above
+abbrev pub LevelsOfBinaryTrees : Type 0
+LevelsOfBinaryTrees = HasLevel binary_source 0 2 × HasLevel binary_source 2 0 × HasLevel binary_source 3 1
+
+-- so the counts come in the order `leaf.0`, `node.0`, `tree.1`, `tree.0`, before all totals; and of `size` first the case, then the whole, then a call
+abbrev pub OrderOfBinaryTrees : Type 0
+OrderOfBinaryTrees =
+    Precedes binary_source (Count 0) (Count 1) × Precedes binary_source (Count 1) (Count 3) × Precedes binary_source (Count 3) (Count 2)
+    × Precedes binary_source (Count 2) (Total 0) × Precedes binary_source (Total 2) (Total 3) × Precedes binary_source (Total 3) (Total 0)
+
+-- of two names with one right side each is a type of its own. A call of `p`, whose parameter is of type u, on a variable of type z breaks Y9, and on one
+-- of type u nothing
+abbrev pub TypesOfChoices : Type 0
+TypesOfChoices =
+    IsSameType choices (of_name (name (codes "a") 0)) (of_name (name (codes "a") 1))
+    × (IsSameType choices (of_name (name (codes "a") 0)) (of_name (name (codes "b") 0)) → ⊥)
+    × StmtBreaks choices ((codes "v", of_name (name (codes "z") 0)) ∷ []) (Call (name (codes "p") 70) (name (codes "v") 72)) (record { rule = Y9; token = 72; names = codes "v" ∷ codes "p" ∷ [] })
+    × ((b : Breach) → StmtBreaks choices ((codes "v", of_name (name (codes "u") 0)) ∷ []) (Call (name (codes "p") 70) (name (codes "v") 72)) b → ⊥)

@@ -1,9 +1,15 @@
 -- What a source that breaks no rule means is kept by its core form.
-use Rattle.std.specs.Prelude.{◌≡◌, ◌⊎◌, ◌↔◌, ℕ, ◌<◌, ◌≤◌, ◌+◌, List, [], ◌∷◌, Some, slice_get, length}
+use Rattle.std.specs.Prelude.{◌≡◌, ◌⊎◌, ◌↔◌, ℕ, ◌<◌, ◌≤◌, ◌+◌, List, [], ◌∷◌, ◌++◌, Some, slice_get, length, codes}
+use Rattle.luo_finite.specs.Listing.{In}
 use Rattle.luo_model.specs.declared.program.Def.{Def}
+use Rattle.luo_model.specs.declared.program.Node.{Node}
+use Rattle.luo_model.specs.declared.program.Site.{Site}
+use Rattle.luo_model.specs.declared.table.Entry.TheVariants.{Count, Total}
 use Rattle.luo_model.specs.declared.table.Row.{Row}
 use Rattle.luo_model.specs.Tree.{Tree}
-use Rattle.luo_model.specs.Program.{Program, Procedure}
+use Rattle.luo_model.specs.Founded.{IsFounded}
+use Rattle.luo_model.specs.Levels.{IsRank, IsLevel}
+use Rattle.luo_model.specs.Program.{Program, Procedure, site_node}
 use Rattle.luo_model.specs.Member.{Member}
 use Rattle.luo_model.specs.Charges.{Charges}
 use Rattle.luo_model.specs.Tables.{IsCount, IsTotal, IsRow}
@@ -11,16 +17,19 @@ use Rattle.luo_source.specs.declared.names.Name.{Name}
 use Rattle.luo_source.specs.declared.types.TypeExpr.{TypeExpr, Named}
 use Rattle.luo_source.specs.declared.source.ProcDef.{ProcDef}
 use Rattle.luo_source.specs.declared.source.Source.{Source}
-use Rattle.luo_rules.specs.Checks.{IsSource, IsChecked}
-use Rattle.luo_rules.specs.Whole.{IsCore, walk_count}
+use Rattle.luo_rules.specs.declared.rule.Breach.{Breach}
+use Rattle.luo_rules.specs.Checks.{IsSource, IsChecked, BreaksFirst}
+use Rattle.luo_rules.specs.Whole.{IsCore, walk_count, breaches}
 use Rattle.luo_meaning.specs.Structures.{IsOf}
 use Rattle.luo_meaning.specs.Charges.{ProcCharges}
 use Rattle.luo_interp.specs.Makes.{Makes}
 use Rattle.luo_meaning.specs.Made.{ProcMakes}
 use Rattle.luo_meaning.specs.Constructs.{IsConstructOf}
 use Rattle.luo_meaning.specs.Rows.{IsRowOf, AreTablesOf}
+use Rattle.luo_meaning.specs.Entries.{place_text, IsEntryText, IsNumberOf, HasRank, HasLevel}
 use Rattle.luo_meaning.specs.Over.{HasCount, HasTotal, HasOver}
 use Rattle.luo_meaning.specs.Walks.{ProcsWalk}
+use Rattle.luo_meaning.specs.Broken.{IsBrokenIn, IsFirstBrokenIn, BreaksNothingIn}
 
 -- the members of a definition's node are the structures of its name
 abbrev pub StructuresAreKept : Type 0
@@ -98,3 +107,49 @@ OverIsKept = (source : Source) (p : Program) → IsSource source → IsChecked s
 -- as many walks over multisets and powersets
 abbrev pub WalksAreKept : Type 0
 WalksAreKept = (source : Source) (p : Program) → IsSource source → IsCore source p → (n : ℕ) → (n ≡ walk_count p) ↔ ProcsWalk source source.procs n
+
+-- the count of a node is that of the construct of its number, and the total of a site that of the source's site of its number
+abbrev pub NumbersAreKept : Type 0
+NumbersAreKept =
+    (source : Source) (p : Program) → IsSource source → IsChecked source p
+    → ((x n v : ℕ) → ((x < length p.nodes) × IsCount p x n v) ↔ IsNumberOf source (Count x) n v)
+    × ((i n v : ℕ) → ((i < length p.sites) × IsTotal p i n v) ↔ IsNumberOf source (Total i) n v)
+
+-- where the core form is founded, its nodes and sites have the ranks, and its sites the levels, of the source
+abbrev pub OrderIsKept : Type 0
+OrderIsKept =
+    (source : Source) (p : Program) → IsSource source → IsChecked source p → IsFounded p
+    → ((x r : ℕ) → ((x < length p.nodes) × IsRank p x r) ↔ HasRank source (Count x) r)
+    × ((i r : ℕ) → ((i < length p.sites) × IsRank p (site_node p i) r) ↔ HasRank source (Total i) r)
+    × ((i l : ℕ) → ((i < length p.sites) × IsLevel p i l) ↔ HasLevel source i l)
+
+-- what the count of node x is called: by the node's definition, and its place there
+abbrev pub IsNodeText : Program → ℕ → List ℕ → Type 0
+IsNodeText p x text =
+    (node : Node) × (d : Def) × (slice_get p.nodes x ≡ Some node) × (slice_get p.defs node.owner ≡ Some d)
+    × (text ≡ codes "count of " ++ place_text d.name node.place)
+
+-- and the total of site i: by the site's procedure, and its place there
+abbrev pub IsSiteText : Program → ℕ → List ℕ → Type 0
+IsSiteText p i text =
+    (site : Site) × (P : Procedure) × (slice_get p.sites i ≡ Some site) × (slice_get p.procs site.caller ≡ Some P)
+    × (text ≡ codes "total of " ++ place_text P.name site.place)
+
+-- they are called as in the source
+abbrev pub EntryNamesAreKept : Type 0
+EntryNamesAreKept =
+    (source : Source) (p : Program) → IsSource source → IsChecked source p
+    → ((x : ℕ) (text : List ℕ) → IsNodeText p x text ↔ IsEntryText source (Count x) text)
+    × ((i : ℕ) (text : List ℕ) → IsSiteText p i text ↔ IsEntryText source (Total i) text)
+
+-- the breaches that are listed are those of the source as it is written, of every source of a text
+abbrev pub BrokenIsKept : Type 0
+BrokenIsKept = (source : Source) → IsSource source → (b : Breach) → In b (breaches source) ↔ IsBrokenIn source b
+
+-- and the first of the list is the first that it breaks
+abbrev pub FirstBrokenIsKept : Type 0
+FirstBrokenIsKept = (source : Source) → IsSource source → (b : Breach) → BreaksFirst source b ↔ IsFirstBrokenIn source b
+
+-- nothing is listed exactly where nothing is broken
+abbrev pub NothingBrokenIsKept : Type 0
+NothingBrokenIsKept = (source : Source) → IsSource source → (breaches source ≡ []) ↔ BreaksNothingIn source

@@ -1,3 +1,4 @@
+pub mod Names
 pub mod Defined
 pub mod Structures
 pub mod Variables
@@ -6,9 +7,15 @@ pub mod Types
 pub mod Constructs
 pub mod Made
 pub mod Rows
+pub mod Places
+pub mod Ranks
+pub mod Levels
 pub mod Sites
+pub mod Scopes
 pub mod Over
+pub mod Entries
 pub mod Walks
+pub mod Broken
 pub mod Examples
 pub mod Facts
 pub mod Laws

@@ -12,7 +12,7 @@ HasCount source n c = (e : TypeExpr) × IsConstructOf source e × IsCountOf sour
 
 -- what is charged at some site on the structures of size n of its variable's type sums to t
 abbrev pub HasTotal : Source → ℕ → ℕ → Type 0
-HasTotal source n t = SomeSiteOf source (λ e charges. IsTotalOf source e charges n t)
+HasTotal source n t = SomeSiteOf source (λ number e charges level. IsTotalOf source e charges n t)
 
 -- some count or total of a size up to `last` is above `most`
 abbrev pub HasOver : Source → ℕ → ℕ → Type 0

@@ -1,8 +1,15 @@
 //! Laws: the core form of a source keeps what the source means; and what small sources mean.
 #![tactic(auto)]
 
-ghost use Rattle.luo_meaning.specs.Facts.{BinaryTreesOfTwo, PathLengths, SpinesAreCharged, PermutationsOfTwo, FewCyclesOfTwo, CyclesAreCharged, ChoicesOfTwo, BothIsMade};
-ghost use Rattle.luo_meaning.specs.Laws.{StructuresAreKept, ConstructsAreKept, ChargesAreKept, MadeIsKept, CountsAreKept, TotalsAreKept, RowsAreKept, TablesAreKept, HeadingsAreKept, OverIsKept, WalksAreKept};
+ghost use Rattle.luo_meaning.specs.Names.{NamesMeanFirstEntries};
+ghost use Rattle.luo_meaning.specs.Facts.{BinaryTreesOfTwo, PathLengths, SpinesAreCharged, PermutationsOfTwo, FewCyclesOfTwo, CyclesAreCharged, ChoicesOfTwo, BothIsMade, PlacesOfBinaryTrees, RanksOfBinaryTrees, LevelsOfBinaryTrees, OrderOfBinaryTrees, TypesOfChoices};
+ghost use Rattle.luo_meaning.specs.Laws.{StructuresAreKept, ConstructsAreKept, ChargesAreKept, MadeIsKept, CountsAreKept, TotalsAreKept, RowsAreKept, TablesAreKept, HeadingsAreKept, OverIsKept, WalksAreKept, NumbersAreKept, OrderIsKept, EntryNamesAreKept, BrokenIsKept, FirstBrokenIsKept, NothingBrokenIsKept};
+
+/// A name means what the first of all definitions of this name says, in the order of types, measures and procedures, whatever rules
+/// the source breaks.
+pub fn names_mean_first_entries()
+    ensures { NamesMeanFirstEntries }
+{}
 
 /// The members of a definition's node are the structures of its name.
 pub fn structures_are_kept()
@@ -59,6 +66,36 @@ pub fn walks_are_kept()
     ensures { WalksAreKept }
 {}
 
+/// The count of a node and the total of a site are those of the same number in the source.
+pub fn numbers_are_kept()
+    ensures { NumbersAreKept }
+{}
+
+/// Nodes and sites of a founded core form have the ranks and levels of the source.
+pub fn order_is_kept()
+    ensures { OrderIsKept }
+{}
+
+/// Nodes and sites are called as in the source.
+pub fn entry_names_are_kept()
+    ensures { EntryNamesAreKept }
+{}
+
+/// The breaches that are listed are those of the source as it is written.
+pub fn broken_is_kept()
+    ensures { BrokenIsKept }
+{}
+
+/// The first breach of the list is the first that the source breaks.
+pub fn first_broken_is_kept()
+    ensures { FirstBrokenIsKept }
+{}
+
+/// No breach is listed exactly where the source breaks nothing.
+pub fn nothing_broken_is_kept()
+    ensures { NothingBrokenIsKept }
+{}
+
 /// Of two inner nodes there are two binary trees.
 pub fn binary_trees_of_two()
     ensures { BinaryTreesOfTwo }
@@ -97,4 +134,29 @@ pub fn cycles_are_charged()
 /// Sets and collections with copies of at most two points of two kinds.
 pub fn choices_of_two()
     ensures { ChoicesOfTwo }
+{}
+
+/// What the constructs and the sites of the source of binary trees are called.
+pub fn places_of_binary_trees()
+    ensures { PlacesOfBinaryTrees }
+{}
+
+/// The ranks of its constructs.
+pub fn ranks_of_binary_trees()
+    ensures { RanksOfBinaryTrees }
+{}
+
+/// The levels of a call, a case and a whole.
+pub fn levels_of_binary_trees()
+    ensures { LevelsOfBinaryTrees }
+{}
+
+/// The order of its counts and of some totals.
+pub fn order_of_binary_trees()
+    ensures { OrderOfBinaryTrees }
+{}
+
+/// Two names with one right side are two types, and a call on one of the wrong type breaks a rule.
+pub fn types_of_choices()
+    ensures { TypesOfChoices }
 {}
