@@ -12,6 +12,8 @@ mod tests;
 #[cfg(test)]
 mod tests_front;
 #[cfg(test)]
+mod tests_gate;
+#[cfg(test)]
 mod tests_lists;
 #[cfg(test)]
 mod tests_reports;

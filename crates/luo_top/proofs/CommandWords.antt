@@ -6,7 +6,7 @@ use Rattle.std.specs.Str.{bytes_eq}
 use Rattle.std.proofs.lemmas.Slice.Eq.{bytes_eq-Decides}
 use Rattle.luo_finite.proofs.Places.{some_same}
 use Rattle.luo_top.specs.Laws.{IsNumberWord}
-use Rattle.luo_top.specs.Words.{Command, Analyse, Format, Run, Sample, number_of, analyse_of, format_of, run_of, sample_of, command_of, Listing, list_of}
+use Rattle.luo_top.specs.Words.{Command, Analyse, Format, Run, Sample, number_of, analyse_of, format_of, run_of, sample_of, command_of, Listing, list_of, Audit, audit_of}
 use Rattle.luo_top.proofs.NumberWords.{number_word, word_number}
 
 none_some : {A : Type 0} {x : A} → None ≡ Some x → ⊥
@@ -21,6 +21,8 @@ IsSpelled (Sample number n) words = (first : List ℕ) × (second : List ℕ) ×
 IsSpelled (Listing file name n start count) words =
     (size : List ℕ) × (place : List ℕ) × (most : List ℕ) × (words ≡ codes "list" ∷ file ∷ name ∷ size ∷ place ∷ most ∷ [])
     × IsNumberWord size n × IsNumberWord place start × IsNumberWord most count
+IsSpelled (Audit file n w) words =
+    (size : List ℕ) × (workers : List ℕ) × (words ≡ codes "audit" ∷ file ∷ size ∷ workers ∷ []) × IsNumberWord size n × IsNumberWord workers w
 
 -- they are given by these words
 is_spelled : (words : List (List ℕ)) (c d : Command) → Some d ≡ Some c → IsSpelled d words → IsSpelled c words
@@ -78,6 +80,19 @@ list_rest (file ∷ name ∷ size ∷ place ∷ most ∷ []) c e = by (number_of
     by (Some n) (Some start) (Some count) h g i k =
         is_spelled _ c (Listing file name n start count) k (size, place, most, refl, word_number size n h, word_number place start g, word_number most count i)
 
+audit_rest : (rest : List (List ℕ)) (c : Command) → audit_of rest ≡ Some c → IsSpelled c (codes "audit" ∷ rest)
+audit_rest [] c e = absurd (none_some e)
+audit_rest (file ∷ []) c e = absurd (none_some e)
+audit_rest (file ∷ size ∷ []) c e = absurd (none_some e)
+audit_rest (file ∷ size ∷ workers ∷ other ∷ more) c e = absurd (none_some e)
+audit_rest (file ∷ size ∷ workers ∷ []) c e = by (number_of size) (number_of workers) refl refl e
+  where
+    by : (o p : Option ℕ) → number_of size ≡ o → number_of workers ≡ p → option_and_then (λ n. option_map (Audit file n) p) o ≡ Some c
+        → IsSpelled c (codes "audit" ∷ file ∷ size ∷ workers ∷ [])
+    by None p h g k = absurd (none_some k)
+    by (Some n) None h g k = absurd (none_some k)
+    by (Some n) (Some w) h g k = is_spelled _ c (Audit file n w) k (size, workers, refl, word_number size n h, word_number workers w g)
+
 module _ (name : List ℕ) (rest : List (List ℕ)) (c : Command) where
   -- the name is this one, or one of the others
   this_or : (word : List ℕ) (found other : Option Command) → (found ≡ Some c → IsSpelled c (word ∷ rest)) → (other ≡ Some c → IsSpelled c (name ∷ rest))
@@ -94,7 +109,8 @@ module _ (name : List ℕ) (rest : List (List ℕ)) (c : Command) where
       this_or (codes "format") (format_of rest) _ (format_rest rest c) (
       this_or (codes "run") (run_of rest) _ (run_rest rest c) (
       this_or (codes "sample") (sample_of rest) _ (sample_rest rest c) (
-      this_or (codes "list") (list_of rest) None (list_rest rest c) (λ e. absurd (none_some e))))))
+      this_or (codes "list") (list_of rest) _ (list_rest rest c) (
+      this_or (codes "audit") (audit_of rest) None (audit_rest rest c) (λ e. absurd (none_some e)))))))
 
 -- a command is asked for by the words of its form
 pub command_spelled : (words : List (List ℕ)) (c : Command) → command_of words ≡ Some c → IsSpelled c words
@@ -113,3 +129,5 @@ spelled_command words (Listing file name n start count) (size, place, most, e, h
     let l = number_word place start g in
     let m = number_word most count k in
     ap command_of e ∙ (λ z. option_and_then (λ size. option_and_then (λ place. option_map (Listing file name size place) (m z)) (l z)) (s z))
+spelled_command words (Audit file n w) (size, workers, e, h, g) =
+    ap command_of e ∙ (ap (λ o. option_and_then (λ k. option_map (Audit file k) (number_of workers)) o) (number_word size n h) ∙ ap (λ o. option_map (Audit file n) o) (number_word workers w g))

@@ -1,8 +1,12 @@
 pub mod Asked
+pub mod AuditKept
+pub mod AuditLemmas
+pub mod AuditsAgree
 pub mod CommandWords
 pub mod Digits
 pub mod HeadlineLemmas
 pub mod ListedLines
+pub mod OverflowKept
 pub mod ListKept
 pub mod ListLemmas
 pub mod NoRefusal

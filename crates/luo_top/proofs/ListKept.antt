@@ -8,18 +8,19 @@ use Rattle.luo_model.specs.declared.program.Def.{Def}
 use Rattle.luo_model.specs.declared.table.Entry.{Entry}
 use Rattle.luo_model.specs.declared.table.Entry.TheVariants.{Count, Total}
 use Rattle.luo_model.specs.declared.table.Fill.TheVariants.{Counts, All}
+use Rattle.luo_model.specs.Founded.{IsFounded}
 use Rattle.luo_model.specs.Member.{Member}
 use Rattle.luo_model.specs.Structures.{IsStructure}
 use Rattle.luo_model.specs.Tree.{Tree}
-use Rattle.luo_engine.specs.Entries.{NoneOver, IsFirstOver, IsThere, IsNumber}
+use Rattle.luo_engine.specs.Entries.{NoneOver, IsThere, IsNumber}
 use Rattle.luo_source.specs.declared.names.Name.{Name}
 use Rattle.luo_source.specs.declared.source.Source.{Source}
 use Rattle.luo_source.specs.declared.types.TypeExpr.{Named}
 use Rattle.luo_rules.specs.declared.names.Meaning.TheVariants as mean
-use Rattle.luo_rules.specs.Checks.{IsSource}
+use Rattle.luo_rules.specs.Checks.{IsSource, IsChecked}
 use Rattle.luo_rules.specs.Definitions.{Definition, definitions, first_node, names_of}
 use Rattle.luo_rules.specs.Meanings.{meaning}
-use Rattle.luo_rules.specs.Whole.{breaches, core}
+use Rattle.luo_rules.specs.Whole.{core}
 use Rattle.luo_rules.proofs.CleanSource.{Clean}
 use Rattle.luo_rules.proofs.Lists.{some_same}
 use Rattle.luo_rules.proofs.NodeLists.{def_at, def_back, def_get}
@@ -29,11 +30,13 @@ use Rattle.luo_meaning.proofs.NamesMean.{names_mean}
 use Rattle.luo_meaning.proofs.OverKept.{counts_kept}
 use Rattle.luo_meaning.proofs.RowsKept.{clean_source, definition_kept}
 use Rattle.luo_top.specs.Answer.{Answer}
-use Rattle.luo_top.specs.AsWritten.List.{IsTypeName, defined_type, HasCountOver, CountOverflowOf, counts, IsListTextOf, listed_of, list_by}
-use Rattle.luo_top.specs.Commands.List.{IsTypeNamed, type_of, list_sized, counted, IsListText, listed, list_of}
+use Rattle.luo_top.specs.AsWritten.List.{IsTypeName, defined_type, IsListTextOf, listed_of, list_by}
+use Rattle.luo_top.specs.AsWritten.Steps.{HasCountOver, CountOverflowOf, counts}
+use Rattle.luo_top.specs.Commands.List.{IsTypeNamed, type_of, counted, IsListText, listed, list_of}
 use Rattle.luo_top.specs.Overflows.{OverflowRefusal}
 use Rattle.luo_top.specs.Step.{◌and_then◌}
-use Rattle.luo_top.specs.Steps.{tables}
+use Rattle.luo_top.specs.Steps.{list_sized, tables}
+use Rattle.luo_top.proofs.OverflowKept.{overflow_kept}
 use Rattle.luo_top.proofs.SameSteps.{Match, same_makes, same_both, same_first}
 
 no_totals : Counts ≡ All → ⊥
@@ -42,9 +45,9 @@ no_totals e = cc
 cases : (m n : ℕ) → (m ≤ n) ⊎ (n < m)
 cases m n = grind arith
 
-module _ (source : Source) (is : IsSource source) (unbroken : breaches source ≡ []) where
+module _ (source : Source) (is : IsSource source) (checked : IsChecked source (core source)) (founded : IsFounded (core source)) where
   c : Clean source
-  c = clean_source source is unbroken
+  c = clean_source source is checked.1.0
 
   -- the node of a type that is defined under a name
   abbrev At : ℕ → Name → Type 0
@@ -89,17 +92,13 @@ module _ (source : Source) (is : IsSource source) (unbroken : breaches source �
 
   module _ (n : ℕ) where
     over_counts : (v m : ℕ) (x : ℕ) → m ≤ n → MAX < v → IsThere (core source) (Count x) → IsNumber (core source) (Count x) m v → HasCountOver source MAX n
-    over_counts v m x within over there number = (m, v, within, over, (counts_kept source is unbroken m v).0 (x, there, number))
+    over_counts v m x within over there number = (m, v, within, over, (counts_kept source is checked.1.0 m v).0 (x, there, number))
 
     overflow_same : (a : Answer) → OverflowRefusal (core source) Counts n a ↔ CountOverflowOf source n a
-    overflow_same a = (λ h. (some h.0 h.1 h.2, h), λ h. h.1)
-      where
-        some : (entry : Entry) (m : ℕ) → IsFirstOver (core source) n Counts entry m → HasCountOver source MAX n
-        some (Count x) m first = over_counts first.over.0 m x first.within first.over.2 first.there first.over.1
-        some (Total i) m first = absurd (no_totals first.had)
+    overflow_same a = overflow_kept source is checked founded Counts n a
 
     none_over : ((m : ℕ) → m ≤ n → NoneOver (core source) Counts m) → HasCountOver source MAX n → ⊥
-    none_over none (m, v, l, over, number) = let k = (counts_kept source is unbroken m v).1 number in let f : ⊥ = omega (arith, over, none m l (Count k.0) v k.1 tt k.2) in f
+    none_over none (m, v, l, over, number) = let k = (counts_kept source is checked.1.0 m v).1 number in let f : ⊥ = omega (arith, over, none m l (Count k.0) v k.1 tt k.2) in f
 
     each_below : (HasCountOver source MAX n → ⊥) → (m : ℕ) → m ≤ n → NoneOver (core source) Counts m
     each_below none m l (Count x) v there had number = below (cases v MAX)
@@ -109,7 +108,7 @@ module _ (source : Source) (is : IsSource source) (unbroken : breaches source �
         below (inr over) = absurd (none (over_counts v m x l over there number))
     each_below none m l (Total i) v there had number = absurd (no_totals had)
 
-    counts_same : Match (λ _ _. ⊤) (tables Counts (core source) n) (counts source n)
+    pub counts_same : Match (λ _ _. ⊤) (tables Counts (core source) n) (counts source n)
     counts_same = same_makes (λ _ _. ⊤) _ _ _ _ overflow_same (λ none _ h. (tt, none_over h, tt)) (λ none _ h. (tt, each_below h, tt))
 
   module _ (x : ℕ) (name : Name) (at : At x name) where

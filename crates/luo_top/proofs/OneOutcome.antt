@@ -29,7 +29,8 @@ use Rattle.luo_rules.specs.Whole.{IsCore, breaches}
 use Rattle.luo_top.specs.declared.status.Status.TheVariants.{Refused, Limit, Overflow}
 use Rattle.luo_top.specs.Answer.{Refusal}
 use Rattle.luo_top.specs.Commands.Analyse.{report}
-use Rattle.luo_top.specs.Commands.List.{type_of, list_sized, counted}
+use Rattle.luo_top.specs.Commands.Audit.{few, audited}
+use Rattle.luo_top.specs.Commands.List.{type_of, counted}
 use Rattle.luo_top.specs.Commands.Run.{procedure_of, parameter_node, structure_of, charge_of, run_text}
 use Rattle.luo_top.specs.Commands.Sample.{text_program, summary}
 use Rattle.luo_founded.proofs.OneAnswer.{first_once}
@@ -37,10 +38,11 @@ use Rattle.luo_top.specs.FoundedRefusals.{founded_line, FoundedRefusal}
 use Rattle.luo_top.specs.Outcome.{Outcome, steps_of}
 use Rattle.luo_top.specs.Overflows.{overflow_line, OverflowRefusal}
 use Rattle.luo_top.specs.Refusals.{LexicalRefusal, SyntaxRefusal, LimitRefusal, RuleRefusal, WalksRefusal, refusal_of_fault, refusal_of_error, byte_of_token, limit_line, rule_line}
-use Rattle.luo_top.specs.Steps.{tokens_of, source_of, core_of, file_source, file_program, founded, sized, tables}
+use Rattle.luo_top.specs.Steps.{tokens_of, source_of, core_of, file_source, file_program, founded, sized, list_sized, workers_of, tables}
 use Rattle.luo_top.specs.Told.{Told, ReadingRefusal, reading}
-use Rattle.luo_top.specs.Words.{Command, Analyse, Format, Run, Sample, command_of, WordsRefusal, asked_by, Listing}
+use Rattle.luo_top.specs.Words.{Command, Analyse, Format, Run, Sample, command_of, WordsRefusal, asked_by, Listing, Audit}
 use Rattle.luo_top.specs.WordRefusals.{refusal_of_structure}
+use Rattle.luo_top.proofs.AuditLemmas.{audit_refusal_one}
 use Rattle.luo_top.proofs.ProgramFacts.{program_is, text_program_is}
 use Rattle.luo_top.proofs.ListLemmas.{type_single, list_text_single}
 use Rattle.luo_top.proofs.RunLemmas.{named_single, taken, run_text_single}
@@ -136,7 +138,7 @@ core-sole text ts s =
 source_file-sole : (file : List ℕ) (told : Told) → IsSole (file_source file told)
 source_file-sole file told = and_then-sole _ _ (reading-sole _ _ file told) (λ text _. and_then-sole _ _ (tokens-sole text) (λ ts _. source-sole text ts))
 
-program-sole : (file : List ℕ) (told : Told) → IsSole (file_program file told)
+pub program-sole : (file : List ℕ) (told : Told) → IsSole (file_program file told)
 program-sole file told =
     and_then-sole _ _ (reading-sole _ _ file told) (λ text _. and_then-sole _ _ (tokens-sole text) (λ ts _. and_then-sole _ _ (source-sole text ts) (λ s _. core-sole text ts s)))
 
@@ -185,6 +187,15 @@ list_sized-sole n = or_makes-sole _ _ (refused-single _ _ _) (λ none x y e d. e
 counted-sole : (k : ℕ) → IsSole (counted k)
 counted-sole k = or_makes-sole _ _ (refused-single _ _ _) (λ none x y e d. e ∙ sym d)
 
+workers-sole : (w : ℕ) → IsSole (workers_of w)
+workers-sole w = or_makes-sole _ _ (refused-single _ _ _) (λ none x y e d. e ∙ sym d)
+
+few-sole : (p : Program) (n : ℕ) → IsSole (few p n)
+few-sole p n = or_makes-sole _ _ (refused-single _ _ _) (λ none x y _ _. refl)
+
+audited-sole : (p : Program) (n : ℕ) → IsSole (audited p n)
+audited-sole p n = or_makes-sole _ _ (audit_refusal_one p n) (λ none x y _ _. refl)
+
 steps-sole : (c : Command) (told : Told) → IsSole (steps_of c told)
 steps-sole (Analyse file n) told = and_then-sole _ _ (program-sole file told) (λ p h.
     let is = program_is file told p h in
@@ -201,6 +212,10 @@ steps-sole (Listing file name n start k) told = and_then-sole _ _ (program-sole 
     let is = program_is file told p h in
     and_then-sole _ _ (founded-sole p) (λ _ f. and_then-sole _ _ (type-sole p name is) (λ x _. and_then-sole _ _ (list_sized-sole n) (λ m _. and_then-sole _ _ (counted-sole k) (λ j _.
     and_then-sole _ _ (tables-sole Counts p m is f.1) (λ _ _. makes-sole _ (list_text_single p x m start j)))))))
+steps-sole (Audit file n w) told = and_then-sole _ _ (program-sole file told) (λ p h.
+    let is = program_is file told p h in
+    and_then-sole _ _ (founded-sole p) (λ _ f. and_then-sole _ _ (list_sized-sole n) (λ m _. and_then-sole _ _ (workers-sole w) (λ _ _. and_then-sole _ _ (tables-sole Counts p m is f.1) (λ _ _.
+    and_then-sole _ _ (few-sole p m) (λ _ _. and_then-sole _ _ (audited-sole p m) (λ _ _. report-sole p m is)))))))
 
 pub words-single : (o : Option Command) → IsSingle (WordsRefusal o)
 words-single None a b p q = p ∙ sym q
@@ -209,6 +224,7 @@ words-single (Some (Format file)) a b p q = absurd p
 words-single (Some (Run file procedure structure)) a b p q = absurd p
 words-single (Some (Sample number n)) a b p q = or_else-single _ _ (refused-single _ _ _) (refused-single _ _ _) a b p q
 words-single (Some (Listing file name n start k)) a b p q = absurd p
+words-single (Some (Audit file n w)) a b p q = absurd p
 
 asked-sole : (words : List (List ℕ)) → IsSole (asked_by words)
 asked-sole words = or_makes-sole _ _ (words-single (command_of words)) (λ none. some_one (command_of words))

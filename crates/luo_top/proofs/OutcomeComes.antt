@@ -30,7 +30,7 @@ use Rattle.luo_top.specs.Refusals.{LimitRefusal}
 use Rattle.luo_top.specs.Step.{Step, HasNone, ◌or_makes◌, ◌and_then◌, ends}
 use Rattle.luo_top.specs.Steps.{tokens_of, source_of, core_of, CoreRefusal, file_source, file_program, founded, tables}
 use Rattle.luo_top.specs.Told.{Told, ReadingRefusal, reading}
-use Rattle.luo_top.specs.Words.{Command, Analyse, Format, Run, Sample, command_of, WordsRefusal, asked_by, Listing}
+use Rattle.luo_top.specs.Words.{Command, Analyse, Format, Run, Sample, command_of, WordsRefusal, asked_by, Listing, Audit}
 use Rattle.luo_top.proofs.ProgramFacts.{program_is, text_program_is}
 use Rattle.luo_top.proofs.ListLemmas.{ordered_listing}
 use Rattle.luo_top.proofs.ReportComes.{report_comes}
@@ -129,6 +129,12 @@ steps-go_on (Listing file name n start j) told = and_then-goes_on _ _ (program-g
     and_then-goes_on _ _ (founded-goes_on p) (λ _ k. and_then-goes_on _ _ (type-goes_on p name) (λ x _. and_then-goes_on _ _ (or_makes-goes_on _ _ (λ none nothing. nothing n refl)) (λ m _.
     and_then-goes_on _ _ (or_makes-goes_on _ _ (λ none nothing. nothing j refl)) (λ i _. and_then-goes_on _ _ (tables-goes_on Counts p m is k.1) (λ _ _. or_makes-goes_on _ _ (λ none nothing.
     let l = ordered_listing p is k.1 x m in nothing _ (l.0, l.1, refl))))))))
+steps-go_on (Audit file n w) told = and_then-goes_on _ _ (program-goes_on file told) (λ p h.
+    let is = program_is file told p h in
+    and_then-goes_on _ _ (founded-goes_on p) (λ _ k. and_then-goes_on _ _ (or_makes-goes_on _ _ (λ none nothing. nothing n refl)) (λ m _.
+    and_then-goes_on _ _ (or_makes-goes_on _ _ (λ none nothing. nothing w refl)) (λ _ _. and_then-goes_on _ _ (tables-goes_on Counts p m is k.1) (λ _ _.
+    and_then-goes_on _ _ (or_makes-goes_on _ _ (λ none nothing. nothing tt tt)) (λ _ _. and_then-goes_on _ _ (or_makes-goes_on _ _ (λ none nothing. nothing tt tt)) (λ _ _.
+    or_makes-goes_on _ _ (λ none nothing. let r = report_comes p is k.1 m in nothing r.0 r.1))))))))
 
 asked-goes_on : (words : List (List ℕ)) → GoesOn (asked_by words)
 asked-goes_on words = or_makes-goes_on _ _ (by (command_of words))

@@ -36,7 +36,7 @@ whole_there p q f P there =
 
 -- a procedure as the code holds it
 module _ (h : Held) (q : IsProgram (plain_of h)) (procs : List Proc) (e : procs ≡ h.procs) (f : ℕ) (proc : Proc) (there : slice_get procs f ≡ Some proc) where
-  plain_there : slice_get (plain_of h).procs f ≡ Some (procedure_of proc)
+  pub plain_there : slice_get (plain_of h).procs f ≡ Some (procedure_of proc)
   plain_there = get_map procedure_of h.procs f proc (ap (λ (l : List Proc). slice_get l f) (sym e) ∙ there)
 
   pub node_within : proc.on.node < length h.nodes

@@ -11,6 +11,13 @@ same_rest first rest other e a = (
   λ s. elim s [ inl x ↦ inl x | inr x ↦ inr (x.0, (e a).1 x.1) ],
 )
 
+-- first answers that agree, and rests that do
+pub same_else : (first second rest other : Answer → Type 0) → ((a : Answer) → first a ↔ second a) → ((a : Answer) → rest a ↔ other a) → (a : Answer) → (first or_else rest) a ↔ (second or_else other) a
+same_else first second rest other f e a = (
+  λ s. elim s [ inl x ↦ inl ((f a).0 x) | inr x ↦ inr ((λ b y. x.0 b ((f b).1 y)), (e a).0 x.1) ],
+  λ s. elim s [ inl x ↦ inl ((f a).1 x) | inr x ↦ inr ((λ b y. x.0 b ((f b).0 y)), (e a).1 x.1) ],
+)
+
 -- two steps refuse the same, and what one hands on goes with something that the other hands on
 pub record Match {X Y : Type 0} (Goes : X → Y → Type 0) (s : Step X) (t : Step Y) : Type 0 where
   pub refuses : (a : Answer) → s.refuses a ↔ t.refuses a

@@ -1,5 +1,7 @@
+pub mod Audit
 pub mod List
 pub mod Outcome
+pub mod Overflows
 pub mod Report
 pub mod Run
 pub mod Sample

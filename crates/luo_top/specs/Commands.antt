@@ -1,4 +1,5 @@
 pub mod Analyse
+pub mod Audit
 pub mod Format
 pub mod List
 pub mod Run

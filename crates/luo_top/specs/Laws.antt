@@ -12,7 +12,7 @@ use Rattle.luo_top.specs.AsWritten.Outcome.{OutcomeAsWritten}
 use Rattle.luo_top.specs.Outcome.{Outcome}
 use Rattle.luo_top.specs.Step.{HasNone}
 use Rattle.luo_top.specs.Told.{Told}
-use Rattle.luo_top.specs.Words.{Command, Analyse, Format, Run, Sample, command_of, files_of, number_of, Listing}
+use Rattle.luo_top.specs.Words.{Command, Analyse, Format, Run, Sample, command_of, files_of, number_of, Listing, Audit}
 
 -- at most one answer is the outcome
 abbrev pub OutcomeIsOne : Type 0
@@ -85,3 +85,27 @@ ListIsSpelled =
     → (command_of words ≡ Some (Listing file name n start count))
     ↔ ((size : List ℕ) × (place : List ℕ) × (most : List ℕ) × (words ≡ codes "list" ∷ file ∷ name ∷ size ∷ place ∷ most ∷ [])
     × IsNumberWord size n × IsNumberWord place start × IsNumberWord most count)
+
+-- the words of `audit FILE N WORKERS`, and no others, ask for it
+abbrev pub AuditIsSpelled : Type 0
+AuditIsSpelled =
+    (words : List (List ℕ)) (file : List ℕ) (n w : ℕ)
+    → (command_of words ≡ Some (Audit file n w))
+    ↔ ((size : List ℕ) × (workers : List ℕ) × (words ≡ codes "audit" ∷ file ∷ size ∷ workers ∷ [])
+    × IsNumberWord size n × IsNumberWord workers w)
+
+-- two audits of one file up to one size have one output, whatever their numbers of workers
+abbrev pub AuditsAgree : Type 0
+AuditsAgree =
+    (told : Told) (first second : List (List ℕ)) (file : List ℕ) (n v w : ℕ)
+    → command_of first ≡ Some (Audit file n v) → command_of second ≡ Some (Audit file n w)
+    → (a b : List ℕ) → OutcomeAsWritten told first (Output a)
+    → OutcomeAsWritten told second (Output b) → a ≡ b
+
+-- and so have an audit and the report that is made without walking structures
+abbrev pub AuditsReport : Type 0
+AuditsReport =
+    (told : Told) (first second : List (List ℕ)) (file : List ℕ) (n w : ℕ)
+    → command_of first ≡ Some (Audit file n w) → command_of second ≡ Some (Analyse file n)
+    → (a b : List ℕ) → OutcomeAsWritten told first (Output a)
+    → OutcomeAsWritten told second (Output b) → a ≡ b

@@ -1,5 +1,5 @@
 -- What is said of a number past the last one, and its refusal.
-use Rattle.std.specs.Prelude.{◌≡◌, ℕ, ◌++◌, List, codes, decimal}
+use Rattle.std.specs.Prelude.{◌≡◌, ◌⊎◌, ◌<◌, ℕ, ◌++◌, List, codes, decimal}
 use Rattle.luo_model.specs.declared.table.Entry.{Entry}
 use Rattle.luo_model.specs.declared.table.Entry.TheVariants.{Count, Total}
 use Rattle.luo_model.specs.declared.table.Fill.{Fill}
@@ -25,3 +25,12 @@ overflow_line p entry n = line (overflow_text p entry n)
 -- of the tables up to a last size, the first entry past the last number is named
 abbrev pub OverflowRefusal : Program → Fill → ℕ → Answer → Type 0
 OverflowRefusal p fill last answer = (entry : Entry) × (n : ℕ) × IsFirstOver p last fill entry n × (answer ≡ Refusal way.Overflow (overflow_line p entry n))
+
+-- of totals that an audit finds: size m on analyze line j comes before size n on line k, on an earlier
+-- line, or a lesser size on the same
+abbrev pub IsEarlier : ℕ → ℕ → ℕ → ℕ → Type 0
+IsEarlier j m k n = (j < k) ⊎ ((j ≡ k) × (m < n))
+
+-- `overflow: audit of p at size 8`
+abbrev pub audit_line : List ℕ → ℕ → List ℕ
+audit_line name n = line (codes "overflow: audit of " ++ name ++ codes " at size " ++ decimal n)

@@ -1,6 +1,7 @@
--- The refusals of words that name something of a program: a type, a procedure, or a structure by its text; and of numbers of a listing.
+-- The refusals of words that name something of a program: a type, a procedure, or a structure by its
+-- text; and of numbers of a listing or an audit.
 use Rattle.std.specs.Prelude.{ℕ, ◌++◌, List, [], codes, decimal}
-use Rattle.luo_num.specs.declared.limits.TheConstants.{STRUCTURE_TEXT_LIMIT, NESTING_LIMIT, LIST_SIZE_LIMIT, COUNT_LIMIT}
+use Rattle.luo_num.specs.declared.limits.TheConstants.{STRUCTURE_TEXT_LIMIT, NESTING_LIMIT, LIST_SIZE_LIMIT, COUNT_LIMIT, WORKER_LIMIT, WALKED_LIMIT}
 use Rattle.luo_num.specs.Limits.{limit_message}
 use Rattle.luo_read.specs.declared.answers.StructError.{StructError}
 use Rattle.luo_read.specs.declared.answers.StructError.TheVariants.{Long, S1, Deep, S2, S3, NoMemory}
@@ -12,12 +13,19 @@ use Rattle.luo_top.specs.Refusals.{line, at_byte}
 abbrev pub unknown_line : List ℕ → List ℕ
 unknown_line word = line (codes "refused: U1: " ++ word)
 
--- a size past the limit of listings, and a number of structures past its limit
+-- a size past the limit of listings, a number of structures to be listed past its limit, a number of
+-- workers that is none of 1 to its limit, and structures to be walked past their limit
 abbrev pub list_size_line : List ℕ
 list_size_line = line (limit_message (codes "size") LIST_SIZE_LIMIT)
 
 abbrev pub count_line : List ℕ
 count_line = line (limit_message (codes "count") COUNT_LIMIT)
+
+abbrev pub workers_line : List ℕ
+workers_line = line (limit_message (codes "workers") WORKER_LIMIT)
+
+abbrev pub structures_line : List ℕ
+structures_line = line (limit_message (codes "structures") WALKED_LIMIT)
 
 -- the refusal of a text that gives no structure
 abbrev pub refusal_of_structure : StructError → Answer

@@ -22,6 +22,7 @@ pub data Command : Type 0 where
   Run : List ℕ → List ℕ → List ℕ → Command
   Sample : ℕ → ℕ → Command
   Listing : List ℕ → List ℕ → ℕ → ℕ → ℕ → Command
+  Audit : List ℕ → ℕ → ℕ → Command
 
 abbrev pub are_digits : List ℕ → Bool
 are_digits [] = true
@@ -63,6 +64,12 @@ list_of (file ∷ name ∷ n ∷ start ∷ count ∷ []) =
     option_and_then (λ size. option_and_then (λ place. option_map (Listing file name size place) (number_of count)) (number_of start)) (number_of n)
 list_of other = None
 
+-- FILE N WORKERS
+abbrev pub audit_of : List (List ℕ) → Option Command
+audit_of (file ∷ n ∷ workers ∷ []) =
+    option_and_then (λ size. option_map (Audit file size) (number_of workers)) (number_of n)
+audit_of other = None
+
 -- the command whose form the words have
 abbrev pub command_of : List (List ℕ) → Option Command
 command_of [] = None
@@ -72,6 +79,7 @@ command_of (name ∷ rest) =
     else if bytes_eq name (codes "run") then run_of rest
     else if bytes_eq name (codes "sample") then sample_of rest
     else if bytes_eq name (codes "list") then list_of rest
+    else if bytes_eq name (codes "audit") then audit_of rest
     else None
 
 -- the words have the form of no command
@@ -85,6 +93,7 @@ files_of (Format file) = file ∷ []
 files_of (Run file procedure structure) = file ∷ []
 files_of (Sample number n) = []
 files_of (Listing file name n start count) = file ∷ []
+files_of (Audit file n workers) = file ∷ []
 
 -- a number that is too large, and else a size that is
 abbrev pub LimitOfSample : ℕ → ℕ → Answer → Type 0
@@ -97,6 +106,7 @@ LimitOfWords (Format file) answer = ⊥
 LimitOfWords (Run file procedure structure) answer = ⊥
 LimitOfWords (Sample number n) answer = LimitOfSample number n answer
 LimitOfWords (Listing file name n start count) answer = ⊥
+LimitOfWords (Audit file n workers) answer = ⊥
 
 -- what the words alone refuse: that they have no form, or a limit that they pass
 abbrev pub WordsRefusal : Option Command → Answer → Type 0

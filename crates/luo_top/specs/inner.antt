@@ -1,3 +1,4 @@
+pub mod Audited
 pub mod Filled
 pub mod Found
 pub mod Listed

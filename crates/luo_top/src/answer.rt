@@ -7,11 +7,18 @@ use crate::commands;
 use crate::refusal::Refusal;
 use crate::words::{Request, asked};
 use luo_num::Text;
-use luo_outside::Files;
+use luo_outside::{Files, Gate};
 use std::alloc::Global;
+use std::thread::Threads;
 
 /// The output that the words ask for, or why there is none.
-pub fn answer<F: Files>(alloc: Global, words: &[String], files: &mut F) -> Result<Text, Refusal>
+pub fn answer<R: Threads + Sync, F: Files, G: Gate>(
+    rt: &R,
+    alloc: Global,
+    words: &[String],
+    files: &mut F,
+    gate: &G,
+) -> Result<Text, Refusal>
     ensures { IsAnswer (texts words.now) (seen F.named F.faults files.old files.new) result }
 {
     let request = asked(words)?;
@@ -31,5 +38,10 @@ pub fn answer<F: Files>(alloc: Global, words: &[String], files: &mut F) -> Resul
             start,
             most,
         } => commands::list_structures(alloc, files, file, name, last, start, most),
+        Request::Audit {
+            file,
+            last,
+            workers,
+        } => commands::audit_file(rt, alloc, files, file, last, workers, gate),
     }
 }

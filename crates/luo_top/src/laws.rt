@@ -1,6 +1,6 @@
 // Laws of the outcome.
-ghost use Rattle.luo_top.specs.Laws.{OutcomeIsOne, OutcomeComes, OutcomeIsTold, OutcomeIsAsWritten, SamplesAreTaken};
-ghost use Rattle.luo_top.specs.Laws.{NumbersAreSpelled, AnalyseIsSpelled, FormatIsSpelled, RunIsSpelled, ListIsSpelled, SampleIsSpelled};
+ghost use Rattle.luo_top.specs.Laws.{OutcomeIsOne, OutcomeComes, OutcomeIsTold, OutcomeIsAsWritten, SamplesAreTaken, AuditsAgree, AuditsReport};
+ghost use Rattle.luo_top.specs.Laws.{NumbersAreSpelled, AnalyseIsSpelled, FormatIsSpelled, RunIsSpelled, ListIsSpelled, SampleIsSpelled, AuditIsSpelled};
 
 /// Over what a source tells, and for all words, at most one answer is the outcome.
 pub fn outcome_is_one()
@@ -30,6 +30,7 @@ pub fn commands_are_spelled()
     ensures run { RunIsSpelled }
     ensures sample { SampleIsSpelled }
     ensures list { ListIsSpelled }
+    ensures audit { AuditIsSpelled }
     ensures numbers { NumbersAreSpelled }
 {}
 
@@ -37,4 +38,11 @@ pub fn commands_are_spelled()
 /// derives a source, which passes no limit, breaks no rule, and has a well-founded core form.
 pub fn samples_are_taken()
     ensures { SamplesAreTaken }
+{}
+
+/// Two audits of one file up to one size have one output, whatever their numbers of workers, and it is
+/// that of `analyse` wherever both have one.
+pub fn audits_agree()
+    ensures workers { AuditsAgree }
+    ensures report { AuditsReport }
 {}

@@ -2,6 +2,7 @@
 #![tactic(auto)]
 
 mod answer;
+mod audited;
 mod commands;
 pub mod laws;
 mod lines;

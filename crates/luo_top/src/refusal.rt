@@ -6,6 +6,7 @@ ghost use Rattle.luo_top.specs.declared.refusal.Refusal.TheVariants as why;
 use crate::Status;
 use crate::lines::USAGE_LINE;
 use luo_num::NoMemory;
+use std::alloc::AllocError;
 
 /// The line of a refusal.
 #[derive(Drop)]
@@ -76,6 +77,14 @@ impl From<NoMemory> for Refusal {
     ghost from_gives = { λ _ e. e ≡ why.NoMemory };
 
     fn from(_: NoMemory) -> Self {
+        Refusal::NoMemory
+    }
+}
+
+impl From<AllocError> for Refusal {
+    ghost from_gives = { λ _ e. e ≡ why.NoMemory };
+
+    fn from(_: AllocError) -> Self {
         Refusal::NoMemory
     }
 }

@@ -14,8 +14,8 @@ use luo_num::{Items, NoMemory};
 use luo_report::Table;
 use std::alloc::Global;
 
-// Procedure f.
-fn procedure_at(procs: &[Proc], f: usize) -> &Proc
+/// Procedure f.
+pub fn procedure_at(procs: &[Proc], f: usize) -> &Proc
     requires { f < length procs.now }
     ensures { slice_get procs.now f ≡ Some result.now }
 {

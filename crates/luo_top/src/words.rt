@@ -3,7 +3,7 @@ ghost use Rattle.std.specs.Prelude.{◌≡◌, ◌+◌, ◌*◌, ◌≤◌, min,
 ghost use Rattle.std.specs.List.{AllByRecursion};
 ghost use Rattle.luo_scan.specs.Bytes.{IsDigit};
 ghost use Rattle.luo_scan.specs.Spellings.{value_after};
-ghost use Rattle.luo_top.specs.Words.{Command, texts, is_led, analyse_of, format_of, run_of, sample_of, list_of, command_of};
+ghost use Rattle.luo_top.specs.Words.{Command, texts, is_led, analyse_of, format_of, run_of, sample_of, list_of, audit_of, command_of};
 ghost use Rattle.luo_top.specs.inner.Requests.{Asks, IsNumber, IsRequest, IsRequestOf, Keeps};
 
 use crate::refusal::{Line, Refusal};
@@ -44,6 +44,13 @@ pub enum Request<'w> {
         last: u128,
         start: u128,
         most: u128,
+    },
+    /// The report of a file for the sizes up to `last`, found again by so many workers, both numbers
+    /// up to `NUMBER_CAP`.
+    Audit {
+        file: &'w str,
+        last: u128,
+        workers: u128,
     },
 }
 
@@ -173,6 +180,22 @@ fn list(rest: &[String]) -> Option<Request<'_>>
     })
 }
 
+// FILE N WORKERS
+fn audit(rest: &[String]) -> Option<Request<'_>>
+    ensures { IsRequestOf (audit_of (texts rest.now)) result }
+{
+    let [file, last, workers] = rest else {
+        return None;
+    };
+    let last = number(last.as_bytes())?;
+    let workers = number(workers.as_bytes())?;
+    Some(Request::Audit {
+        file: file.as_str(),
+        last,
+        workers,
+    })
+}
+
 // The request of the command whose form the words have.
 fn request_of(words: &[String]) -> Option<Request<'_>>
     ensures { IsRequestOf (command_of (texts words.now)) result }
@@ -194,6 +217,9 @@ fn request_of(words: &[String]) -> Option<Request<'_>>
     }
     if name.as_str() == "list" {
         return list(rest);
+    }
+    if name.as_str() == "audit" {
+        return audit(rest);
     }
     None
 }

@@ -1,23 +1,18 @@
 -- `list FILE TYPE N START COUNT` from a source on, by what it means as it is written.
-use Rattle.std.specs.Prelude.{◌≡◌, ◌<◌, ◌≤◌, ⊤, ℕ, List}
+use Rattle.std.specs.Prelude.{◌≡◌, ℕ, List}
 use Rattle.luo_finite.specs.Listing.{In, Lists, Pairwise}
-use Rattle.luo_num.specs.declared.TheConstants.{MAX}
-use Rattle.luo_model.specs.declared.table.Fill.TheVariants.{Counts}
 use Rattle.luo_model.specs.Order.{IsBefore}
 use Rattle.luo_model.specs.Tree.{Tree}
 use Rattle.luo_source.specs.declared.names.Name.{Name}
 use Rattle.luo_source.specs.declared.source.Source.{Source}
 use Rattle.luo_source.specs.declared.types.TypeDef.{TypeDef}
 use Rattle.luo_source.specs.declared.types.TypeExpr.{Named}
-use Rattle.luo_rules.specs.Whole.{core}
-use Rattle.luo_meaning.specs.Over.{HasCount}
 use Rattle.luo_meaning.specs.Rows.{IsStructureOf}
 use Rattle.luo_top.specs.declared.status.Status.TheVariants.{Refused}
-use Rattle.luo_top.specs.Answer.{Answer}
-use Rattle.luo_top.specs.AsWritten.Steps.{sound_source, founded_source}
-use Rattle.luo_top.specs.Commands.List.{list_sized, counted, lines_from}
-use Rattle.luo_top.specs.Overflows.{OverflowRefusal}
+use Rattle.luo_top.specs.AsWritten.Steps.{sound_source, founded_source, counts}
+use Rattle.luo_top.specs.Commands.List.{counted, lines_from}
 use Rattle.luo_top.specs.Step.{Step, ◌or_makes◌, ◌and_then◌, RefusedWhere, makes}
+use Rattle.luo_top.specs.Steps.{list_sized}
 use Rattle.luo_top.specs.Told.{Told}
 use Rattle.luo_top.specs.WordRefusals.{unknown_line}
 
@@ -28,18 +23,6 @@ IsTypeName source text name = (d : TypeDef) × In d source.types × In name d.na
 -- a word that names no type, and else the type of this name
 abbrev pub defined_type : Source → List ℕ → Step Name
 defined_type source text = RefusedWhere ((name : Name) → IsTypeName source text name → ⊥) Refused (unknown_line text) or_makes IsTypeName source text
-
--- some construct has more structures of a size up to `last` than `most`
-abbrev pub HasCountOver : Source → ℕ → ℕ → Type 0
-HasCountOver source most last = (n : ℕ) × (v : ℕ) × (n ≤ last) × (most < v) × HasCount source n v
-
--- some count up to size n is too large; the first one is named in the order of the core form
-abbrev pub CountOverflowOf : Source → ℕ → Answer → Type 0
-CountOverflowOf source n answer = HasCountOver source MAX n × OverflowRefusal (core source) Counts n answer
-
--- a count that is too large, and else none up to size n is
-abbrev pub counts : Source → ℕ → Step ⊤
-counts source n = CountOverflowOf source n or_makes λ _. HasCountOver source MAX n → ⊥
 
 -- the structures of the type of this name of size n, each once and in order
 abbrev pub IsOrderedListingOf : Source → Name → ℕ → List Tree → Type 0

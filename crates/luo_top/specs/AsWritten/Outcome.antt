@@ -1,6 +1,7 @@
 -- The one answer to these words over what the source tells, by what programs mean as they are written.
 use Rattle.std.specs.Prelude.{ℕ, List}
 use Rattle.luo_top.specs.Answer.{Answer}
+use Rattle.luo_top.specs.AsWritten.Audit.{audit_source}
 use Rattle.luo_top.specs.AsWritten.List.{list_source}
 use Rattle.luo_top.specs.AsWritten.Run.{run_source}
 use Rattle.luo_top.specs.AsWritten.Sample.{sample_source}
@@ -8,7 +9,7 @@ use Rattle.luo_top.specs.AsWritten.Steps.{analyse_source}
 use Rattle.luo_top.specs.Commands.Format.{format}
 use Rattle.luo_top.specs.Step.{Step, ◌and_then◌, ends}
 use Rattle.luo_top.specs.Told.{Told}
-use Rattle.luo_top.specs.Words.{Command, Analyse, Format, Run, Sample, asked_by, Listing}
+use Rattle.luo_top.specs.Words.{Command, Analyse, Format, Run, Sample, asked_by, Listing, Audit}
 
 -- the steps of a command
 abbrev pub steps_as_written : Command → Told → Step (List ℕ)
@@ -17,6 +18,7 @@ steps_as_written (Format file) told = format file told
 steps_as_written (Run file procedure structure) told = run_source file procedure structure told
 steps_as_written (Sample number n) told = sample_source number n
 steps_as_written (Listing file name n start count) told = list_source file name n start count told
+steps_as_written (Audit file n workers) told = audit_source file n workers told
 
 -- in this order: what the words alone refuse, and the steps of their command
 unfoldable pub OutcomeAsWritten : Told → List (List ℕ) → Answer → Type 0

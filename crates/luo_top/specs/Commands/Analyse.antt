@@ -11,7 +11,14 @@ use Rattle.luo_top.specs.Told.{Told}
 abbrev pub report : Program → ℕ → Step (List ℕ)
 report p n = makes (IsReport p n)
 
--- the report of the program for the sizes up to n
+-- from the size on
+abbrev pub analyse_founded : Program → ℕ → Step (List ℕ)
+analyse_founded p n = sized n and_then λ size. tables All p size and_then λ _. report p size
+
+-- from the program on
+abbrev pub analyse_program : ℕ → Program → Step (List ℕ)
+analyse_program n p = founded p and_then λ _. analyse_founded p n
+
+-- the report of the program of a file for the sizes up to n
 abbrev pub analyse : List ℕ → ℕ → Told → Step (List ℕ)
-analyse file n told =
-    file_program file told and_then λ p. founded p and_then λ _. sized n and_then λ size. tables All p size and_then λ _. report p size
+analyse file n told = file_program file told and_then analyse_program n

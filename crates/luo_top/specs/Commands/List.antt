@@ -1,6 +1,6 @@
 -- `list FILE TYPE N START COUNT`
 use Rattle.std.specs.Prelude.{◌≡◌, ◌<◌, ◌+◌, ℕ, List, [], ◌∷◌, ◌++◌, codes, decimal, take, drop, Some, slice_get}
-use Rattle.luo_num.specs.declared.limits.TheConstants.{LIST_SIZE_LIMIT, COUNT_LIMIT}
+use Rattle.luo_num.specs.declared.limits.TheConstants.{COUNT_LIMIT}
 use Rattle.luo_model.specs.declared.program.Def.{Def}
 use Rattle.luo_model.specs.declared.table.Fill.TheVariants.{Counts}
 use Rattle.luo_model.specs.Program.{Program}
@@ -10,9 +10,9 @@ use Rattle.luo_struct.specs.Text.{structure_text}
 use Rattle.luo_top.specs.declared.status.Status.TheVariants.{Refused, Limit}
 use Rattle.luo_top.specs.Refusals.{line}
 use Rattle.luo_top.specs.Step.{Step, ◌or_makes◌, ◌and_then◌, RefusedWhere, makes}
-use Rattle.luo_top.specs.Steps.{file_program, founded, tables}
+use Rattle.luo_top.specs.Steps.{file_program, founded, list_sized, tables}
 use Rattle.luo_top.specs.Told.{Told}
-use Rattle.luo_top.specs.WordRefusals.{unknown_line, list_size_line, count_line}
+use Rattle.luo_top.specs.WordRefusals.{unknown_line, count_line}
 
 -- x is the node of the type of this name
 abbrev pub IsTypeNamed : Program → List ℕ → ℕ → Type 0
@@ -21,10 +21,6 @@ IsTypeNamed p name x = (i : ℕ) × (d : Def) × (slice_get p.defs i ≡ Some d)
 -- a word that names no type, and else the node of the type of this name
 abbrev pub type_of : Program → List ℕ → Step ℕ
 type_of p name = RefusedWhere ((x : ℕ) → IsTypeNamed p name x → ⊥) Refused (unknown_line name) or_makes IsTypeNamed p name
-
--- a size past the limit of listings is refused
-abbrev pub list_sized : ℕ → Step ℕ
-list_sized n = RefusedWhere (LIST_SIZE_LIMIT < n) Limit list_size_line or_makes λ size. size ≡ n
 
 -- a number of structures past its limit is refused
 abbrev pub counted : ℕ → Step ℕ

@@ -69,6 +69,10 @@ run_text p f t q = makes (IsRunText p f t q)
 abbrev pub run_on : Program → List ℕ → ℕ → Step (List ℕ)
 run_on p structure f = structure_of p (parameter_node p f) structure and_then λ t. charge_of p f t and_then run_text p f t
 
+-- from the program on
+abbrev pub run_named : List ℕ → List ℕ → Program → Step (List ℕ)
+run_named procedure structure p = founded p and_then λ _. procedure_of p procedure and_then run_on p structure
+
 -- what the procedure of this name charges on the structure of this text
 abbrev pub run : List ℕ → List ℕ → List ℕ → Told → Step (List ℕ)
-run file procedure structure told = file_program file told and_then λ p. founded p and_then λ _. procedure_of p procedure and_then run_on p structure
+run file procedure structure told = file_program file told and_then run_named procedure structure

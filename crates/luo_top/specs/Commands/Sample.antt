@@ -46,6 +46,10 @@ IsSummary number p n bytes = (rows : List Row) × AreRowsAt p n p.analyses rows 
 abbrev pub summary : ℕ → Program → ℕ → Step (List ℕ)
 summary number p n = makes (IsSummary number p n)
 
+-- from the program on
+abbrev pub sample_of : ℕ → ℕ → Program → Step (List ℕ)
+sample_of number n p = founded p and_then λ _. tables All p n and_then λ _. summary number p n
+
 -- the summary of a sample at size n
 abbrev pub sample : ℕ → ℕ → Step (List ℕ)
-sample number n = sampled number and_then λ p. founded p and_then λ _. tables All p n and_then λ _. summary number p n
+sample number n = sampled number and_then sample_of number n

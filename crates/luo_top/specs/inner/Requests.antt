@@ -4,7 +4,7 @@ use Rattle.luo_top.specs.declared.refusal.Refusal.{Refusal}
 use Rattle.luo_top.specs.declared.refusal.Refusal.TheVariants.{Usage, Refused, Limit, Overflow, ReadFault, NoMemory}
 use Rattle.luo_top.specs.declared.words.TheConstants.{NUMBER_CAP}
 use Rattle.luo_top.specs.declared.words.Request.{Request}
-use Rattle.luo_top.specs.declared.words.Request.TheVariants.{Analyse, Format, Run, Sample, Listing}
+use Rattle.luo_top.specs.declared.words.Request.TheVariants.{Analyse, Format, Run, Sample, Listing, Audit}
 use Rattle.luo_top.specs.declared.status.Status.TheVariants as way
 use Rattle.luo_top.specs.Answer as answer
 use Rattle.luo_top.specs.Outcome.{steps_of}
@@ -27,6 +27,9 @@ IsRequest command (Sample number last) = (k : ℕ) × (n : ℕ) × (command ≡ 
 IsRequest command (Listing file name last start most) =
     (n : ℕ) × (s : ℕ) × (k : ℕ) × (command ≡ words'.Listing file.now name.now n s k)
     × (last ≡ min n NUMBER_CAP) × (start ≡ min s NUMBER_CAP) × (most ≡ min k NUMBER_CAP)
+IsRequest command (Audit file last workers) =
+    (n : ℕ) × (w : ℕ) × (command ≡ words'.Audit file.now n w)
+    × (last ≡ min n NUMBER_CAP) × (workers ≡ min w NUMBER_CAP)
 
 -- the request goes on, where the words of its command pass no limit by themselves, and else their limit refuses it
 abbrev pub Keeps : words'.Command → Request → Result Request Refusal → Type 0

@@ -10,18 +10,16 @@ ghost use Rattle.luo_top.specs.inner.Passes.{Passes, PassesOver, seen, itself};
 
 use crate::refusal::Refusal;
 use crate::rows::tables_of;
-use crate::steps::{file_program, founded, sized, tables};
-use luo_compile::descriptors;
+use crate::steps::{file_program, founded, reported, sized, tables};
 use luo_engine::Engine;
 use luo_founded::Ranks;
 use luo_model::{Fill, Program};
-use luo_num::{Items, Text};
+use luo_num::Text;
 use luo_outside::Files;
-use luo_report::report;
 use std::alloc::Global;
 
-// The report for the sizes up to `last`.
-fn reported(
+// The report of filled tables, for the sizes up to `last`.
+fn analysed(
     alloc: Global,
     program: &Program,
     ranks: &Ranks<'_>,
@@ -33,12 +31,33 @@ fn reported(
     requires full { engine.now ≡ full program.now All last }
     ensures { Passes itself (steps.report (plain_of program.now) last) result }
 {
-    // Only a well-founded program has ranks.
-    let _founded = ranks.program();
-    let equations = descriptors(alloc, program)?;
     let tables = tables_of(alloc, program, engine, last)?;
-    let text = report(alloc, program, &equations, tables.as_slice())?;
-    Ok(Items::from_vec(text))
+    reported(alloc, program, ranks, tables.as_slice(), last)
+}
+
+// The report of a program that has ranks.
+fn analyse_founded(
+    alloc: Global,
+    program: &Program,
+    ranks: &Ranks<'_>,
+    last: u128,
+) -> Result<Text, Refusal>
+    requires ranks { ranks.now ≡ program.now }
+    ensures { (n : ℕ) → last ≡ min n NUMBER_CAP
+        → Passes itself (steps.analyse_founded (plain_of program.now) n) result }
+{
+    let size = sized(last)?;
+    let engine = tables(alloc, program, ranks, size, Fill::All)?;
+    analysed(alloc, program, ranks, &engine, size)
+}
+
+// The report of a program.
+fn analyse_program(alloc: Global, program: &Program, last: u128) -> Result<Text, Refusal>
+    ensures { (n : ℕ) → last ≡ min n NUMBER_CAP
+        → Passes itself (steps.analyse_program n (plain_of program.now)) result }
+{
+    let ranks = founded(alloc, program)?;
+    analyse_founded(alloc, program, &ranks, last)
 }
 
 /// The report of a file for the sizes up to `last`, which is told up to `NUMBER_CAP`.
@@ -52,8 +71,5 @@ pub fn analyse_file<F: Files>(
         (steps.analyse file.now n) (seen F.named F.faults files.old files.new) result }
 {
     let program = file_program(alloc, files, file)?;
-    let ranks = founded(alloc, &program)?;
-    let size = sized(last)?;
-    let engine = tables(alloc, &program, &ranks, size, Fill::All)?;
-    reported(alloc, &program, &ranks, &engine, size)
+    analyse_program(alloc, &program, last)
 }

@@ -1,10 +1,10 @@
 // `run FILE PROC STRUCTURE`
-ghost use Rattle.std.specs.Prelude.{◌≡◌, [], ◌∷◌, IfOk, OnOk};
+ghost use Rattle.std.specs.Prelude.{◌≡◌, ◌<◌, length, [], ◌∷◌, IfOk, OnOk};
 ghost use Rattle.luo_interp.specs.Takes.{Takes};
 ghost use Rattle.luo_model.specs.View.{plain_of};
 ghost use Rattle.luo_struct.specs.View.{tree_of};
 ghost use Rattle.luo_top.specs.Commands.Run as steps;
-ghost use Rattle.luo_top.specs.inner.Found.{has_result, AddsTail};
+ghost use Rattle.luo_top.specs.inner.Found.{IsThere, has_result, AddsTail};
 ghost use Rattle.luo_top.specs.inner.Passes.{Passes, PassesOver, seen, itself};
 
 use crate::refusal::{Line, Refusal};
@@ -109,6 +109,41 @@ fn run_text(
     Ok(Items::from_vec(text))
 }
 
+// The run of a procedure that is there, on the structure of this text.
+fn run_on(
+    alloc: Global,
+    program: &Program,
+    ranks: &Ranks<'_>,
+    procedure: usize,
+    structure: &str,
+) -> Result<Text, Refusal>
+    requires ranks { ranks.now ≡ program.now }
+    requires there { IsThere (plain_of program.now) procedure }
+    requires within { steps.parameter_node (plain_of program.now) procedure
+        < length program.now.nodes }
+    ensures { Passes itself
+        (steps.run_on (plain_of program.now) structure.now procedure) result }
+{
+    let s = structure_of(alloc, program, procedure, structure)?;
+    let charge = charge_of(program, ranks, procedure, &s)?;
+    run_text(alloc, program, ranks, procedure, &s, charge)
+}
+
+// The run of the procedure of this name of a program.
+fn run_named(
+    alloc: Global,
+    program: &Program,
+    procedure: &str,
+    structure: &str,
+) -> Result<Text, Refusal>
+    ensures { Passes itself
+        (steps.run_named procedure.now structure.now (plain_of program.now)) result }
+{
+    let ranks = founded(alloc, program)?;
+    let place = procedure_of(alloc, program, procedure)?;
+    run_on(alloc, program, &ranks, place, structure)
+}
+
 /// What the procedure of this name charges on the structure of this text, and what it makes of it.
 pub fn run_procedure<F: Files>(
     alloc: Global,
@@ -122,9 +157,5 @@ pub fn run_procedure<F: Files>(
         (seen F.named F.faults files.old files.new) result }
 {
     let program = file_program(alloc, files, file)?;
-    let ranks = founded(alloc, &program)?;
-    let place = procedure_of(alloc, &program, procedure)?;
-    let s = structure_of(alloc, &program, place, structure)?;
-    let charge = charge_of(&program, &ranks, place, &s)?;
-    run_text(alloc, &program, &ranks, place, &s, charge)
+    run_named(alloc, &program, procedure, structure)
 }

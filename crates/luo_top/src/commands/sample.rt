@@ -127,6 +127,23 @@ fn text_program(alloc: Global, text: &Text) -> Result<Program, Refusal>
     core_of(alloc, text, &tokens, &source)
 }
 
+// The summary of a program whose text has so many bytes, from the program on.
+fn sample_of(
+    alloc: Global,
+    number: u64,
+    bytes: usize,
+    program: &Program,
+    n: u32,
+) -> Result<Text, Refusal>
+    requires bytes { bytes ≡ length (Sample number) }
+    requires size { n ≤ SIZE_LIMIT }
+    ensures { Passes itself (steps.sample_of number n (plain_of program.now)) result }
+{
+    let ranks = founded(alloc, program)?;
+    let engine = tables(alloc, program, &ranks, n, Fill::All)?;
+    summed(alloc, number, bytes, program, &engine, n)
+}
+
 /// The summary of the sample of a number at size n.
 pub fn sample_summary(alloc: Global, number: u128, n: u128) -> Result<Text, Refusal>
     requires number { number ≤ SAMPLE_LIMIT }
@@ -135,14 +152,5 @@ pub fn sample_summary(alloc: Global, number: u128, n: u128) -> Result<Text, Refu
 {
     let text = sample_text(alloc, number as u64)?;
     let program = text_program(alloc, &text)?;
-    let ranks = founded(alloc, &program)?;
-    let engine = tables(alloc, &program, &ranks, n as u32, Fill::All)?;
-    summed(
-        alloc,
-        number as u64,
-        text.len(),
-        &program,
-        &engine,
-        n as u32,
-    )
+    sample_of(alloc, number as u64, text.len(), &program, n as u32)
 }

@@ -1,8 +1,7 @@
-// What a listing is of: a type, a size, and how many structures.
-ghost use Rattle.std.specs.Prelude.{◌≡◌, ◌≤◌, ◌<◌, ℕ, length, min, IfOk};
+// What a listing is of: a type, and how many structures.
+ghost use Rattle.std.specs.Prelude.{◌≡◌, ◌<◌, ℕ, length, min, IfOk};
 ghost use Rattle.luo_model.specs.View.{plain_of};
 ghost use Rattle.luo_top.specs.declared.words.TheConstants.{NUMBER_CAP};
-ghost use Rattle.luo_num.specs.declared.limits.TheConstants.{LIST_SIZE_LIMIT};
 ghost use Rattle.luo_top.specs.Commands.List as list;
 ghost use Rattle.luo_top.specs.inner.Found.{def_of};
 ghost use Rattle.luo_top.specs.inner.Passes.{Passes, itself};
@@ -10,7 +9,7 @@ ghost use Rattle.luo_top.specs.inner.Passes.{Passes, itself};
 use crate::refusal::{Line, Refusal};
 use crate::steps::structure::unknown_line;
 use luo_model::{Def, Program};
-use luo_num::limits::{COUNT_LIMIT, COUNT_LIMIT_LINE, LIST_SIZE_LIMIT, LIST_SIZE_LIMIT_LINE};
+use luo_num::limits::{COUNT_LIMIT, COUNT_LIMIT_LINE};
 use std::alloc::Global;
 
 // The node of the first type of this name.
@@ -38,17 +37,6 @@ pub fn type_of(alloc: Global, program: &Program, name: &str) -> Result<usize, Re
             Err(_) => Err(Refusal::NoMemory),
         },
     }
-}
-
-/// A size within the limit of listings, from a number that is told up to `NUMBER_CAP`.
-pub fn list_sized(last: u128) -> Result<u32, Refusal>
-    ensures passes { (n : ℕ) → last ≡ min n NUMBER_CAP → Passes itself (list.list_sized n) result }
-    ensures size { IfOk result (λ m. m ≤ LIST_SIZE_LIMIT) }
-{
-    if last > u128::from(LIST_SIZE_LIMIT) {
-        return Err(Refusal::Limit(Line::Fixed(LIST_SIZE_LIMIT_LINE)));
-    }
-    Ok(last as u32)
 }
 
 /// A number of structures within its limit, from a number that is told up to `NUMBER_CAP`.

@@ -1,4 +1,4 @@
-use Rattle.luo_top.specs.Words.{Analyse, Format, Run, Sample, Listing}
+use Rattle.luo_top.specs.Words.{Analyse, Format, Run, Sample, Listing, Audit}
 use Rattle.luo_top.proofs.CommandWords.{command_spelled, spelled_command}
 use Rattle.luo_top.proofs.NumberWords.{number_word, word_number}
 use Rattle.luo_top.proofs.laws.commands_are_spelled.Goals as goal
@@ -17,6 +17,9 @@ returns-clause-sample c = λ words number n. (command_spelled words (Sample numb
 
 pub returns-clause-list : goal.returns-clause-list
 returns-clause-list c = λ words file name n start count. (command_spelled words (Listing file name n start count), spelled_command words (Listing file name n start count))
+
+pub returns-clause-audit : goal.returns-clause-audit
+returns-clause-audit c = λ words file n w. (command_spelled words (Audit file n w), spelled_command words (Audit file n w))
 
 pub returns-clause-numbers : goal.returns-clause-numbers
 returns-clause-numbers c = λ word n. (word_number word n, number_word word n)

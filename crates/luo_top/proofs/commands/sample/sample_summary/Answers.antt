@@ -8,8 +8,8 @@ use Rattle.luo_top.proofs.commands.sample.sample_summary.Goals as goal
 pub text_program-requires : goal.text_program-requires
 text_program-requires c = record { short = subst (λ (t : List ℕ). length t ≤ TEXT_LIMIT) (sym c.in_ok-text.ensures) (each_is_good c.args.number (omega arith)).bytes }
 
-pub summed-requires-clause-bytes : goal.summed-requires-clause-bytes
-summed-requires-clause-bytes c = c.len.ensures ∙ ap length c.in_ok-text.ensures
+pub sample_of-requires-clause-bytes : goal.sample_of-requires-clause-bytes
+sample_of-requires-clause-bytes c = c.len.ensures ∙ ap length c.in_ok-text.ensures
 
 pub returns-in_err-text : goal.returns-in_err-text
 returns-in_err-text c = starved c.from_residual.ensures.1
@@ -17,12 +17,5 @@ returns-in_err-text c = starved c.from_residual.ensures.1
 pub returns-in_err-program : goal.returns-in_err-program
 returns-in_err-program c = stop _ (of_text c.args.number c.in_ok-text.ensures c.in_err-program.ensures) c.from_residual-in_err-program.ensures.1
 
-pub returns-in_err-ranks : goal.returns-in_err-ranks
-returns-in_err-ranks c = go _ (of_text c.args.number c.in_ok-text.ensures c.in_ok-program.ensures) (stop _ c.in_err-ranks.ensures.passes c.from_residual-in_err-ranks.ensures.1)
-
-pub returns-in_err-engine : goal.returns-in_err-engine
-returns-in_err-engine c =
-    go _ (of_text c.args.number c.in_ok-text.ensures c.in_ok-program.ensures) (go _ c.in_ok-ranks.ensures.passes (stop _ c.in_err-engine.ensures.passes c.from_residual-in_err-engine.ensures.1))
-
 pub returns : goal.returns
-returns c = go _ (of_text c.args.number c.in_ok-text.ensures c.in_ok-program.ensures) (go _ c.in_ok-ranks.ensures.passes (go _ c.in_ok-engine.ensures.passes c.summed.ensures))
+returns c = go _ (of_text c.args.number c.in_ok-text.ensures c.in_ok-program.ensures) c.sample_of.ensures

@@ -1,18 +1,13 @@
-use Rattle.std.proofs.Common.{◌≡◌, ◌<◌, sym, ap, ◌∙◌, subst, List, length, map}
-use Rattle.luo_finite.specs.Listing.{In}
+use Rattle.std.proofs.Common.{◌≡◌, ap, ◌∙◌, subst, map}
 use Rattle.luo_model.specs.View.{Held, plain_of}
 use Rattle.luo_model.specs.Founded.{IsFounded}
 use Rattle.luo_equation.specs.View.{equation_of}
 use Rattle.luo_equation.specs.Expr as series
-use Rattle.luo_report.specs.declared.table.Table.{Table}
 use Rattle.luo_report.specs.Report.{report_text}
 use Rattle.luo_system.specs.System.{system}
 use Rattle.luo_system.specs.Holding.{IsTableOf}
 use Rattle.luo_top.proofs.StepLemmas.{made}
-use Rattle.luo_top.proofs.commands.analyse.reported.Goals as goal
-
-pub report-requires : goal.report-requires
-report-requires c = record { named = subst (λ (l : List Table). (t : Table) → In t l → t.callee < length c.args.program.now.procs) (sym c.as_slice.ensures) c.in_ok-tables.ensures.named }
+use Rattle.luo_top.proofs.steps.reporting.reported.Goals as goal
 
 pub returns : goal.returns
 returns c =
@@ -21,9 +16,5 @@ returns c =
     let equations : map equation_of c.deref.result.now ≡ system p = ap (map equation_of) c.deref.ensures.value ∙ c.in_ok-equations.ensures.equations in
     made _ _ (
       subst (λ es. (numbers : series.Table) × IsTableOf p es numbers) c.in_ok-equations.ensures.equations (c.in_ok-equations.ensures.table founded),
-      (
-        c.in_ok-tables.tables,
-        c.in_ok-tables.ensures.right,
-        c.from_vec.ensures ∙ c.in_ok-text.ensures ∙ (λ i. report_text p (equations i) (c.as_slice.ensures i)),
-      ),
+      (c.args.tables.now, c.requires.right, c.from_vec.ensures ∙ c.in_ok-text.ensures ∙ ap (λ es. report_text p es c.args.tables.now) equations),
     )
