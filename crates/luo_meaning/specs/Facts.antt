@@ -127,5 +127,6 @@ abbrev pub TypesOfChoices : Type 0
 TypesOfChoices =
     IsSameType choices (of_name (name (codes "a") 0)) (of_name (name (codes "a") 1))
     × (IsSameType choices (of_name (name (codes "a") 0)) (of_name (name (codes "b") 0)) → ⊥)
-    × StmtBreaks choices ((codes "v", of_name (name (codes "z") 0)) ∷ []) (Call (name (codes "p") 70) (name (codes "v") 72)) (record { rule = Y9; token = 72; names = codes "v" ∷ codes "p" ∷ [] })
+    × StmtBreaks choices ((codes "v", of_name (name (codes "z") 0)) ∷ []) (Call (name (codes "p") 70) (name (codes "v") 72))
+    (record { rule = Y9; token = 72; names = codes "v" ∷ codes "p" ∷ [] })
     × ((b : Breach) → StmtBreaks choices ((codes "v", of_name (name (codes "u") 0)) ∷ []) (Call (name (codes "p") 70) (name (codes "v") 72)) b → ⊥)

@@ -2,8 +2,14 @@
 #![tactic(auto)]
 
 ghost use Rattle.luo_meaning.specs.Names.{NamesMeanFirstEntries};
-ghost use Rattle.luo_meaning.specs.Facts.{BinaryTreesOfTwo, PathLengths, SpinesAreCharged, PermutationsOfTwo, FewCyclesOfTwo, CyclesAreCharged, ChoicesOfTwo, BothIsMade, PlacesOfBinaryTrees, RanksOfBinaryTrees, LevelsOfBinaryTrees, OrderOfBinaryTrees, TypesOfChoices};
-ghost use Rattle.luo_meaning.specs.Laws.{StructuresAreKept, ConstructsAreKept, ChargesAreKept, MadeIsKept, CountsAreKept, TotalsAreKept, RowsAreKept, TablesAreKept, HeadingsAreKept, OverIsKept, WalksAreKept, NumbersAreKept, OrderIsKept, EntryNamesAreKept, BrokenIsKept, FirstBrokenIsKept, NothingBrokenIsKept};
+ghost use Rattle.luo_meaning.specs.Facts.{BinaryTreesOfTwo, PathLengths, SpinesAreCharged, PermutationsOfTwo};
+ghost use Rattle.luo_meaning.specs.Facts.{FewCyclesOfTwo, CyclesAreCharged, ChoicesOfTwo, BothIsMade};
+ghost use Rattle.luo_meaning.specs.Facts.{PlacesOfBinaryTrees, RanksOfBinaryTrees, LevelsOfBinaryTrees};
+ghost use Rattle.luo_meaning.specs.Facts.{OrderOfBinaryTrees, TypesOfChoices};
+ghost use Rattle.luo_meaning.specs.Laws.{StructuresAreKept, ConstructsAreKept, ChargesAreKept, MadeIsKept};
+ghost use Rattle.luo_meaning.specs.Laws.{CountsAreKept, TotalsAreKept, RowsAreKept, TablesAreKept, HeadingsAreKept};
+ghost use Rattle.luo_meaning.specs.Laws.{OverIsKept, WalksAreKept, NumbersAreKept, OrderIsKept, EntryNamesAreKept};
+ghost use Rattle.luo_meaning.specs.Laws.{BrokenIsKept, FirstBrokenIsKept, NothingBrokenIsKept};
 
 /// A name means what the first of all definitions of this name says, in the order of types, measures and procedures, whatever rules
 /// the source breaks.
