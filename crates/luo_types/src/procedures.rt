@@ -24,7 +24,7 @@ use luo_model::{Body, Made, Proc, Universe};
 use luo_num::Items;
 use luo_rules::{Meaning, Rule, Setting, Stop};
 use luo_source::{Name, ProcBody, ProcDef, SourceValue, Stmt};
-use luo_value_types::{breach, use_procedure, use_type, value};
+use luo_value_types::{Context, Maker, breach, use_procedure, use_type, value};
 use std::alloc::Global;
 
 // A procedure with a result stands in an unlabelled program.
@@ -77,17 +77,15 @@ fn made_body(
     ensures stops { IfErr result (λ e. StopsAt (value_breaches setting.now (parameter param.now node) (Some expected) source.now) e) }
 {
     let scope = one_variable(alloc, param, node)?;
-    let mut body = no_body(alloc);
-    let made = value(
+    let context = Context {
         alloc,
         setting,
-        scope.as_slice(),
-        expected,
-        source,
-        &mut body,
-        next,
-    )?;
-    Ok((body, made))
+        scope: scope.as_slice(),
+    };
+    let mut maker = Maker::new(alloc, *next);
+    let made = value(&context, expected, source, &mut maker)?;
+    *next = maker.next;
+    Ok((maker.body, made))
 }
 
 // What a procedure does, whose parameter has this node, and its result.

@@ -20,8 +20,8 @@ use luo_num::Items;
 use luo_rules::{Rule, Setting, Stop, Variable};
 use luo_source::{Name, SourceArm, Stmt};
 use luo_value_types::{
-    Stand, argument, breach_at, case_variable, pattern, stand_at, use_measure, use_procedure,
-    variable,
+    Context, Stand, argument, breach_at, case_variable, pattern, stand_at, use_measure,
+    use_procedure, variable,
 };
 use std::alloc::{AllocError, Global};
 
@@ -83,7 +83,12 @@ fn call(
 {
     let meant = setting.meant(callee);
     let procedure = use_procedure(alloc, meant, callee)?;
-    let place = argument(alloc, setting, scope, meant, arg, callee)?;
+    let context = Context {
+        alloc,
+        setting,
+        scope,
+    };
+    let place = argument(&context, meant, arg, callee)?;
     let site = take_site(next);
     push_item(
         body,
@@ -122,7 +127,12 @@ fn arm(
     ensures ok { IfOk result (λ made. IsArmMade setting.now (stand_of stand) var.now arm.now made next.old next.new) }
     ensures stops { IfErr result (λ e. StopsAt (one_arm_breaches setting.now (stand_of stand) var.now arm.now) e) }
 {
-    let opened = pattern(alloc, setting, stand, var, &arm.pattern)?;
+    let context = Context {
+        alloc,
+        setting,
+        scope: &[],
+    };
+    let opened = pattern(&context, stand, var, &arm.pattern)?;
     let mut body = no_body(alloc);
     stmt(
         alloc,
@@ -179,7 +189,12 @@ fn case(
     ensures ok { OnOk result (IsStmtAdded setting.now scope.now (form.Case var.now branches.now) body.old body.new next.old next.new) }
     ensures stops { IfErr result (λ e. StopsAt (stmt_breaches setting.now scope.now (form.Case var.now branches.now)) e) }
 {
-    let there = case_variable(alloc, setting, scope, var, branches.len())?;
+    let context = Context {
+        alloc,
+        setting,
+        scope,
+    };
+    let there = case_variable(&context, var, branches.len())?;
     let made = arms(alloc, setting, there.1, var, branches, next)?;
     let site = take_site(next);
     push_item(
@@ -203,7 +218,12 @@ fn collection(
     ensures ok { IfOk result (λ walk. IsWalked setting.now (found scope.now source.now) source.now walk) }
     ensures stops { IfErr result (λ e. (inner : List Breach) → StopsAt (walk_breaches setting.now (found scope.now source.now) source.now inner) e) }
 {
-    let there = variable(alloc, scope, source)?;
+    let context = Context {
+        alloc,
+        setting,
+        scope,
+    };
+    let there = variable(&context, source)?;
     match setting.shape(there.1) {
         Some(Shape::Coll { part, .. }) => Ok((there.0, part.node)),
         _ => Err(breach_at(alloc, Rule::Y12, source)),

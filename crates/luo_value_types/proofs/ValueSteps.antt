@@ -1,6 +1,5 @@
 -- What is broken and made in the forms of a value.
-use Rattle.std.proofs.Common.{◌≡◌, ℕ, zero, suc, ◌+◌, ◌^◌, ◌<◌, ◌≤◌, List, [], ◌∷◌, ◌++◌, Option, Some, None, true, false, Result, Ok, Err, map, length, nat_eq, codes, decimal, eq-eqb, is_some, if◌then◌else◌, refl, ap, sym, subst, ◌∙◌, arith, add-zero}
-use Rattle.std.specs.Prelude.{IfOk, IfErr}
+use Rattle.std.proofs.Common.{◌≡◌, ℕ, zero, suc, ◌+◌, ◌^◌, ◌<◌, ◌≤◌, List, [], ◌∷◌, ◌++◌, Option, Some, None, true, false, Result, map, length, nat_eq, codes, decimal, eq-eqb, is_some, if◌then◌else◌, refl, ap, sym, subst, ◌∙◌, arith, add-zero}
 use Rattle.std.specs.Result.{IsErrAnd}
 use Rattle.std.proofs.lemmas.Bool.{eqb-true}
 use Rattle.std.proofs.lemmas.Result.{err_from_is_err_and}
@@ -31,6 +30,7 @@ use Rattle.luo_rules.specs.Breaches.{◌or_if_none◌, broken, StopsAt}
 use Rattle.luo_rules.specs.Meanings.{procedure_use, procedure_of}
 use Rattle.luo_rules.specs.Settings.{meant, signature_meant, shape_at, found, place_of, argument_breaches, case_stands}
 use Rattle.luo_rules.specs.Patterns.{bound, case_breaches, has_factors}
+use Rattle.luo_value_types.specs.Checks.{Checks}
 use Rattle.luo_value_types.specs.inner.Room.{HasFewBranches, HasRoom}
 use Rattle.luo_rules.specs.Statements.{value_statements}
 use Rattle.luo_rules.specs.ValueBreaches.{value_breaches, given_breaches, result_breaches, charge_use, is_atom, misplaced, branch_at, branch_of, part_nodes}
@@ -43,32 +43,13 @@ use Rattle.luo_rules.proofs.ValueForms.{tuple_breaches, tuple_core, tuple_statem
 use Rattle.luo_value_types.proofs.ValueRoom.{sites_within}
 use Rattle.luo_value_types.proofs.CoreForms.{tuple_form, branch_form, case_form, case_item}
 
--- a stop that is handed on
-pub handed : {V : Type 0} (r : Result V Stop) (e : Stop) (P : Stop → Type 0) → IsErrAnd r (λ y. y ≡ e) → P e → IfErr r P
-handed r e P h p = let from = err_from_is_err_and r h in rw (from.1, from.2) p
-
--- what holds of an answer implies more of it
-ok_more : {V : Type 0} (r : Result V Stop) (P Q : V → Type 0) → ((v : V) → P v → Q v) → IfOk r P → IfOk r Q
-ok_more (Ok v) P Q more h = more v h
-ok_more (Err stop) P Q more h = tt
-
-stops_more : {V : Type 0} (r : Result V Stop) (P Q : Stop → Type 0) → ((stop : Stop) → P stop → Q stop) → IfErr r P → IfErr r Q
-stops_more (Ok v) P Q more h = tt
-stops_more (Err stop) P Q more h = more stop h
+-- a check that hands a stop on
+pub stopped : {V : Type 0} (r : Result V Stop) (e : Stop) (bs : List Breach) (P : V → Type 0) → IsErrAnd r (λ y. y ≡ e) → StopsAt bs e → Checks bs r P
+stopped r e bs P h p = let from = err_from_is_err_and r h in rw (from.1, from.2) (tt, (tt, p))
 
 -- what is made at a value is made at the same one
 made_along : (s : Setting) (scope : List Variable) (e : Option ℕ) (v w : SourceValue) (m : Value) (old new : Body) (first next : ℕ) → v ≡ w → IsMade (value_breaches s scope e w) (value_core s scope e w) m old new first next → IsMade (value_breaches s scope e v) (value_core s scope e v) m old new first next
 made_along s scope e v w m old new first next is h = subst (λ z. IsMade (value_breaches s scope e z) (value_core s scope e z) m old new first next) (sym is) h
-
-pub atom_ok : (s : Setting) (scope : List Variable) (e : ℕ) (v : SourceValue) (charge : Option Name) (at : ℕ) (r : Result Value Stop) (old new : Body) (next : ℕ) → v ≡ source.Atom charge at → IfOk r (λ m. (scope : List Variable) (next : ℕ) → IsMade (value_breaches s scope (Some e) (source.Atom charge at)) (value_core s scope (Some e) (source.Atom charge at)) m old new next next) → IfOk r (λ m. IsMade (value_breaches s scope (Some e) v) (value_core s scope (Some e) v) m old new next next)
-atom_ok s scope e v charge at r old new next is h =
-    ok_more r _ (λ m. IsMade (value_breaches s scope (Some e) v) (value_core s scope (Some e) v) m old new next next)
-    (λ (m : Value) (all : (scope : List Variable) (next : ℕ) → IsMade (value_breaches s scope (Some e) (source.Atom charge at)) (value_core s scope (Some e) (source.Atom charge at)) m old new next next). made_along s scope (Some e) v (source.Atom charge at) m old new next next is (all scope next)) h
-
-pub atom_stops : (s : Setting) (scope : List Variable) (e : ℕ) (v : SourceValue) (charge : Option Name) (at : ℕ) (r : Result Value Stop) → v ≡ source.Atom charge at → IfErr r (λ stop. (scope : List Variable) → StopsAt (value_breaches s scope (Some e) (source.Atom charge at)) stop) → IfErr r (λ stop. StopsAt (value_breaches s scope (Some e) v) stop)
-atom_stops s scope e v charge at r is h =
-    stops_more r _ (λ stop. StopsAt (value_breaches s scope (Some e) v) stop)
-    (λ (stop : Stop) (all : (scope : List Variable) → StopsAt (value_breaches s scope (Some e) (source.Atom charge at)) stop). subst (λ z. StopsAt (value_breaches s scope (Some e) z) stop) (sym is) (all scope)) h
 
 pub given_made : (s : Setting) (scope : List Variable) (e : ℕ) (v : SourceValue) (name : Name) (place : ℕ) (b : Body) (next : ℕ) → v ≡ source.Given name → given_breaches (found scope name) (Some e) name ≡ [] → place ≡ place_of (found scope name) → IsMade (value_breaches s scope (Some e) v) (value_core s scope (Some e) v) (made.Given place) b b next next
 given_made s scope e v name place b next is unbroken there = made_along s scope (Some e) v (source.Given name) (made.Given place) b b next next is (record {

@@ -1,2 +1,4 @@
 pub mod Stands
 pub mod Room
+pub mod Callee
+pub mod Values

@@ -1,6 +1,7 @@
 //! Scopes, patterns and the uses of names, which statements and values share, and the check of values.
 #![tactic(auto)]
 
+mod context;
 mod patterns;
 mod scope;
 mod shared;
@@ -10,6 +11,7 @@ mod value_leaves;
 mod value_statements;
 mod values;
 
+pub use context::{Context, Maker};
 pub use luo_rules::{Breach, Meaning, Names, Rule, Setting, Signature, Stop, Variable};
 pub use patterns::{Opened, has_factors, pattern};
 pub use scope::{argument, find, variable};

@@ -6,6 +6,7 @@ ghost use Rattle.luo_rules.specs.Patterns as spec;
 ghost use Rattle.luo_rules.specs.Settings.{type_node, shape_at};
 ghost use Rattle.luo_value_types.specs.inner.Stands.{stand_of};
 
+use crate::context::Context;
 use crate::stands::Stand;
 use crate::uses::{breach, breach_at, use_type};
 use luo_model::{Bind, Part, Shape};
@@ -278,18 +279,21 @@ fn bound(
 /// Opens a pattern in a case on this variable, in an arm that stands for this.
 #[tactic(auto, using(crate::proofs::PatternLemmas::pattern_steps))]
 pub fn pattern(
-    alloc: Global,
-    setting: &Setting,
+    context: &Context<'_>,
     stand: Stand,
     var: &Name,
     pattern: &Pattern,
 ) -> Result<Opened, Stop>
-    ensures ok { OnOk result (spec.pattern_breaches setting.now (stand_of stand) var.now pattern.now ≡ []) }
-    ensures fitting { OnOk result (spec.fits setting.now (stand_of stand) pattern.now ≡ true) }
+    ensures ok { OnOk result
+        (spec.pattern_breaches context.now.setting.now (stand_of stand) var.now pattern.now ≡ []) }
+    ensures fitting { OnOk result (spec.fits context.now.setting.now (stand_of stand) pattern.now ≡ true) }
     ensures bind { IfOk result (λ o. o.bind ≡ spec.bind_of pattern.now) }
-    ensures scope { IfOk result (λ o. o.scope ≡ spec.bound setting.now (stand_of stand) pattern.now) }
-    ensures stops { IfErr result (λ s. StopsAt (spec.pattern_breaches setting.now (stand_of stand) var.now pattern.now) s) }
+    ensures scope { IfOk result (λ o. o.scope ≡ spec.bound context.now.setting.now (stand_of stand) pattern.now) }
+    ensures stops { IfErr result (λ s. StopsAt
+        (spec.pattern_breaches context.now.setting.now (stand_of stand) var.now pattern.now) s) }
 {
+    let alloc = context.alloc;
+    let setting = context.setting;
     use_pattern_type(alloc, setting, pattern)?;
     if !fits(setting, stand, pattern) {
         return Err(breach(alloc, Rule::Y11, first_token(pattern), var.text.as_slice()));

@@ -4,9 +4,10 @@ ghost use Rattle.luo_rules.specs.declared.rule.Rule.TheVariants.{Y9};
 ghost use Rattle.luo_rules.specs.Breaches.{StopsAt};
 ghost use Rattle.luo_rules.specs.Settings.{signature_meant, found, place_of, variable_use, argument_breaches};
 
+use crate::context::Context;
 use crate::uses::breach_at;
 use luo_num::Items;
-use luo_rules::{Breach, Meaning, Rule, Setting, Stop, Variable};
+use luo_rules::{Breach, Meaning, Rule, Stop, Variable};
 use luo_source::Name;
 use std::alloc::{AllocError, Global};
 
@@ -23,13 +24,13 @@ pub fn find(scope: &[Variable], name: &Name) -> Option<(usize, usize)>
 }
 
 /// The place and the node of a variable that has to be bound.
-pub fn variable(alloc: Global, scope: &[Variable], name: &Name) -> Result<(usize, usize), Stop>
-    ensures ok { IfOk result (λ v. found scope.now name.now ≡ Some v) }
-    ensures stops { IfErr result (λ s. StopsAt (variable_use (found scope.now name.now) name.now) s) }
+pub fn variable(context: &Context<'_>, name: &Name) -> Result<(usize, usize), Stop>
+    ensures ok { IfOk result (λ v. found context.now.scope.now name.now ≡ Some v) }
+    ensures stops { IfErr result (StopsAt (variable_use (found context.now.scope.now name.now) name.now)) }
 {
-    match find(scope, name) {
+    match find(context.scope, name) {
         Some(there) => Ok(there),
-        None => Err(breach_at(alloc, Rule::Y13, name)),
+        None => Err(breach_at(context.alloc, Rule::Y13, name)),
     }
 }
 
@@ -59,23 +60,23 @@ fn other_type(alloc: Global, arg: &Name, callee: &Name) -> Stop
 
 /// The place of the argument of a call, which has to be of the parameter's type.
 pub fn argument(
-    alloc: Global,
-    setting: &Setting,
-    scope: &[Variable],
+    context: &Context<'_>,
     callee_meant: Option<Meaning>,
     arg: &Name,
     callee: &Name,
 ) -> Result<usize, Stop>
-    ensures ok { OnOk result (argument_breaches (found scope.now arg.now) (signature_meant setting.now callee_meant).on arg.now callee.now ≡ []) }
-    ensures place { IfOk result (λ i. i ≡ place_of (found scope.now arg.now)) }
-    ensures stops { IfErr result (λ s. StopsAt (argument_breaches (found scope.now arg.now) (signature_meant setting.now callee_meant).on arg.now callee.now) s) }
+    ensures ok { OnOk result (argument_breaches (found context.now.scope.now arg.now)
+        (signature_meant context.now.setting.now callee_meant).on arg.now callee.now ≡ []) }
+    ensures place { IfOk result (λ i. i ≡ place_of (found context.now.scope.now arg.now)) }
+    ensures stops { IfErr result (λ s. StopsAt (argument_breaches (found context.now.scope.now arg.now)
+        (signature_meant context.now.setting.now callee_meant).on arg.now callee.now) s) }
 {
-    let Some((place, node)) = find(scope, arg) else {
-        return Err(breach_at(alloc, Rule::Y13, arg));
+    let Some((place, node)) = find(context.scope, arg) else {
+        return Err(breach_at(context.alloc, Rule::Y13, arg));
     };
-    let on = setting.signature_meant(callee_meant).on;
+    let on = context.setting.signature_meant(callee_meant).on;
     match on {
-        Some(wanted) if wanted != node => Err(other_type(alloc, arg, callee)),
+        Some(wanted) if wanted != node => Err(other_type(context.alloc, arg, callee)),
         _ => Ok(place),
     }
 }

@@ -8,12 +8,12 @@ ghost use Rattle.luo_rules.specs.Settings.{shape_at, found, case_stands};
 ghost use Rattle.luo_value_types.specs.inner.Stands.{stand_of};
 ghost use Rattle.luo_rules.specs.declared.rule.Breach.{Breach};
 
+use crate::context::Context;
 use crate::scope::variable;
 use crate::uses::breach_at;
 use luo_model::Shape;
-use luo_rules::{Rule, Setting, Stop, Variable};
+use luo_rules::{Rule, Setting, Stop};
 use luo_source::Name;
-use std::alloc::Global;
 
 /// What an arm stands for, by its node.
 #[derive(Clone, Copy, Debug, PartialEq, Eq)]
@@ -71,21 +71,17 @@ pub fn stand_at(setting: &Setting, node: usize, place: usize) -> Option<Stand>
 
 /// The place and the node of the variable of a case with so many arms. It has to be bound, and of a
 /// union of so many branches, or of a product where there is one arm.
-pub fn case_variable(
-    alloc: Global,
-    setting: &Setting,
-    scope: &[Variable],
-    var: &Name,
-    arms: usize,
-) -> Result<(usize, usize), Stop>
-    ensures ok { IfOk result (λ v. found scope.now var.now ≡ Some v) }
-    ensures arms { OnOk result (nat_eq arms (length (case_stands setting.now (found scope.now var.now))) ≡ true) }
-    ensures stops { IfErr result (λ s. (inner : List Breach) → StopsAt (case_breaches setting.now (found scope.now var.now) var.now arms inner) s) }
+pub fn case_variable(context: &Context<'_>, var: &Name, arms: usize) -> Result<(usize, usize), Stop>
+    ensures ok { IfOk result (λ v. found context.now.scope.now var.now ≡ Some v) }
+    ensures arms { OnOk result (nat_eq arms
+        (length (case_stands context.now.setting.now (found context.now.scope.now var.now))) ≡ true) }
+    ensures stops { IfErr result (λ s. (inner : List Breach) → StopsAt (case_breaches context.now.setting.now
+        (found context.now.scope.now var.now) var.now arms inner) s) }
 {
-    let there = variable(alloc, scope, var)?;
-    if arms == stand_count(setting, there.1) {
+    let there = variable(context, var)?;
+    if arms == stand_count(context.setting, there.1) {
         Ok(there)
     } else {
-        Err(breach_at(alloc, Rule::Y10, var))
+        Err(breach_at(context.alloc, Rule::Y10, var))
     }
 }

@@ -2,6 +2,8 @@
 ghost use Rattle.std.specs.Prelude.{◌≡◌, [], Some, false, length, decimal, IfOk, IfErr, OnOk, IfSome, IfNone};
 ghost use Rattle.luo_model.specs.declared.program.Shape.TheVariants.{Atom, Product};
 ghost use Rattle.luo_rules.specs.Breaches.{◌or_if_none◌, broken, StopsAt};
+ghost use Rattle.luo_value_types.specs.Checks.{Checks};
+ghost use Rattle.luo_value_types.specs.inner.Callee.{callee_breaches};
 ghost use Rattle.luo_rules.specs.Meanings.{procedure_use, procedure_of};
 ghost use Rattle.luo_rules.specs.Settings.{meant, signature_meant, shape_at, found, place_of};
 ghost use Rattle.luo_rules.specs.Patterns.{has_factors};
@@ -9,30 +11,25 @@ ghost use Rattle.luo_rules.specs.declared.rule.Rule.TheVariants.{Y15};
 ghost use Rattle.luo_rules.specs.ValueBreaches.{given_breaches, result_breaches, charge_use, is_atom, branch_at, branch_of};
 ghost use Rattle.luo_rules.specs.ValueCore.{charge_of};
 
+use crate::context::Context;
 use crate::scope::variable;
 use crate::uses::{breach, breach_at, use_measure, use_procedure};
 use itoa::Buffer;
 use luo_model::{Part, Shape};
-use luo_rules::{Rule, Setting, Stop, Variable};
+use luo_rules::{Rule, Setting, Stop};
 use luo_source::Name;
 use std::alloc::Global;
 
 // The place of a variable that is handed on where this node is expected.
-pub(crate) fn given(
-    alloc: Global,
-    scope: &[Variable],
-    expected: usize,
-    name: &Name,
-) -> Result<usize, Stop>
-    ensures unbroken { OnOk result (given_breaches (found scope.now name.now) (Some expected) name.now ≡ []) }
-    ensures place { IfOk result (λ i. i ≡ place_of (found scope.now name.now)) }
-    ensures stops { IfErr result (λ s. StopsAt (given_breaches (found scope.now name.now) (Some expected) name.now) s) }
+pub(crate) fn given(context: &Context<'_>, expected: usize, name: &Name) -> Result<usize, Stop>
+    ensures { Checks (given_breaches (found context.now.scope.now name.now) (Some expected) name.now)
+        result (λ i. i ≡ place_of (found context.now.scope.now name.now)) }
 {
-    let there = variable(alloc, scope, name)?;
+    let there = variable(context, name)?;
     if there.1 == expected {
         Ok(there.0)
     } else {
-        Err(breach_at(alloc, Rule::Y15, name))
+        Err(breach_at(context.alloc, Rule::Y15, name))
     }
 }
 
@@ -44,7 +41,7 @@ fn check_result(
     callee: &Name,
 ) -> Result<(), Stop>
     ensures unbroken { OnOk result (result_breaches (Some expected) made callee.now ≡ []) }
-    ensures stops { IfErr result (λ s. StopsAt (result_breaches (Some expected) made callee.now) s) }
+    ensures stops { IfErr result (StopsAt (result_breaches (Some expected) made callee.now)) }
 {
     match made {
         None => Err(breach_at(alloc, Rule::Y15, callee)),
@@ -55,39 +52,32 @@ fn check_result(
 
 // The procedure that is called where this node is expected.
 pub(crate) fn callee_of(
-    alloc: Global,
-    setting: &Setting,
+    context: &Context<'_>,
     expected: usize,
     callee: &Name,
 ) -> Result<usize, Stop>
-    ensures unbroken { OnOk result ((procedure_use (meant setting.now callee.now) callee.now or_if_none result_breaches (Some expected) (signature_meant setting.now (meant setting.now callee.now)).result callee.now) ≡ []) }
-    ensures procedure { IfOk result (λ f. f ≡ procedure_of (meant setting.now callee.now)) }
-    ensures stops { IfErr result (λ s. StopsAt (procedure_use (meant setting.now callee.now) callee.now or_if_none result_breaches (Some expected) (signature_meant setting.now (meant setting.now callee.now)).result callee.now) s) }
+    ensures { Checks (callee_breaches context.now.setting.now expected callee.now)
+        result (λ f. f ≡ procedure_of (meant context.now.setting.now callee.now)) }
 {
-    let meant = setting.meant(callee);
-    let procedure = use_procedure(alloc, meant, callee)?;
+    let meant = context.setting.meant(callee);
+    let procedure = use_procedure(context.alloc, meant, callee)?;
     check_result(
-        alloc,
+        context.alloc,
         expected,
-        setting.signature_meant(meant).result,
+        context.setting.signature_meant(meant).result,
         callee,
     )?;
     Ok(procedure)
 }
 
 // The value of the measure that is charged at an atom, and 0 where none is.
-pub(crate) fn charge_at(
-    alloc: Global,
-    setting: &Setting,
-    charge: &Option<Name>,
-) -> Result<u128, Stop>
-    ensures unbroken { OnOk result (charge_use setting.now charge.now ≡ []) }
-    ensures value { IfOk result (λ own. own ≡ charge_of setting.now charge.now) }
-    ensures stops { IfErr result (λ s. StopsAt (charge_use setting.now charge.now) s) }
+pub(crate) fn charge_at(context: &Context<'_>, charge: &Option<Name>) -> Result<u128, Stop>
+    ensures { Checks (charge_use context.now.setting.now charge.now)
+        result (λ own. own ≡ charge_of context.now.setting.now charge.now) }
 {
     match charge {
         None => Ok(0),
-        Some(measure) => use_measure(alloc, setting.meant(measure), measure),
+        Some(measure) => use_measure(context.alloc, context.setting.meant(measure), measure),
     }
 }
 

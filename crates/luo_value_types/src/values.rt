@@ -1,19 +1,17 @@
 // The typing and the core form of values.
-ghost use Rattle.std.specs.Prelude.{◌≡◌, ◌≤◌, ◌+◌, ◌*◌, ℕ, List, [], ◌∷◌, Some, map, length, IfOk, IfErr};
+ghost use Rattle.std.specs.Prelude.{◌≡◌, ◌≤◌, ◌+◌, ◌*◌, List, length};
 ghost use Rattle.luo_num.specs.declared.limits.TheConstants.{NUMBER_LIMIT, STATEMENT_LIMIT};
 ghost use Rattle.luo_source.specs.declared.values.SourceValue as source;
 ghost use Rattle.luo_model.specs.Scopes.{stands};
-ghost use Rattle.luo_rules.specs.Breaches.{StopsAt};
-ghost use Rattle.luo_rules.specs.declared.setting.Variable.{Variable};
 ghost use Rattle.luo_rules.specs.Settings.{shape_at};
+ghost use Rattle.luo_rules.specs.Statements.{value_statements};
+ghost use Rattle.luo_rules.specs.inner.ValueLists.{parts_statements, arms_statements};
 ghost use Rattle.luo_value_types.specs.inner.Stands.{stand_of};
 ghost use Rattle.luo_value_types.specs.inner.Room.{HasMeasuresWithin, HasFewBranches, HasRoom};
-ghost use Rattle.luo_rules.specs.Statements.{value_statements};
-ghost use Rattle.luo_rules.specs.ValueBreaches.{value_breaches};
-ghost use Rattle.luo_rules.specs.ValueCore.{value_core};
-ghost use Rattle.luo_rules.specs.inner.ValueLists.{parts_breaches, parts_core, parts_statements, arms_breaches, arms_core, arms_statements, AreMade, ArmsAreMade, ArmIsMade};
-ghost use Rattle.luo_rules.specs.inner.ValueMade.{IsMade};
+ghost use Rattle.luo_value_types.specs.inner.Values.{HasRoomFor, ChecksValue, ChecksParts};
+ghost use Rattle.luo_value_types.specs.inner.Values.{ChecksArms, ChecksArm};
 
+use crate::context::{Context, Maker};
 use crate::patterns::pattern;
 use crate::scope::argument;
 use crate::stands::{Stand, case_variable, stand_at};
@@ -21,102 +19,63 @@ use crate::uses::breach;
 use crate::value_leaves::{
     branch_node, callee_of, charge_at, factors_at, given, no_branch, weight_at,
 };
-use luo_model::{Arm, Body, Item, Part, Value, ValueArm};
+use luo_model::{Arm, Item, Part, Value, ValueArm};
 use luo_num::{Boxed, Items};
-use luo_rules::{Rule, Setting, Stop, Variable};
+use luo_rules::{Rule, Stop};
 use luo_source::{Name, SourceValue, SourceValueArm};
-use std::alloc::Global;
 
 /// Checks a value where a structure of this node is expected, and makes its core form. Its charges,
-/// calls and cases go behind those of `body`, with sites from `next` on. It stops at its first breach.
+/// calls and cases go behind those of the maker's body, with its next sites. It stops at its first breach.
 #[cycle(values)]
 pub fn value(
-    alloc: Global,
-    setting: &Setting,
-    scope: &[Variable],
+    context: &Context<'_>,
     expected: usize,
     value: &SourceValue,
-    body: &mut Body,
-    next: &mut usize,
+    maker: &mut Maker,
 ) -> Result<Value, Stop>
-    requires measures { HasMeasuresWithin setting.now }
-    requires branches { HasFewBranches setting.now }
-    requires room { HasRoom (value_statements value.now) body.old.own next.old }
-    ensures ok { IfOk result (λ v. IsMade (value_breaches setting.now scope.now (Some expected) value.now) (value_core setting.now scope.now (Some expected) value.now) v body.old body.new next.old next.new) }
-    ensures stops { IfErr result (λ s. StopsAt (value_breaches setting.now scope.now (Some expected) value.now) s) }
+    requires measures { HasMeasuresWithin context.now.setting.now }
+    requires branches { HasFewBranches context.now.setting.now }
+    requires room { HasRoomFor (value_statements value.now) maker.old }
+    ensures { ChecksValue context.now.setting.now context.now.scope.now expected value.now
+        result maker.old maker.new }
 {
     match value {
         SourceValue::Given(name) => {
-            let place = given(alloc, scope, expected, name)?;
+            let place = given(context, expected, name)?;
             Ok(Value::Given(place))
         }
-        SourceValue::Made { callee, arg } => {
-            call(alloc, setting, scope, expected, callee, arg, body, next)
-        }
-        SourceValue::Atom { charge, at } => atom(alloc, setting, expected, charge, *at, body),
+        SourceValue::Made { callee, arg } => call(context, expected, callee, arg, maker),
+        SourceValue::Atom { charge, at } => atom(context, expected, charge, *at, maker),
         SourceValue::Tuple { parts, at } => {
-            tuple(
-                alloc,
-                setting,
-                scope,
-                expected,
-                parts.as_slice(),
-                *at,
-                body,
-                next,
-            )
+            tuple(context, expected, parts.as_slice(), *at, maker)
         }
         SourceValue::Branch { number, at, inner } => {
-            branch(
-                alloc,
-                setting,
-                scope,
-                expected,
-                *number,
-                *at,
-                inner.get(),
-                body,
-                next,
-            )
+            branch(context, expected, (*number, *at), inner.get(), maker)
         }
-        SourceValue::Case { var, arms } => {
-            case(
-                alloc,
-                setting,
-                scope,
-                expected,
-                var,
-                arms.as_slice(),
-                body,
-                next,
-            )
-        }
+        SourceValue::Case { var, arms } => case(context, expected, var, arms.as_slice(), maker),
     }
 }
 
 // A call.
 fn call(
-    alloc: Global,
-    setting: &Setting,
-    scope: &[Variable],
+    context: &Context<'_>,
     expected: usize,
     callee: &Name,
     arg: &Name,
-    body: &mut Body,
-    next: &mut usize,
+    maker: &mut Maker,
 ) -> Result<Value, Stop>
-    requires { HasRoom (value_statements (source.Made callee.now arg.now)) body.old.own next.old }
-    ensures ok { IfOk result (λ v. IsMade (value_breaches setting.now scope.now (Some expected) (source.Made callee.now arg.now)) (value_core setting.now scope.now (Some expected) (source.Made callee.now arg.now)) v body.old body.new next.old next.new) }
-    ensures stops { IfErr result (λ s. StopsAt (value_breaches setting.now scope.now (Some expected) (source.Made callee.now arg.now)) s) }
+    requires { HasRoomFor (value_statements (source.Made callee.now arg.now)) maker.old }
+    ensures { ChecksValue context.now.setting.now context.now.scope.now expected (source.Made callee.now arg.now)
+        result maker.old maker.new }
 {
-    let procedure = callee_of(alloc, setting, expected, callee)?;
-    let var = argument(alloc, setting, scope, setting.meant(callee), arg, callee)?;
-    body.items.push(Item::Call {
+    let procedure = callee_of(context, expected, callee)?;
+    let var = argument(context, context.setting.meant(callee), arg, callee)?;
+    maker.body.items.push(Item::Call {
         var,
         callee: procedure,
-        site: *next,
+        site: maker.next,
     })?;
-    *next += 1;
+    maker.next += 1;
     Ok(Value::Call {
         var,
         callee: procedure,
@@ -125,139 +84,126 @@ fn call(
 
 // An atom.
 fn atom(
-    alloc: Global,
-    setting: &Setting,
+    context: &Context<'_>,
     expected: usize,
     charge: &Option<Name>,
     at: usize,
-    body: &mut Body,
+    maker: &mut Maker,
 ) -> Result<Value, Stop>
-    requires measures { HasMeasuresWithin setting.now }
-    requires room { body.old.own + NUMBER_LIMIT ≤ STATEMENT_LIMIT * NUMBER_LIMIT }
-    ensures ok { IfOk result (λ v. (scope : List Variable) (next : ℕ) → IsMade (value_breaches setting.now scope (Some expected) (source.Atom charge.now at)) (value_core setting.now scope (Some expected) (source.Atom charge.now at)) v body.old body.new next next) }
-    ensures stops { IfErr result (λ s. (scope : List Variable) → StopsAt (value_breaches setting.now scope (Some expected) (source.Atom charge.now at)) s) }
+    requires measures { HasMeasuresWithin context.now.setting.now }
+    requires room { maker.old.body.own + NUMBER_LIMIT ≤ STATEMENT_LIMIT * NUMBER_LIMIT }
+    ensures { ChecksValue context.now.setting.now context.now.scope.now expected (source.Atom charge.now at)
+        result maker.old maker.new }
 {
-    let own = charge_at(alloc, setting, charge)?;
-    match weight_at(setting, expected) {
+    let own = charge_at(context, charge)?;
+    match weight_at(context.setting, expected) {
         Some(weight) => {
-            body.own += own;
+            maker.body.own += own;
             Ok(Value::Atom { weight, own })
         }
-        None => Err(breach(alloc, Rule::Y15, at, b"atom")),
+        None => Err(breach(context.alloc, Rule::Y15, at, b"atom")),
     }
 }
 
 // A tuple.
 #[cycle(values)]
 fn tuple(
-    alloc: Global,
-    setting: &Setting,
-    scope: &[Variable],
+    context: &Context<'_>,
     expected: usize,
     parts: &[SourceValue],
     at: usize,
-    body: &mut Body,
-    next: &mut usize,
+    maker: &mut Maker,
 ) -> Result<Value, Stop>
-    requires measures { HasMeasuresWithin setting.now }
-    requires branches { HasFewBranches setting.now }
-    requires room { HasRoom (value_statements (source.Tuple parts.now at)) body.old.own next.old }
-    ensures ok { IfOk result (λ v. IsMade (value_breaches setting.now scope.now (Some expected) (source.Tuple parts.now at)) (value_core setting.now scope.now (Some expected) (source.Tuple parts.now at)) v body.old body.new next.old next.new) }
-    ensures stops { IfErr result (λ s. StopsAt (value_breaches setting.now scope.now (Some expected) (source.Tuple parts.now at)) s) }
+    requires measures { HasMeasuresWithin context.now.setting.now }
+    requires branches { HasFewBranches context.now.setting.now }
+    requires room { HasRoomFor (value_statements (source.Tuple parts.now at)) maker.old }
+    ensures { ChecksValue context.now.setting.now context.now.scope.now expected (source.Tuple parts.now at)
+        result maker.old maker.new }
 {
-    match factors_at(setting, expected, parts.len()) {
+    match factors_at(context.setting, expected, parts.len()) {
         Some(factors) => {
-            let made = all_parts(alloc, setting, scope, factors, parts, body, next)?;
+            let made = all_parts(context, factors, parts, maker)?;
             Ok(Value::Tuple(made))
         }
-        None => Err(breach(alloc, Rule::Y15, at, b"product")),
+        None => Err(breach(context.alloc, Rule::Y15, at, b"product")),
     }
 }
 
 // The parts of a tuple of these factors.
 #[cycle(values)]
 fn all_parts(
-    alloc: Global,
-    setting: &Setting,
-    scope: &[Variable],
+    context: &Context<'_>,
     factors: &[Part],
     parts: &[SourceValue],
-    body: &mut Body,
-    next: &mut usize,
+    maker: &mut Maker,
 ) -> Result<Items<Value>, Stop>
-    requires measures { HasMeasuresWithin setting.now }
-    requires branches { HasFewBranches setting.now }
+    requires measures { HasMeasuresWithin context.now.setting.now }
+    requires branches { HasFewBranches context.now.setting.now }
     requires each { length factors.now ≡ length parts.now }
-    requires room { HasRoom (parts_statements parts.now) body.old.own next.old }
-    ensures ok { IfOk result (λ vs. AreMade (parts_breaches setting.now scope.now (map (λ p. p.node) factors.now) parts.now) (parts_core setting.now scope.now (map (λ p. p.node) factors.now) parts.now) vs body.old body.new next.old next.new) }
-    ensures stops { IfErr result (λ s. StopsAt (parts_breaches setting.now scope.now (map (λ p. p.node) factors.now) parts.now) s) }
+    requires room { HasRoomFor (parts_statements parts.now) maker.old }
+    ensures { ChecksParts context.now.setting.now context.now.scope.now factors.now parts.now
+        result maker.old maker.new }
 {
-    let mut made = Items::new(alloc);
+    let mut made = Items::new(context.alloc);
     for (i, part) in parts.iter().enumerate() {
-        let one = value(alloc, setting, scope, factors[i].node, part, body, next)?;
+        let one = value(context, factors[i].node, part, maker)?;
         made.push(one)?;
     }
     Ok(made)
 }
 
-// A structure of a branch.
+// A structure of the branch of this number, with the token where the number stands.
 #[cycle(values)]
 fn branch(
-    alloc: Global,
-    setting: &Setting,
-    scope: &[Variable],
+    context: &Context<'_>,
     expected: usize,
-    number: u128,
-    at: usize,
+    place: (u128, usize),
     inner: &SourceValue,
-    body: &mut Body,
-    next: &mut usize,
+    maker: &mut Maker,
 ) -> Result<Value, Stop>
-    requires measures { HasMeasuresWithin setting.now }
-    requires branches { HasFewBranches setting.now }
-    requires room { HasRoom (value_statements (source.Branch number at inner.now)) body.old.own next.old }
-    ensures ok { IfOk result (λ v. IsMade (value_breaches setting.now scope.now (Some expected) (source.Branch number at inner.now)) (value_core setting.now scope.now (Some expected) (source.Branch number at inner.now)) v body.old body.new next.old next.new) }
-    ensures stops { IfErr result (λ s. StopsAt (value_breaches setting.now scope.now (Some expected) (source.Branch number at inner.now)) s) }
+    requires measures { HasMeasuresWithin context.now.setting.now }
+    requires branches { HasFewBranches context.now.setting.now }
+    requires room { HasRoomFor (value_statements (source.Branch place.0 place.1 inner.now)) maker.old }
+    ensures { ChecksValue context.now.setting.now context.now.scope.now expected (source.Branch place.0 place.1 inner.now)
+        result maker.old maker.new }
 {
-    match branch_node(setting, expected, number) {
+    let (number, at) = place;
+    match branch_node(context.setting, expected, number) {
         Some(node) => {
-            let made = value(alloc, setting, scope, node, inner, body, next)?;
+            let made = value(context, node, inner, maker)?;
             Ok(Value::Branch {
                 number: number as u32,
-                inner: Boxed::new(alloc, made)?,
+                inner: Boxed::new(context.alloc, made)?,
             })
         }
-        None => Err(no_branch(alloc, at, number)),
+        None => Err(no_branch(context.alloc, at, number)),
     }
 }
 
 // A case.
 #[cycle(values)]
 fn case(
-    alloc: Global,
-    setting: &Setting,
-    scope: &[Variable],
+    context: &Context<'_>,
     expected: usize,
     var: &Name,
     arms: &[SourceValueArm],
-    body: &mut Body,
-    next: &mut usize,
+    maker: &mut Maker,
 ) -> Result<Value, Stop>
-    requires measures { HasMeasuresWithin setting.now }
-    requires branches { HasFewBranches setting.now }
-    requires room { HasRoom (value_statements (source.Case var.now arms.now)) body.old.own next.old }
-    ensures ok { IfOk result (λ v. IsMade (value_breaches setting.now scope.now (Some expected) (source.Case var.now arms.now)) (value_core setting.now scope.now (Some expected) (source.Case var.now arms.now)) v body.old body.new next.old next.new) }
-    ensures stops { IfErr result (λ s. StopsAt (value_breaches setting.now scope.now (Some expected) (source.Case var.now arms.now)) s) }
+    requires measures { HasMeasuresWithin context.now.setting.now }
+    requires branches { HasFewBranches context.now.setting.now }
+    requires room { HasRoomFor (value_statements (source.Case var.now arms.now)) maker.old }
+    ensures { ChecksValue context.now.setting.now context.now.scope.now expected (source.Case var.now arms.now)
+        result maker.old maker.new }
 {
-    let there = case_variable(alloc, setting, scope, var, arms.len())?;
-    let made = all_arms(alloc, setting, there.1, expected, var, arms, next)?;
-    let site = *next;
-    body.items.push(Item::Case {
+    let there = case_variable(context, var, arms.len())?;
+    let made = all_arms(context, there.1, expected, var, arms, &mut maker.next)?;
+    let site = maker.next;
+    maker.body.items.push(Item::Case {
         var: there.0,
         arms: made.1,
         site,
     })?;
-    *next += 1;
+    maker.next += 1;
     Ok(Value::Case {
         var: there.0,
         arms: made.0,
@@ -267,28 +213,26 @@ fn case(
 // The arms of a case on a variable of this node: those of the value, and those of the body.
 #[cycle(values)]
 fn all_arms(
-    alloc: Global,
-    setting: &Setting,
+    context: &Context<'_>,
     node: usize,
     expected: usize,
     var: &Name,
     arms: &[SourceValueArm],
     next: &mut usize,
 ) -> Result<(Items<ValueArm>, Items<Arm>), Stop>
-    requires measures { HasMeasuresWithin setting.now }
-    requires branches { HasFewBranches setting.now }
-    requires each { length arms.now ≡ length (stands node (shape_at setting.now node)) }
+    requires measures { HasMeasuresWithin context.now.setting.now }
+    requires branches { HasFewBranches context.now.setting.now }
+    requires each { length arms.now ≡ length (stands node (shape_at context.now.setting.now node)) }
     requires room { HasRoom (arms_statements arms.now) 0 next.old }
-    ensures ok { IfOk result (λ made. ArmsAreMade (arms_breaches setting.now (stands node (shape_at setting.now node)) (Some expected) var.now arms.now) (arms_core setting.now (stands node (shape_at setting.now node)) (Some expected) arms.now) made.0 made.1 next.old next.new) }
-    ensures stops { IfErr result (λ s. StopsAt (arms_breaches setting.now (stands node (shape_at setting.now node)) (Some expected) var.now arms.now) s) }
+    ensures { ChecksArms context.now.setting.now node expected var.now arms.now result next.old next.new }
 {
-    let mut values = Items::new(alloc);
-    let mut bodies = Items::new(alloc);
+    let mut values = Items::new(context.alloc);
+    let mut bodies = Items::new(context.alloc);
     for (i, arm) in arms.iter().enumerate() {
-        let Some(stand) = stand_at(setting, node, i) else {
+        let Some(stand) = stand_at(context.setting, node, i) else {
             unreachable!()
         };
-        let made = one_arm(alloc, setting, stand, expected, var, arm, next)?;
+        let made = one_arm(context, stand, expected, var, arm, next)?;
         values.push(made.0)?;
         bodies.push(made.1)?;
     }
@@ -298,34 +242,34 @@ fn all_arms(
 // An arm that stands for this: that of the value, and that of the body.
 #[cycle(values)]
 fn one_arm(
-    alloc: Global,
-    setting: &Setting,
+    context: &Context<'_>,
     stand: Stand,
     expected: usize,
     var: &Name,
     arm: &SourceValueArm,
     next: &mut usize,
 ) -> Result<(ValueArm, Arm), Stop>
-    requires measures { HasMeasuresWithin setting.now }
-    requires branches { HasFewBranches setting.now }
+    requires measures { HasMeasuresWithin context.now.setting.now }
+    requires branches { HasFewBranches context.now.setting.now }
     requires room { HasRoom (value_statements arm.now.body) 0 next.old }
-    ensures ok { IfOk result (λ made. ArmIsMade (arms_breaches setting.now (stand_of stand ∷ []) (Some expected) var.now (arm.now ∷ [])) (arms_core setting.now (stand_of stand ∷ []) (Some expected) (arm.now ∷ [])) made.0 made.1 next.old next.new) }
-    ensures stops { IfErr result (λ s. StopsAt (arms_breaches setting.now (stand_of stand ∷ []) (Some expected) var.now (arm.now ∷ [])) s) }
+    ensures { ChecksArm context.now.setting.now (stand_of stand) expected var.now arm.now
+        result next.old next.new }
 {
-    let opened = pattern(alloc, setting, stand, var, &arm.pattern)?;
-    let mut body = Body {
-        own: 0,
-        items: Items::new(alloc),
+    let opened = pattern(context, stand, var, &arm.pattern)?;
+    let inside = Context {
+        alloc: context.alloc,
+        setting: context.setting,
+        scope: opened.scope.as_slice(),
     };
-    let made = value(
-        alloc,
-        setting,
-        opened.scope.as_slice(),
-        expected,
-        &arm.body,
-        &mut body,
-        next,
-    )?;
+    let mut maker = Maker::new(context.alloc, *next);
+    let made = value(&inside, expected, &arm.body, &mut maker)?;
+    *next = maker.next;
     let bind = opened.bind;
-    Ok((ValueArm { bind, value: made }, Arm { bind, body }))
+    Ok((
+        ValueArm { bind, value: made },
+        Arm {
+            bind,
+            body: maker.body,
+        },
+    ))
 }

@@ -6,7 +6,7 @@ use Rattle.luo_value_types.proofs.ValuesSoFar.{PartsSoFar}
 use Rattle.luo_value_types.proofs.values.+values.Given as goal
 
 abbrev pub invariant-all_parts-loop-i : goal.invariant-all_parts-loop-i
-invariant-all_parts-loop-i l = PartsSoFar l.setting l.scope l.factors l.parts l.i l.made l.initial.body l.body l.initial.next l.next
+invariant-all_parts-loop-i l = PartsSoFar l.context.setting.now l.context.scope.now l.factors l.parts l.i l.made l.initial.maker.body l.maker.body l.initial.maker.next l.maker.next
 
 abbrev pub invariant-all_arms-loop-i : goal.invariant-all_arms-loop-i
-invariant-all_arms-loop-i l = ArmsSoFar l.setting (stands l.node (shape_at l.setting l.node)) (Some l.expected) l.var l.arms l.i l.values l.bodies l.initial.next l.next
+invariant-all_arms-loop-i l = ArmsSoFar l.context.setting.now (stands l.node (shape_at l.context.setting.now l.node)) (Some l.expected) l.var l.arms l.i l.values l.bodies l.initial.next l.next
