@@ -162,6 +162,10 @@ pub stmt-is : (s : Setting) (scope : List Variable) (stmt one : Stmt) (old new b
 stmt-is s scope stmt one old new body first next after e f g added =
     subst (λ z. IsStmtAdded s scope z old body first after) (sym e) (subst (λ z. IsStmtAdded s scope one old z first after) (sym f) (subst (λ z. IsStmtAdded s scope one old new first z) (sym g) added))
 
+-- an answer about a statement that is added
+pub added-ok : (s : Setting) (scope : List Variable) (stmt : Stmt) (old new : Body) (first next : ℕ) → IsStmtAdded s scope stmt old new first next → (stmt_breaches s scope stmt ≡ []) × (IsStmtAdded s scope stmt old new first next × Unit {0})
+added-ok s scope stmt old new first next added = (added.unbroken, (added, tt))
+
 -- a case stops at its variable
 pub case-variable_stops : (s : Setting) (scope : List Variable) (var : Name) (arms : List SourceArm) (count : ℕ) (at : Stop) → count ≡ length arms → ((inner : List Breach) → StopsAt (case_breaches s (found scope var) var count inner) at)
     → StopsAt (stmt_breaches s scope (Case var arms)) at

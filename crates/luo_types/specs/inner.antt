@@ -1,4 +1,5 @@
 pub mod StatementsMade
+pub mod StatementChecks
 pub mod SitesFound
 pub mod ProceduresMade
 pub mod Typed

@@ -19,7 +19,7 @@ ghost use Rattle.luo_rules.specs.inner.StatementLists.{list_breaches, list_does}
 ghost use Rattle.luo_rules.specs.Whole.{result_breaches, parameter, body_breaches, proc_breaches, procs_breaches};
 
 use crate::rules::check_name;
-use crate::statements::{no_body, one_variable, stmts, take_site};
+use crate::statements::{one_variable, stmts, take_site};
 use luo_model::{Body, Made, Proc, Universe};
 use luo_num::Items;
 use luo_rules::{Meaning, Rule, Setting, Stop};
@@ -53,9 +53,15 @@ fn run_body(
     ensures stops { IfErr result (λ e. StopsAt (list_breaches setting.now (parameter param.now node) inner.now) e) }
 {
     let scope = one_variable(alloc, param, node)?;
-    let mut body = no_body(alloc);
-    stmts(alloc, setting, scope.as_slice(), inner, &mut body, next)?;
-    Ok(body)
+    let context = Context {
+        alloc,
+        setting,
+        scope: scope.as_slice(),
+    };
+    let mut maker = Maker::new(alloc, *next);
+    stmts(&context, inner, &mut maker)?;
+    *next = maker.next;
+    Ok(maker.body)
 }
 
 // The body that makes a value of this node, with a parameter of this node, and the value.

@@ -13,27 +13,19 @@ ghost use Rattle.luo_value_types.specs.inner.Room.{HasMeasuresWithin, HasRoom};
 ghost use Rattle.luo_rules.specs.Counted.{stmt_statements};
 ghost use Rattle.luo_rules.specs.StatementBreaches.{walk_breaches, stmt_breaches};
 ghost use Rattle.luo_rules.specs.inner.StatementLists.{list_breaches, one_arm_breaches, arm_list_breaches, arm_statements};
-ghost use Rattle.luo_types.specs.inner.StatementsMade.{HasItem, IsStmtAdded, AreStmtsAdded, IsArmMade, AreArmsMade, IsWalked};
+ghost use Rattle.luo_types.specs.inner.StatementsMade.{HasItem, IsWalked};
+ghost use Rattle.luo_types.specs.inner.StatementChecks.{ChecksCharge, ChecksStmt, ChecksStmts, ChecksArm, ChecksArms};
+ghost use Rattle.luo_value_types.specs.inner.Values.{HasRoomFor};
 
 use luo_model::{Arm, Body, Item, Shape};
 use luo_num::Items;
 use luo_rules::{Rule, Setting, Stop, Variable};
 use luo_source::{Name, SourceArm, Stmt};
 use luo_value_types::{
-    Context, Stand, argument, breach_at, case_variable, pattern, stand_at, use_measure,
+    Context, Maker, Stand, argument, breach_at, case_variable, pattern, stand_at, use_measure,
     use_procedure, variable,
 };
 use std::alloc::{AllocError, Global};
-
-// A body in which nothing is done yet.
-pub(crate) fn no_body(alloc: Global) -> Body
-    ensures { result ≡ record { own = 0; items = [] } }
-{
-    Body {
-        own: 0,
-        items: Items::new(alloc),
-    }
-}
 
 // Puts an item behind those of a body.
 fn push_item(body: &mut Body, item: Item) -> Result<(), AllocError>
@@ -55,43 +47,28 @@ pub(crate) fn take_site(next: &mut usize) -> usize
 }
 
 // Checks a charge and adds it to the body.
-fn charge(alloc: Global, setting: &Setting, measure: &Name, body: &mut Body) -> Result<(), Stop>
+fn charge(context: &Context<'_>, measure: &Name, body: &mut Body) -> Result<(), Stop>
     requires room { HasRoom 1 body.old.own 0 }
-    requires within { HasMeasuresWithin setting.now }
-    ensures unbroken { OnOk result (measure_use (meant setting.now measure.now) measure.now ≡ []) }
-    ensures charged { OnOk result (body.new ≡ record { own = body.old.own + value_of (meant setting.now measure.now); items = body.old.items }) }
-    ensures stops { IfErr result (λ e. StopsAt (measure_use (meant setting.now measure.now) measure.now) e) }
+    requires within { HasMeasuresWithin context.now.setting.now }
+    ensures { ChecksCharge context.now.setting.now measure.now result body.old body.new }
 {
-    let value = use_measure(alloc, setting.meant(measure), measure)?;
+    let value = use_measure(context.alloc, context.setting.meant(measure), measure)?;
     body.own += value;
     Ok(())
 }
 
 // Checks a call and adds it to the body.
-fn call(
-    alloc: Global,
-    setting: &Setting,
-    scope: &[Variable],
-    callee: &Name,
-    arg: &Name,
-    body: &mut Body,
-    next: &mut usize,
-) -> Result<(), Stop>
-    requires { HasRoom 1 body.old.own next.old }
-    ensures ok { OnOk result (IsStmtAdded setting.now scope.now (form.Call callee.now arg.now) body.old body.new next.old next.new) }
-    ensures stops { IfErr result (λ e. StopsAt (stmt_breaches setting.now scope.now (form.Call callee.now arg.now)) e) }
+fn call(context: &Context<'_>, callee: &Name, arg: &Name, maker: &mut Maker) -> Result<(), Stop>
+    requires { HasRoomFor 1 maker.old }
+    ensures { ChecksStmt context.now.setting.now context.now.scope.now
+        (form.Call callee.now arg.now) result maker.old maker.new }
 {
-    let meant = setting.meant(callee);
-    let procedure = use_procedure(alloc, meant, callee)?;
-    let context = Context {
-        alloc,
-        setting,
-        scope,
-    };
-    let place = argument(&context, meant, arg, callee)?;
-    let site = take_site(next);
+    let meant = context.setting.meant(callee);
+    let procedure = use_procedure(context.alloc, meant, callee)?;
+    let place = argument(context, meant, arg, callee)?;
+    let site = take_site(&mut maker.next);
     push_item(
-        body,
+        &mut maker.body,
         Item::Call {
             var: place,
             callee: procedure,
@@ -115,59 +92,51 @@ fn arm_stand(setting: &Setting, node: usize, place: usize) -> Stand
 // Checks an arm that stands for this, in a case on this variable, and makes it.
 #[cycle(statements)]
 fn arm(
-    alloc: Global,
-    setting: &Setting,
+    context: &Context<'_>,
     stand: Stand,
     var: &Name,
     arm: &SourceArm,
     next: &mut usize,
 ) -> Result<Arm, Stop>
     requires room { HasRoom (arm_statements arm.now) 0 next.old }
-    requires within { HasMeasuresWithin setting.now }
-    ensures ok { IfOk result (λ made. IsArmMade setting.now (stand_of stand) var.now arm.now made next.old next.new) }
-    ensures stops { IfErr result (λ e. StopsAt (one_arm_breaches setting.now (stand_of stand) var.now arm.now) e) }
+    requires within { HasMeasuresWithin context.now.setting.now }
+    ensures { ChecksArm context.now.setting.now (stand_of stand) var.now arm.now
+        result next.old next.new }
 {
-    let context = Context {
-        alloc,
-        setting,
-        scope: &[],
+    let opened = pattern(context, stand, var, &arm.pattern)?;
+    let inside = Context {
+        alloc: context.alloc,
+        setting: context.setting,
+        scope: opened.scope.as_slice(),
     };
-    let opened = pattern(&context, stand, var, &arm.pattern)?;
-    let mut body = no_body(alloc);
-    stmt(
-        alloc,
-        setting,
-        opened.scope.as_slice(),
-        &arm.body,
-        &mut body,
-        next,
-    )?;
+    let mut maker = Maker::new(context.alloc, *next);
+    stmt(&inside, &arm.body, &mut maker)?;
+    *next = maker.next;
     Ok(Arm {
         bind: opened.bind,
-        body,
+        body: maker.body,
     })
 }
 
 // Checks the arms of a case on this node, and makes them.
 #[cycle(statements)]
 fn arms(
-    alloc: Global,
-    setting: &Setting,
+    context: &Context<'_>,
     node: usize,
     var: &Name,
     arms: &[SourceArm],
     next: &mut usize,
 ) -> Result<Items<Arm>, Stop>
     requires room { HasRoom (sum_by arm_statements arms.now) 0 next.old }
-    requires within { HasMeasuresWithin setting.now }
-    requires even { length arms.now ≡ length (stands node (shape_at setting.now node)) }
-    ensures ok { IfOk result (λ made. AreArmsMade setting.now (stands node (shape_at setting.now node)) var.now arms.now made next.old next.new) }
-    ensures stops { IfErr result (λ e. StopsAt (arm_list_breaches setting.now (stands node (shape_at setting.now node)) var.now arms.now) e) }
+    requires within { HasMeasuresWithin context.now.setting.now }
+    requires even { length arms.now
+        ≡ length (stands node (shape_at context.now.setting.now node)) }
+    ensures { ChecksArms context.now.setting.now node var.now arms.now result next.old next.new }
 {
-    let mut made = Items::new(alloc);
+    let mut made = Items::new(context.alloc);
     for (place, one) in arms.iter().enumerate() {
-        let stand = arm_stand(setting, node, place);
-        let done = arm(alloc, setting, stand, var, one, next)?;
+        let stand = arm_stand(context.setting, node, place);
+        let done = arm(context, stand, var, one, next)?;
         made.push(done)?;
     }
     Ok(made)
@@ -176,29 +145,21 @@ fn arms(
 // Checks a case and adds it to the body.
 #[cycle(statements)]
 fn case(
-    alloc: Global,
-    setting: &Setting,
-    scope: &[Variable],
+    context: &Context<'_>,
     var: &Name,
     branches: &[SourceArm],
-    body: &mut Body,
-    next: &mut usize,
+    maker: &mut Maker,
 ) -> Result<(), Stop>
-    requires room { HasRoom (stmt_statements (form.Case var.now branches.now)) body.old.own next.old }
-    requires within { HasMeasuresWithin setting.now }
-    ensures ok { OnOk result (IsStmtAdded setting.now scope.now (form.Case var.now branches.now) body.old body.new next.old next.new) }
-    ensures stops { IfErr result (λ e. StopsAt (stmt_breaches setting.now scope.now (form.Case var.now branches.now)) e) }
+    requires room { HasRoomFor (stmt_statements (form.Case var.now branches.now)) maker.old }
+    requires within { HasMeasuresWithin context.now.setting.now }
+    ensures { ChecksStmt context.now.setting.now context.now.scope.now
+        (form.Case var.now branches.now) result maker.old maker.new }
 {
-    let context = Context {
-        alloc,
-        setting,
-        scope,
-    };
-    let there = case_variable(&context, var, branches.len())?;
-    let made = arms(alloc, setting, there.1, var, branches, next)?;
-    let site = take_site(next);
+    let there = case_variable(context, var, branches.len())?;
+    let made = arms(context, there.1, var, branches, &mut maker.next)?;
+    let site = take_site(&mut maker.next);
     push_item(
-        body,
+        &mut maker.body,
         Item::Case {
             var: there.0,
             arms: made,
@@ -209,24 +170,18 @@ fn case(
 }
 
 // The place of a walk's variable, and the node of what it binds. It has to be bound, and of a collection.
-fn collection(
-    alloc: Global,
-    setting: &Setting,
-    scope: &[Variable],
-    source: &Name,
-) -> Result<(usize, usize), Stop>
-    ensures ok { IfOk result (λ walk. IsWalked setting.now (found scope.now source.now) source.now walk) }
-    ensures stops { IfErr result (λ e. (inner : List Breach) → StopsAt (walk_breaches setting.now (found scope.now source.now) source.now inner) e) }
+fn collection(context: &Context<'_>, source: &Name) -> Result<(usize, usize), Stop>
+    ensures ok { IfOk result (λ walk. IsWalked context.now.setting.now
+        (found context.now.scope.now source.now)
+        source.now walk) }
+    ensures stops { IfErr result (λ e. (inner : List Breach) → StopsAt
+        (walk_breaches context.now.setting.now
+        (found context.now.scope.now source.now) source.now inner) e) }
 {
-    let context = Context {
-        alloc,
-        setting,
-        scope,
-    };
-    let there = variable(&context, source)?;
-    match setting.shape(there.1) {
+    let there = variable(context, source)?;
+    match context.setting.shape(there.1) {
         Some(Shape::Coll { part, .. }) => Ok((there.0, part.node)),
-        _ => Err(breach_at(alloc, Rule::Y12, source)),
+        _ => Err(breach_at(context.alloc, Rule::Y12, source)),
     }
 }
 
@@ -249,31 +204,35 @@ pub(crate) fn one_variable(
 // Checks a walk and adds it to the body.
 #[cycle(statements)]
 fn walk(
-    alloc: Global,
-    setting: &Setting,
-    scope: &[Variable],
+    context: &Context<'_>,
     var: &Name,
     source: &Name,
     each: &Stmt,
-    body: &mut Body,
-    next: &mut usize,
+    maker: &mut Maker,
 ) -> Result<(), Stop>
-    requires room { HasRoom (stmt_statements (form.Forall var.now source.now each.now)) body.old.own next.old }
-    requires within { HasMeasuresWithin setting.now }
-    ensures ok { OnOk result (IsStmtAdded setting.now scope.now (form.Forall var.now source.now each.now) body.old body.new next.old next.new) }
-    ensures stops { IfErr result (λ e. StopsAt (stmt_breaches setting.now scope.now (form.Forall var.now source.now each.now)) e) }
+    requires room { HasRoomFor (stmt_statements (form.Forall var.now source.now each.now))
+        maker.old }
+    requires within { HasMeasuresWithin context.now.setting.now }
+    ensures { ChecksStmt context.now.setting.now context.now.scope.now
+        (form.Forall var.now source.now each.now) result maker.old maker.new }
 {
-    let there = collection(alloc, setting, scope, source)?;
-    let inner = one_variable(alloc, var, there.1)?;
-    let mut made = no_body(alloc);
-    stmt(alloc, setting, inner.as_slice(), each, &mut made, next)?;
-    let body_site = take_site(next);
-    let walk_site = take_site(next);
+    let there = collection(context, source)?;
+    let inner = one_variable(context.alloc, var, there.1)?;
+    let inside = Context {
+        alloc: context.alloc,
+        setting: context.setting,
+        scope: inner.as_slice(),
+    };
+    let mut made = Maker::new(context.alloc, maker.next);
+    stmt(&inside, each, &mut made)?;
+    maker.next = made.next;
+    let body_site = take_site(&mut maker.next);
+    let walk_site = take_site(&mut maker.next);
     push_item(
-        body,
+        &mut maker.body,
         Item::Forall {
             var: there.0,
-            body: made,
+            body: made.body,
             body_site,
             site: walk_site,
         },
@@ -285,53 +244,37 @@ fn walk(
 ///
 /// It stops at the first breach.
 #[cycle(statements)]
-pub fn stmts(
-    alloc: Global,
-    setting: &Setting,
-    scope: &[Variable],
-    stmts: &[Stmt],
-    body: &mut Body,
-    next: &mut usize,
-) -> Result<(), Stop>
-    requires room { HasRoom (sum_by stmt_statements stmts.now) body.old.own next.old }
-    requires within { HasMeasuresWithin setting.now }
-    ensures ok { OnOk result (AreStmtsAdded setting.now scope.now stmts.now body.old body.new next.old next.new) }
-    ensures stops { IfErr result (λ e. StopsAt (list_breaches setting.now scope.now stmts.now) e) }
+pub fn stmts(context: &Context<'_>, stmts: &[Stmt], maker: &mut Maker) -> Result<(), Stop>
+    requires room { HasRoomFor (sum_by stmt_statements stmts.now) maker.old }
+    requires within { HasMeasuresWithin context.now.setting.now }
+    ensures { ChecksStmts context.now.setting.now context.now.scope.now
+        stmts.now result maker.old maker.new }
 {
     for one in stmts {
-        stmt(alloc, setting, scope, one, body, next)?;
+        stmt(context, one, maker)?;
     }
     Ok(())
 }
 
 // Checks a statement, and adds what it does to the body, with the next sites.
 #[cycle(statements)]
-fn stmt(
-    alloc: Global,
-    setting: &Setting,
-    scope: &[Variable],
-    stmt: &Stmt,
-    body: &mut Body,
-    next: &mut usize,
-) -> Result<(), Stop>
-    requires room { HasRoom (stmt_statements stmt.now) body.old.own next.old }
-    requires within { HasMeasuresWithin setting.now }
-    ensures ok { OnOk result (IsStmtAdded setting.now scope.now stmt.now body.old body.new next.old next.new) }
-    ensures stops { IfErr result (λ e. StopsAt (stmt_breaches setting.now scope.now stmt.now) e) }
+fn stmt(context: &Context<'_>, stmt: &Stmt, maker: &mut Maker) -> Result<(), Stop>
+    requires room { HasRoomFor (stmt_statements stmt.now) maker.old }
+    requires within { HasMeasuresWithin context.now.setting.now }
+    ensures { ChecksStmt context.now.setting.now context.now.scope.now
+        stmt.now result maker.old maker.new }
 {
     match stmt {
         Stmt::Skip => {}
-        Stmt::Charge(measure) => charge(alloc, setting, measure, body)?,
-        Stmt::Call { callee, arg } => call(alloc, setting, scope, callee, arg, body, next)?,
-        Stmt::Block(inner) => stmts(alloc, setting, scope, inner.as_slice(), body, next)?,
-        Stmt::Case { var, arms } => {
-            case(alloc, setting, scope, var, arms.as_slice(), body, next)?
-        }
+        Stmt::Charge(measure) => charge(context, measure, &mut maker.body)?,
+        Stmt::Call { callee, arg } => call(context, callee, arg, maker)?,
+        Stmt::Block(inner) => stmts(context, inner.as_slice(), maker)?,
+        Stmt::Case { var, arms } => case(context, var, arms.as_slice(), maker)?,
         Stmt::Forall {
             var,
             source,
             body: each,
-        } => { walk(alloc, setting, scope, var, source, each.get(), body, next)? }
+        } => { walk(context, var, source, each.get(), maker)? }
     }
     Ok(())
 }

@@ -181,7 +181,8 @@ fn without_repeats(alloc: Global, names: &[Name]) -> Result<(), Stop>
 // No factor's name stands a second time.
 fn without_repeated_factors(alloc: Global, pattern: &Pattern) -> Result<(), Stop>
     ensures ok { OnOk result (spec.repeated [] (spec.factor_names pattern.now) ≡ []) }
-    ensures stops { IfErr result (λ s. StopsAt (spec.repeated [] (spec.factor_names pattern.now)) s) }
+    ensures stops { IfErr result (λ s. StopsAt
+        (spec.repeated [] (spec.factor_names pattern.now)) s) }
 {
     match pattern {
         Pattern::NamedParts(_, names) => without_repeats(alloc, names.as_slice()),
@@ -211,7 +212,8 @@ fn whole_of(alloc: Global, name: &Name, node: usize) -> Result<Items<Variable>, 
 
 // Variables of these names, for these factors.
 fn variables(alloc: Global, names: &[Name], parts: &[Part]) -> Result<Items<Variable>, AllocError>
-    ensures { IfOk result (λ vs. vs ≡ spec.variables names.now (map (λ part. part.node) parts.now)) }
+    ensures { IfOk result (λ vs. vs
+        ≡ spec.variables names.now (map (λ part. part.node) parts.now)) }
 {
     let mut made = Items::new(alloc);
     for (i, name) in names.iter().enumerate() {
@@ -246,7 +248,8 @@ fn factor_variables(
     names: &[Name],
     node: usize,
 ) -> Result<Items<Variable>, AllocError>
-    ensures { IfOk result (λ vs. vs ≡ spec.variables names.now (factors (shape_at setting.now node))) }
+    ensures { IfOk result (λ vs. vs
+        ≡ spec.variables names.now (factors (shape_at setting.now node))) }
 {
     match setting.shape(node) {
         Some(shape) => shape_variables(alloc, names, shape),
@@ -285,10 +288,13 @@ pub fn pattern(
     pattern: &Pattern,
 ) -> Result<Opened, Stop>
     ensures ok { OnOk result
-        (spec.pattern_breaches context.now.setting.now (stand_of stand) var.now pattern.now ≡ []) }
-    ensures fitting { OnOk result (spec.fits context.now.setting.now (stand_of stand) pattern.now ≡ true) }
+        (spec.pattern_breaches context.now.setting.now (stand_of stand) var.now pattern.now
+        ≡ []) }
+    ensures fitting { OnOk result
+        (spec.fits context.now.setting.now (stand_of stand) pattern.now ≡ true) }
     ensures bind { IfOk result (λ o. o.bind ≡ spec.bind_of pattern.now) }
-    ensures scope { IfOk result (λ o. o.scope ≡ spec.bound context.now.setting.now (stand_of stand) pattern.now) }
+    ensures scope { IfOk result (λ o. o.scope
+        ≡ spec.bound context.now.setting.now (stand_of stand) pattern.now) }
     ensures stops { IfErr result (λ s. StopsAt
         (spec.pattern_breaches context.now.setting.now (stand_of stand) var.now pattern.now) s) }
 {

@@ -26,7 +26,8 @@ pub fn find(scope: &[Variable], name: &Name) -> Option<(usize, usize)>
 /// The place and the node of a variable that has to be bound.
 pub fn variable(context: &Context<'_>, name: &Name) -> Result<(usize, usize), Stop>
     ensures ok { IfOk result (λ v. found context.now.scope.now name.now ≡ Some v) }
-    ensures stops { IfErr result (StopsAt (variable_use (found context.now.scope.now name.now) name.now)) }
+    ensures stops { IfErr result (StopsAt
+        (variable_use (found context.now.scope.now name.now) name.now)) }
 {
     match find(context.scope, name) {
         Some(there) => Ok(there),
@@ -36,7 +37,8 @@ pub fn variable(context: &Context<'_>, name: &Name) -> Result<(usize, usize), St
 
 // The breach of an argument of another type than the callee's parameter.
 fn about_both(alloc: Global, arg: &Name, callee: &Name) -> Result<Breach, AllocError>
-    ensures { IfOk result (λ b. b ≡ record { rule = Y9; token = arg.now.at; names = arg.now.text ∷ callee.now.text ∷ [] }) }
+    ensures { IfOk result (λ b. b
+        ≡ record { rule = Y9; token = arg.now.at; names = arg.now.text ∷ callee.now.text ∷ [] }) }
 {
     let mut names = Items::new(alloc);
     names.push(Items::from_slice(alloc, arg.text.as_slice())?)?;
@@ -50,7 +52,8 @@ fn about_both(alloc: Global, arg: &Name, callee: &Name) -> Result<Breach, AllocE
 
 // The stop at an argument of another type than the callee's parameter.
 fn other_type(alloc: Global, arg: &Name, callee: &Name) -> Stop
-    ensures { StopsAt (record { rule = Y9; token = arg.now.at; names = arg.now.text ∷ callee.now.text ∷ [] } ∷ []) result }
+    ensures { StopsAt
+        (record { rule = Y9; token = arg.now.at; names = arg.now.text ∷ callee.now.text ∷ [] } ∷ []) result }
 {
     match about_both(alloc, arg, callee) {
         Ok(made) => Stop::Breach(made),
@@ -68,7 +71,8 @@ pub fn argument(
     ensures ok { OnOk result (argument_breaches (found context.now.scope.now arg.now)
         (signature_meant context.now.setting.now callee_meant).on arg.now callee.now ≡ []) }
     ensures place { IfOk result (λ i. i ≡ place_of (found context.now.scope.now arg.now)) }
-    ensures stops { IfErr result (λ s. StopsAt (argument_breaches (found context.now.scope.now arg.now)
+    ensures stops { IfErr result (λ s. StopsAt
+        (argument_breaches (found context.now.scope.now arg.now)
         (signature_meant context.now.setting.now callee_meant).on arg.now callee.now) s) }
 {
     let Some((place, node)) = find(context.scope, arg) else {

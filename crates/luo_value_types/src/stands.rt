@@ -61,7 +61,8 @@ pub fn stand_count(setting: &Setting, node: usize) -> usize
 
 /// What the arm at this place stands for, in a case on this node.
 pub fn stand_at(setting: &Setting, node: usize, place: usize) -> Option<Stand>
-    ensures { option_map stand_of result ≡ slice_get (stands node (shape_at setting.now node)) place }
+    ensures { option_map stand_of result
+        ≡ slice_get (stands node (shape_at setting.now node)) place }
 {
     match setting.shape(node) {
         Some(shape) => stand_in(shape, node, place),
@@ -74,8 +75,10 @@ pub fn stand_at(setting: &Setting, node: usize, place: usize) -> Option<Stand>
 pub fn case_variable(context: &Context<'_>, var: &Name, arms: usize) -> Result<(usize, usize), Stop>
     ensures ok { IfOk result (λ v. found context.now.scope.now var.now ≡ Some v) }
     ensures arms { OnOk result (nat_eq arms
-        (length (case_stands context.now.setting.now (found context.now.scope.now var.now))) ≡ true) }
-    ensures stops { IfErr result (λ s. (inner : List Breach) → StopsAt (case_breaches context.now.setting.now
+        (length (case_stands context.now.setting.now
+        (found context.now.scope.now var.now))) ≡ true) }
+    ensures stops { IfErr result (λ s. (inner : List Breach) → StopsAt
+        (case_breaches context.now.setting.now
         (found context.now.scope.now var.now) var.now arms inner) s) }
 {
     let there = variable(context, var)?;

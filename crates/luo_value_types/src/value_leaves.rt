@@ -22,7 +22,8 @@ use std::alloc::Global;
 
 // The place of a variable that is handed on where this node is expected.
 pub(crate) fn given(context: &Context<'_>, expected: usize, name: &Name) -> Result<usize, Stop>
-    ensures { Checks (given_breaches (found context.now.scope.now name.now) (Some expected) name.now)
+    ensures { Checks
+        (given_breaches (found context.now.scope.now name.now) (Some expected) name.now)
         result (λ i. i ≡ place_of (found context.now.scope.now name.now)) }
 {
     let there = variable(context, name)?;
@@ -94,7 +95,8 @@ pub(crate) fn weight_at(setting: &Setting, node: usize) -> Option<u32>
 
 // The factors of a node, if it is a product of so many.
 pub(crate) fn factors_at(setting: &Setting, node: usize, count: usize) -> Option<&[Part]>
-    ensures product { IfSome result (λ parts. (shape_at setting.now node ≡ Product parts.now) × (length parts.now ≡ count)) }
+    ensures product { IfSome result (λ parts.
+        (shape_at setting.now node ≡ Product parts.now) × (length parts.now ≡ count)) }
     ensures other { IfNone result (has_factors count (shape_at setting.now node) ≡ false) }
 {
     match setting.shape(node) {

@@ -25,7 +25,8 @@ use luo_rules::{Rule, Stop};
 use luo_source::{Name, SourceValue, SourceValueArm};
 
 /// Checks a value where a structure of this node is expected, and makes its core form. Its charges,
-/// calls and cases go behind those of the maker's body, with its next sites. It stops at its first breach.
+/// calls and cases go behind those of the maker's body, with its next sites. It stops at its first
+/// breach.
 #[cycle(values)]
 pub fn value(
     context: &Context<'_>,
@@ -65,7 +66,8 @@ fn call(
     maker: &mut Maker,
 ) -> Result<Value, Stop>
     requires { HasRoomFor (value_statements (source.Made callee.now arg.now)) maker.old }
-    ensures { ChecksValue context.now.setting.now context.now.scope.now expected (source.Made callee.now arg.now)
+    ensures { ChecksValue context.now.setting.now context.now.scope.now expected
+        (source.Made callee.now arg.now)
         result maker.old maker.new }
 {
     let procedure = callee_of(context, expected, callee)?;
@@ -92,7 +94,8 @@ fn atom(
 ) -> Result<Value, Stop>
     requires measures { HasMeasuresWithin context.now.setting.now }
     requires room { maker.old.body.own + NUMBER_LIMIT ≤ STATEMENT_LIMIT * NUMBER_LIMIT }
-    ensures { ChecksValue context.now.setting.now context.now.scope.now expected (source.Atom charge.now at)
+    ensures { ChecksValue context.now.setting.now context.now.scope.now expected
+        (source.Atom charge.now at)
         result maker.old maker.new }
 {
     let own = charge_at(context, charge)?;
@@ -117,7 +120,8 @@ fn tuple(
     requires measures { HasMeasuresWithin context.now.setting.now }
     requires branches { HasFewBranches context.now.setting.now }
     requires room { HasRoomFor (value_statements (source.Tuple parts.now at)) maker.old }
-    ensures { ChecksValue context.now.setting.now context.now.scope.now expected (source.Tuple parts.now at)
+    ensures { ChecksValue context.now.setting.now context.now.scope.now expected
+        (source.Tuple parts.now at)
         result maker.old maker.new }
 {
     match factors_at(context.setting, expected, parts.len()) {
@@ -163,8 +167,10 @@ fn branch(
 ) -> Result<Value, Stop>
     requires measures { HasMeasuresWithin context.now.setting.now }
     requires branches { HasFewBranches context.now.setting.now }
-    requires room { HasRoomFor (value_statements (source.Branch place.0 place.1 inner.now)) maker.old }
-    ensures { ChecksValue context.now.setting.now context.now.scope.now expected (source.Branch place.0 place.1 inner.now)
+    requires room { HasRoomFor (value_statements (source.Branch place.0 place.1 inner.now))
+        maker.old }
+    ensures { ChecksValue context.now.setting.now context.now.scope.now expected
+        (source.Branch place.0 place.1 inner.now)
         result maker.old maker.new }
 {
     let (number, at) = place;
@@ -192,7 +198,8 @@ fn case(
     requires measures { HasMeasuresWithin context.now.setting.now }
     requires branches { HasFewBranches context.now.setting.now }
     requires room { HasRoomFor (value_statements (source.Case var.now arms.now)) maker.old }
-    ensures { ChecksValue context.now.setting.now context.now.scope.now expected (source.Case var.now arms.now)
+    ensures { ChecksValue context.now.setting.now context.now.scope.now expected
+        (source.Case var.now arms.now)
         result maker.old maker.new }
 {
     let there = case_variable(context, var, arms.len())?;
@@ -222,9 +229,11 @@ fn all_arms(
 ) -> Result<(Items<ValueArm>, Items<Arm>), Stop>
     requires measures { HasMeasuresWithin context.now.setting.now }
     requires branches { HasFewBranches context.now.setting.now }
-    requires each { length arms.now ≡ length (stands node (shape_at context.now.setting.now node)) }
+    requires each { length arms.now
+        ≡ length (stands node (shape_at context.now.setting.now node)) }
     requires room { HasRoom (arms_statements arms.now) 0 next.old }
-    ensures { ChecksArms context.now.setting.now node expected var.now arms.now result next.old next.new }
+    ensures { ChecksArms context.now.setting.now node expected var.now arms.now
+        result next.old next.new }
 {
     let mut values = Items::new(context.alloc);
     let mut bodies = Items::new(context.alloc);

@@ -6,9 +6,9 @@ use Rattle.luo_types.proofs.StatementsSoFar.{StmtsSoFar}
 use Rattle.luo_types.proofs.statements.+statements.Given as goal
 
 abbrev pub invariant-stmts-loop-one : goal.invariant-stmts-loop-one
-invariant-stmts-loop-one l = StmtsSoFar l.setting l.scope l.stmts (drop l.one-index l.stmts) l.initial.body l.body l.initial.next l.next
+invariant-stmts-loop-one l = StmtsSoFar l.context.setting.now l.context.scope.now l.stmts (drop l.one-index l.stmts) l.initial.maker.body l.maker.body l.initial.maker.next l.maker.next
 
 abbrev pub invariant-arms-loop-place : goal.invariant-arms-loop-place
 invariant-arms-loop-place l =
-    let all = stands l.node (shape_at l.setting l.node) in
-    ArmsSoFar l.setting all (drop l.place all) l.var l.arms (drop l.place l.arms) l.made l.initial.next l.next
+    let all = stands l.node (shape_at l.context.setting.now l.node) in
+    ArmsSoFar l.context.setting.now all (drop l.place all) l.var l.arms (drop l.place l.arms) l.made l.initial.next l.next
