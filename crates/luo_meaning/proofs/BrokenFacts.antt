@@ -5,7 +5,8 @@ use Rattle.luo_source.specs.declared.source.ProcDef.{ProcDef}
 use Rattle.luo_rules.specs.declared.names.Meaning.{Meaning}
 use Rattle.luo_rules.specs.declared.names.Meaning.TheVariants as mean
 use Rattle.luo_rules.specs.declared.rule.Breach.{Breach}
-use Rattle.luo_rules.specs.Definitions.{definitions, names_of, node_of}
+use Rattle.luo_rules.specs.Definitions.{definitions, names_of}
+use Rattle.luo_rules.specs.inner.Naming.{node_of}
 use Rattle.luo_rules.specs.Meanings.{meaning}
 use Rattle.luo_rules.specs.Sources.{name}
 use Rattle.luo_rules.specs.Asked.{a_procedure, uses}

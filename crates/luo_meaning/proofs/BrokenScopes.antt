@@ -21,7 +21,8 @@ use Rattle.luo_rules.specs.declared.setting.Variable.{Variable}
 use Rattle.luo_rules.specs.Meanings.{meaning}
 use Rattle.luo_rules.specs.Settings.{meant, def_node, node_meant, type_node, no_signature, signature_meant, found_from, found}
 use Rattle.luo_rules.specs.Patterns.{is_node, has_factors, fits, variables, bound}
-use Rattle.luo_rules.specs.Definitions.{Definition, definitions, names_of, definition_meant, node_of}
+use Rattle.luo_rules.specs.Definitions.{Definition, definitions, names_of, definition_meant}
+use Rattle.luo_rules.specs.inner.Naming.{node_of}
 use Rattle.luo_rules.specs.Nodes.{setting_of, named_node, result_name, signature_of}
 use Rattle.luo_rules.specs.Broken.{IsTyped}
 use Rattle.luo_rules.proofs.Lists.{some_same, none_some, get_map, index_get, below_get, place_in}

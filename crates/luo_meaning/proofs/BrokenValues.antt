@@ -15,7 +15,8 @@ use Rattle.luo_rules.specs.declared.rule.Breach.{Breach}
 use Rattle.luo_rules.specs.Settings.{meant, signature_meant, found, case_stands}
 use Rattle.luo_rules.specs.Patterns.{has_factors, bound}
 use Rattle.luo_rules.specs.ValueBreaches.{is_atom, part_nodes, branch_at, branch_of, has_branch, inner_node, count_values, count_value_arms}
-use Rattle.luo_rules.specs.Definitions.{definitions, names_of, node_of}
+use Rattle.luo_rules.specs.Definitions.{definitions, names_of}
+use Rattle.luo_rules.specs.inner.Naming.{node_of}
 use Rattle.luo_rules.specs.Nodes.{setting_of, named_node, result_name, signature_of}
 use Rattle.luo_rules.specs.Asked.{Asked, a_procedure, uses, reads, hands, gives, makes, builds, charge_asked, arm_asked, value_asked, values_asked, boxed_value_asked, value_arms_asked}
 use Rattle.luo_rules.specs.Broken.{other_variable, no_result, other_result, other_construct}

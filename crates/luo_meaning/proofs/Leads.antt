@@ -6,7 +6,8 @@ use Rattle.luo_source.specs.declared.types.TypeExpr.{TypeExpr, Named, Epsilon, A
 use Rattle.luo_source.specs.declared.source.Source.{Source}
 use Rattle.luo_rules.specs.declared.names.Meaning.TheVariants as mean
 use Rattle.luo_rules.specs.Meanings.{meaning}
-use Rattle.luo_rules.specs.Definitions.{Definition, definitions, names_of, definition_meant, named_by, named_at, next, first_node, node_of}
+use Rattle.luo_rules.specs.Definitions.{Definition, definitions, names_of, definition_meant, named_by, named_at, next, first_node}
+use Rattle.luo_rules.specs.inner.Naming.{node_of}
 use Rattle.luo_rules.specs.TypeBreaches.{expr_breaches}
 use Rattle.luo_rules.specs.Nodes.{Spot, named_part, part_at, start}
 use Rattle.luo_rules.proofs.Lists.{some_same, none_some, get_below}

@@ -13,7 +13,8 @@ use Rattle.luo_rules.specs.declared.names.Meaning.{Meaning}
 use Rattle.luo_rules.specs.declared.names.Meaning.TheVariants as mean
 use Rattle.luo_rules.specs.Counted.{own_nodes, count_exprs}
 use Rattle.luo_rules.specs.Meanings.{meaning, type_use}
-use Rattle.luo_rules.specs.Definitions.{Definition, definitions, names_of, definition_meant, named_by, named_at, next, first_node, node_of}
+use Rattle.luo_rules.specs.Definitions.{Definition, definitions, names_of, definition_meant, named_by, named_at, next, first_node}
+use Rattle.luo_rules.specs.inner.Naming.{node_of}
 use Rattle.luo_rules.specs.TypeBreaches.{expr_breaches, low_of, high_of}
 use Rattle.luo_rules.specs.Nodes.{Spot, behind, named_part, part_at, parts_at, boxed_part_at, start}
 use Rattle.luo_rules.proofs.Lists.{some_same, none_some, below_get, In_get, place_in}

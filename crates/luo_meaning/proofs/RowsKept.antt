@@ -20,7 +20,8 @@ use Rattle.luo_source.specs.declared.source.Source.{Source}
 use Rattle.luo_rules.specs.declared.names.Meaning.TheVariants as mean
 use Rattle.luo_rules.specs.Meanings.{meaning, type_use}
 use Rattle.luo_rules.specs.Settings.{part_meant}
-use Rattle.luo_rules.specs.Definitions.{definitions, names_of, measures, definition_meant, first_node, node_of}
+use Rattle.luo_rules.specs.Definitions.{definitions, names_of, measures, definition_meant, first_node}
+use Rattle.luo_rules.specs.inner.Naming.{node_of}
 use Rattle.luo_rules.specs.TypeBreaches.{types_breaches, measures_breaches}
 use Rattle.luo_rules.specs.Nodes.{Spot, named_part, part_at, setting_of}
 use Rattle.luo_rules.specs.Whole.{breaches, core, proc_core}

@@ -14,7 +14,8 @@ use Rattle.luo_source.specs.declared.types.TypeExpr.{Named}
 use Rattle.luo_source.specs.declared.source.Source.{Source}
 use Rattle.luo_rules.specs.declared.names.Meaning.TheVariants as mean
 use Rattle.luo_rules.specs.Meanings.{meaning}
-use Rattle.luo_rules.specs.Definitions.{definitions, names_of, measures, node_of}
+use Rattle.luo_rules.specs.Definitions.{definitions, names_of, measures}
+use Rattle.luo_rules.specs.inner.Naming.{node_of}
 use Rattle.luo_rules.specs.TypeBreaches.{measures_breaches}
 use Rattle.luo_rules.specs.Sources.{binary_source, permutations_source, few_cycles, copying}
 use Rattle.luo_rules.specs.Whole.{core}

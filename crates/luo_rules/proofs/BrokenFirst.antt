@@ -14,7 +14,7 @@ use Rattle.luo_rules.specs.Nodes.{setting_of}
 use Rattle.luo_rules.specs.Asked.{Asked, first_asked, later_asked}
 use Rattle.luo_rules.specs.Broken.{Breaks}
 use Rattle.luo_rules.specs.Whole.{breaches}
-use Rattle.luo_rules.specs.BrokenLaws.{ListedIsBroken, BrokenIsListed, BreaksNothing, IsFirstBroken, TellsFirstBroken, FirstBreachIsFirstBroken, FirstBrokenIsFirstBreach, NoBreachBreaksNothing, NothingBrokenIsNoBreach}
+use Rattle.luo_rules.specs.BrokenLaws.{ListedIsBroken, BrokenIsListed, BreaksNothing, TellsFirstBroken, FirstBreachIsFirstBroken, FirstBrokenIsFirstBreach, NoBreachBreaksNothing, NothingBrokenIsNoBreach}
 use Rattle.luo_rules.proofs.AskedBreaches.{own, all, first_of, later_of, first_all, later_all}
 use Rattle.luo_rules.proofs.BrokenLemmas.{In_flat, flat_In, own_breaks, breaks_own}
 use Rattle.luo_rules.proofs.RiseSource.{first_in_order, first_breach_is_least, breaches_are_single}

@@ -33,6 +33,7 @@ use Rattle.luo_rules.specs.TypeBreaches.{is_meaning, kind_word, kind_breaches, l
 use Rattle.luo_rules.specs.StatementBreaches.{walk_into, walk_breaches}
 use Rattle.luo_rules.specs.Whole.{result_breaches}
 use Rattle.luo_rules.specs.Asked.{Sort, a_type, a_measure, a_procedure, Asked, defines, uses, collects, bounds, weighs, renames, results, reads, hands, cases, walks, gives, matches, repeats, makes, builds}
+use Rattle.luo_rules.proofs.CircleFacts.{first_is, is_first}
 use Rattle.luo_rules.specs.Broken.{at_name, at_token, is_sort, IsType, IsProcedure, IsTyped, Breaks, defined_again, bound_again, undefined, other_sort, circle, other_universe, unlabelled_cycle, no_number, low_bound, heavy, other_argument, other_arms, no_collection, unbound, labelled_result, other_variable, no_result, other_result, other_construct}
 use Rattle.luo_rules.specs.Broken as break
 use Rattle.luo_rules.proofs.AskedBreaches.{silent, use_of, if_bound, own}
@@ -140,7 +141,7 @@ module _ (defs : List Definition) (s : Setting) where
 
   circle_breaks : (k : ℕ) (owners : List Name) (name : Name) (b : Breach) (o : Option (List (List ℕ))) → first_circle s.names defs k owners ≡ o → IsType s name → In b (circle_breach name o) → Breaks defs s (renames k owners name) b
   circle_breaks k owners name b None e h i = absurd i
-  circle_breaks k owners name b (Some chain) e h i = subst (Breaks defs s (renames k owners name)) (one_is _ b i) (circle chain h e)
+  circle_breaks k owners name b (Some chain) e h i = subst (Breaks defs s (renames k owners name)) (one_is _ b i) (circle chain h (first_is s.names defs owners k chain e))
 
   renamed_breaks : (k : ℕ) (owners : List Name) (name : Name) (b : Breach) (m : Option Meaning) → meant s name ≡ m → In b (silent (type_use m name) (circle_breach name (first_circle s.names defs k owners))) → Breaks defs s (renames k owners name) b
   renamed_breaks k owners name b None e i = absurd i
@@ -327,7 +328,7 @@ module _ (defs : List Definition) (s : Setting) where
   breaks_own (uses sort name) b (other_sort m h n) = subst (λ m. In (at_name Y3 name) (use_of sort m name)) (sym h) (use_other sort name m n)
   breaks_own (renames k owners name) b (circle chain h e) =
       let told : Breach = record { rule = Y4; token = name.at; names = chain } in
-      behind_type name (circle_breach name (first_circle s.names defs k owners)) told h (subst (λ o. In told (circle_breach name o)) (sym e) (inl refl))
+      behind_type name (circle_breach name (first_circle s.names defs k owners)) told h (subst (λ o. In told (circle_breach name o)) (sym (is_first s.names defs owners k chain e)) (inl refl))
   breaks_own (collects kind at) b (other_universe h n) = foreign kind at s.universe h n
   breaks_own (collects kind at) b (unlabelled_cycle h) = subst (λ u. In (at_token Y6 at (kind_word Cycle)) (kind_breaches u Cycle at)) (sym h) (inl refl)
   breaks_own (bounds kind bound) b (no_number high e h) =

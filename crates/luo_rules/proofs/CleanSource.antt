@@ -18,7 +18,8 @@ use Rattle.luo_rules.specs.declared.setting.Signature.{Signature}
 use Rattle.luo_rules.specs.Meanings.{meaning, type_use, procedure_use}
 use Rattle.luo_rules.specs.Settings.{meant, def_node, node_meant, type_node, part_meant, no_signature}
 use Rattle.luo_rules.specs.ValueBreaches.{value_breaches}
-use Rattle.luo_rules.specs.Definitions.{definitions, measures, names_of, first_node, node_of, definition_meant}
+use Rattle.luo_rules.specs.Definitions.{definitions, measures, names_of, first_node, definition_meant}
+use Rattle.luo_rules.specs.inner.Naming.{node_of}
 use Rattle.luo_rules.specs.TypeBreaches.{name_breaches, types_breaches, measures_breaches}
 use Rattle.luo_rules.specs.Nodes.{defs_from, nodes_from, named_node, result_name, signature_of, setting_of}
 use Rattle.luo_rules.specs.Whole.{result_breaches, parameter, body_breaches, proc_breaches, procs_breaches, breaches, proc_core, procs_core, sites_of, result_core}

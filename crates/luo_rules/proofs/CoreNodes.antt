@@ -10,7 +10,8 @@ use Rattle.luo_model.specs.Program.{Program, Procedure}
 use Rattle.luo_model.specs.Invariant.{bare, inner_parts, IsPart, Follows, IsFirstPlace, IsOf, IsWhole, NamingEnds, at_construct, at_name}
 use Rattle.luo_rules.specs.declared.names.Meaning.{Meaning}
 use Rattle.luo_rules.specs.Counted.{own_nodes, most_parts, greatest_bound}
-use Rattle.luo_rules.specs.Definitions.{Definition, first_node, node_of, named_at}
+use Rattle.luo_rules.specs.Definitions.{Definition, first_node, named_at}
+use Rattle.luo_rules.specs.inner.Naming.{node_of}
 use Rattle.luo_rules.specs.Nodes.{behind, part_at, nodes_at, start, defs_from, nodes_from}
 use Rattle.luo_rules.proofs.Lists.{some_same, none_some, get_below, below_get}
 use Rattle.luo_rules.proofs.NodeLists.{first_within, first_behind, def_at, def_get, def_back, node_of_def, node_there, nodes_length, nodes_from_length}

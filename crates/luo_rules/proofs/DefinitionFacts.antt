@@ -10,7 +10,8 @@ use Rattle.luo_rules.specs.declared.names.Meaning.{Meaning}
 use Rattle.luo_rules.specs.declared.names.Meaning.TheVariants as mean
 use Rattle.luo_rules.specs.Meanings.{meaning, type_use}
 use Rattle.luo_rules.specs.Counted.{own_nodes}
-use Rattle.luo_rules.specs.Definitions.{Definition, or_by, definition_meant, named_at, named_by, next, first_node, node_within, node_of, way_within, name_of}
+use Rattle.luo_rules.specs.Definitions.{Definition, or_by, definition_meant, named_at, named_by, next, first_node, name_of}
+use Rattle.luo_rules.specs.inner.Naming.{node_within, node_of, way_within}
 use Rattle.luo_rules.specs.TypeBreaches.{expr_breaches}
 use Rattle.luo_rules.specs.Nodes.{Spot, named_part, part_at, start}
 use Rattle.luo_rules.proofs.Lists.{some_same, none_some, get_below}

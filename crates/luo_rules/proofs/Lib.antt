@@ -18,6 +18,7 @@ pub mod Lists
 pub mod NodeLists
 pub mod NameFacts
 pub mod NamingFacts
+pub mod CircleFacts
 pub mod ProperTypes
 pub mod ProperBodies
 pub mod ProperSource

@@ -14,7 +14,8 @@ use Rattle.luo_source.specs.declared.source.Source.{Source}
 use Rattle.luo_rules.specs.declared.names.Meaning.{Meaning}
 use Rattle.luo_rules.specs.declared.names.Meaning.TheVariants as mean
 use Rattle.luo_rules.specs.Meanings.{meaning, with_name}
-use Rattle.luo_rules.specs.Definitions.{Definition, copies, definitions, measures, values, with_definitions, with_measures, with_procedures, names_of, circle}
+use Rattle.luo_rules.specs.Definitions.{Definition, copies, definitions, measures, values, with_definitions, with_measures, with_procedures, names_of}
+use Rattle.luo_rules.specs.inner.Naming.{circle}
 use Rattle.luo_rules.specs.TypeBreaches.{is_meaning, name_breaches, expr_breaches, circle_breaches, circle_breach, first_circle, first_some, new_types, type_breaches, types_breaches}
 use Rattle.luo_rules.proofs.Lists.{some_same, none_some, get_cases, map_get, nil_left, nil_right, none_first, none_then, chosen_true}
 

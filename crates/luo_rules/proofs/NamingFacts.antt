@@ -8,7 +8,8 @@ use Rattle.luo_finite.specs.Range.{below}
 use Rattle.luo_finite.proofs.Membership.{around, In-without}
 use Rattle.luo_finite.proofs.Ranges.{In-below, length-below}
 use Rattle.luo_rules.specs.declared.names.Meaning.{Meaning}
-use Rattle.luo_rules.specs.Definitions.{Definition, or_by, next, first_node, node_within, way_within, name_of}
+use Rattle.luo_rules.specs.Definitions.{Definition, or_by, next, first_node, name_of}
+use Rattle.luo_rules.specs.inner.Naming.{node_within, way_within}
 use Rattle.luo_rules.proofs.Lists.{some_same, none_some}
 
 -- as many elements as there are to be had, at most

@@ -22,7 +22,8 @@ use Rattle.luo_rules.specs.declared.setting.Variable.{Variable}
 use Rattle.luo_rules.specs.Settings.{meant, signature_meant, shape_at, found, case_stands}
 use Rattle.luo_rules.specs.Patterns.{fits, first_token, is_among}
 use Rattle.luo_rules.specs.Definitions.{Definition, definitions}
-use Rattle.luo_rules.specs.TypeBreaches.{is_meaning, kind_word, low_in, high_in, first_circle}
+use Rattle.luo_rules.specs.Circles.{IsFirstCircle}
+use Rattle.luo_rules.specs.TypeBreaches.{is_meaning, kind_word, low_in, high_in}
 use Rattle.luo_rules.specs.Nodes.{setting_of}
 use Rattle.luo_rules.specs.Asked.{Sort, a_type, a_measure, a_procedure, Asked, defines, uses, collects, bounds, weighs, renames, results, reads, hands, cases, walks, gives, matches, repeats, makes, builds, asked}
 
@@ -62,7 +63,8 @@ pub data Breaks (defs : List Definition) (s : Setting) : Asked → Breach → Ty
   undefined : {sort : Sort} {name : Name} → meant s name ≡ None → Breaks defs s (uses sort name) (at_name Y2 name)
   other_sort : {sort : Sort} {name : Name} (m : Meaning) → meant s name ≡ Some m → IsFalse (is_sort sort m) → Breaks defs s (uses sort name) (at_name Y3 name)
   -- a right side is a type's name, and one of its definitions lies on a circle of such names; the first that does is told
-  circle : {i : ℕ} {owners : List Name} {name : Name} (chain : List (List ℕ)) → IsType s name → first_circle s.names defs i owners ≡ Some chain
+  circle : {i : ℕ} {owners : List Name} {name : Name} (chain : List (List ℕ)) → IsType s name
+      → IsFirstCircle s.names defs i owners chain
       → Breaks defs s (renames i owners name) (record { rule = Y4; token = name.at; names = chain })
   -- a set in the unlabelled universe, a multiset or a powerset in the labelled, and a cycle in the unlabelled
   other_universe : {kind : Kind} {at : ℕ} → (IsKind s.universe kind → ⊥) → (kind ≡ Cycle → ⊥) → Breaks defs s (collects kind at) (at_token Y5 at (kind_word kind))

@@ -1,6 +1,5 @@
 -- The definitions of a source, one for each name, and what all its names mean.
-use Rattle.std.specs.Prelude.{ℕ, zero, suc, List, [], ◌∷◌, map, length, flat_map, sum_by, take, Option, Some, None, if◌then◌else◌, nat_eq, slice_get}
-use Rattle.std.specs.Option.{option_map}
+use Rattle.std.specs.Prelude.{ℕ, suc, List, [], ◌∷◌, map, flat_map, sum_by, take, Option, Some, None, slice_get}
 use Rattle.luo_source.specs.declared.names.Name.{Name}
 use Rattle.luo_source.specs.declared.types.TypeExpr.{TypeExpr, Named}
 use Rattle.luo_source.specs.declared.types.TypeDef.{TypeDef}
@@ -73,15 +72,6 @@ next names defs i = named_at names (slice_get defs i)
 abbrev pub first_node : List Definition → ℕ → ℕ
 first_node defs i = sum_by (λ d. own_nodes d.right) (take i defs)
 
--- the node of definition i, by at most so many steps from a name to its definition
-abbrev pub node_within : List (List ℕ × Meaning) → List Definition → ℕ → ℕ → ℕ
-node_within names defs zero i = 0
-node_within names defs (suc steps) i = or_by (next names defs i) (node_within names defs steps) (first_node defs i)
-
--- the node of definition i
-abbrev pub node_of : List (List ℕ × Meaning) → List Definition → ℕ → ℕ
-node_of names defs i = node_within names defs (suc (length defs)) i
-
 abbrev pub no_name : Name
 no_name = record { text = []; at = 0 }
 
@@ -92,13 +82,3 @@ name_at (Some d) = d.name.text
 
 abbrev pub name_of : List Definition → ℕ → List ℕ
 name_of defs i = name_at (slice_get defs i)
-
--- the names that lead from definition i to `home`, by at most so many steps
-abbrev pub way_within : List (List ℕ × Meaning) → List Definition → ℕ → ℕ → ℕ → Option (List (List ℕ))
-way_within names defs home zero i = None
-way_within names defs home (suc steps) i =
-    or_by (next names defs i) (λ j. if nat_eq j home then Some (name_of defs home ∷ []) else option_map (λ way. name_of defs j ∷ way) (way_within names defs home steps j)) None
-
--- the circle on which definition i lies: its name, those it leads through, and its name again
-abbrev pub circle : List (List ℕ × Meaning) → List Definition → ℕ → Option (List (List ℕ))
-circle names defs i = option_map (λ way. name_of defs i ∷ way) (way_within names defs i (length defs) i)

@@ -1,5 +1,5 @@
 -- What holds of all sources.
-use Rattle.std.specs.Prelude.{◌≡◌, [], ◌≤◌}
+use Rattle.std.specs.Prelude.{◌≡◌, ◌↔◌, ℕ, List, [], ◌≤◌, Some}
 use Rattle.luo_model.specs.Program.{Program}
 use Rattle.luo_model.specs.Invariant.{IsProgram}
 use Rattle.luo_source.specs.declared.source.Source.{Source}
@@ -10,6 +10,10 @@ use Rattle.luo_rules.specs.Whole.{IsCore, breaches}
 use Rattle.luo_finite.specs.Listing.{In}
 use Rattle.luo_rules.specs.declared.rule.Breach.{Breach}
 use Rattle.luo_rules.specs.Rising.{Rises}
+use Rattle.luo_rules.specs.declared.names.Meaning.{Meaning}
+use Rattle.luo_rules.specs.Definitions.{Definition, first_node}
+use Rattle.luo_rules.specs.Circles.{EndsAt, IsCircle}
+use Rattle.luo_rules.specs.inner.Naming.{circle, node_of}
 
 -- a source has at most one core form
 abbrev pub HasOneCore : Type 0
@@ -42,3 +46,15 @@ FirstBreachIsLeast = (source : Source) (one other : Breach) → IsSource source 
 -- breaches at one token are the same
 abbrev pub BreachesAreSingle : Type 0
 BreachesAreSingle = (source : Source) (one other : Breach) → IsSource source → In one (breaches source) → In other (breaches source) → one.token ≡ other.token → one ≡ other
+
+-- the circle that a check tells of a definition is the one on which it lies, and there is none where none is told
+abbrev pub CirclesAreChains : Type 0
+CirclesAreChains =
+    (names : List (List ℕ × Meaning)) (defs : List Definition) (i : ℕ) (chain : List (List ℕ))
+    → (circle names defs i ≡ Some chain) ↔ IsCircle names defs i chain
+
+-- the node of a definition is the first one of the definition at which going from names to what they name ends
+abbrev pub NamesLeadToNodes : Type 0
+NamesLeadToNodes =
+    (names : List (List ℕ × Meaning)) (defs : List Definition) (i j : ℕ)
+    → EndsAt names defs i j → node_of names defs i ≡ first_node defs j

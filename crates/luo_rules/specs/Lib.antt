@@ -7,6 +7,7 @@ pub mod ValueCore
 pub mod Statements
 pub mod Counted
 pub mod Definitions
+pub mod Circles
 pub mod TypeBreaches
 pub mod Nodes
 pub mod StatementBreaches

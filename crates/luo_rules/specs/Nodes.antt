@@ -17,7 +17,8 @@ use Rattle.luo_rules.specs.declared.setting.Setting.{Setting}
 use Rattle.luo_rules.specs.declared.setting.Signature.{Signature}
 use Rattle.luo_rules.specs.Meanings.{meaning}
 use Rattle.luo_rules.specs.Counted.{own_nodes}
-use Rattle.luo_rules.specs.Definitions.{Definition, definitions, names_of, definition_meant, node_of}
+use Rattle.luo_rules.specs.Definitions.{Definition, definitions, names_of, definition_meant}
+use Rattle.luo_rules.specs.inner.Naming.{node_of}
 use Rattle.luo_rules.specs.TypeBreaches.{low_of, high_of}
 
 -- where a construct stands: its number as a node, and its place in its definition

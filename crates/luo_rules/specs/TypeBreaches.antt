@@ -18,7 +18,8 @@ use Rattle.luo_rules.specs.declared.rule.Breach.{Breach}
 use Rattle.luo_rules.specs.declared.rule.Rule.TheVariants.{Y1, Y4, Y5, Y6, Y7, Y8}
 use Rattle.luo_rules.specs.Breaches.{broken, broken_at, ◌or_if_none◌}
 use Rattle.luo_rules.specs.Meanings.{meaning, type_use}
-use Rattle.luo_rules.specs.Definitions.{Definition, circle, definitions, measures, names_of}
+use Rattle.luo_rules.specs.Definitions.{Definition, definitions, measures, names_of}
+use Rattle.luo_rules.specs.inner.Naming.{circle}
 
 -- the meaning is this one
 abbrev pub is_meaning : Option Meaning → Meaning → Bool

@@ -1,3 +1,4 @@
+pub mod Naming
 pub mod ValueMade
 pub mod ValueLists
 pub mod StatementLists

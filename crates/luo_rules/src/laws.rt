@@ -5,7 +5,7 @@ ghost use Rattle.luo_rules.specs.Facts.{CirclesAreTold, SecondDefinitionsAreTold
 ghost use Rattle.luo_rules.specs.FactsBroken.{DefinitionsAreTold, StatementsAreTold, ResultsAreTold};
 ghost use Rattle.luo_rules.specs.FactsCores.{CoresAreThePrograms};
 ghost use Rattle.luo_rules.specs.BrokenLaws.{ListedIsBroken, BrokenIsListed, FirstBreachIsFirstBroken, FirstBrokenIsFirstBreach, NoBreachBreaksNothing, NothingBrokenIsNoBreach};
-ghost use Rattle.luo_rules.specs.Laws.{HasOneCore, HasCore, CoresArePrograms, HasOneError, ProgramsHaveNoError, BreachesAreSingle, BreachesRise, FirstBreachIsLeast};
+ghost use Rattle.luo_rules.specs.Laws.{HasOneCore, HasCore, CoresArePrograms, HasOneError, ProgramsHaveNoError, BreachesAreSingle, BreachesRise, FirstBreachIsLeast, CirclesAreChains, NamesLeadToNodes};
 
 /// A source has at most one core form.
 pub fn core_form_is_unique()
@@ -120,4 +120,14 @@ pub fn statements_are_told()
 /// What procedures with a result break is told at its token, with its names.
 pub fn results_are_told()
     ensures { ResultsAreTold }
+{}
+
+/// A definition lies on the circle that is found for it, and on no other; where none is found it lies on none.
+pub fn circles_are_chains()
+    ensures { CirclesAreChains }
+{}
+
+/// The node of a definition is the first one of the definition at which going from names to what they name ends.
+pub fn names_lead_to_nodes()
+    ensures { NamesLeadToNodes }
 {}

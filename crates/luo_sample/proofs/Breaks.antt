@@ -36,7 +36,8 @@ use Rattle.luo_rules.specs.Meanings.{meaning, type_use, measure_use, procedure_u
 use Rattle.luo_rules.specs.Settings.{meant, def_node, node_meant, signature_meant, shape_at, found, argument_breaches, no_signature}
 use Rattle.luo_rules.specs.Settings as settings
 use Rattle.luo_rules.specs.Patterns.{is_node, has_factors, repeated, variables, fits, misfit, case_breaches}
-use Rattle.luo_rules.specs.Definitions.{Definition, values, copies, definitions, definition_meant, names_of, node_of}
+use Rattle.luo_rules.specs.Definitions.{Definition, values, copies, definitions, definition_meant, names_of}
+use Rattle.luo_rules.specs.inner.Naming.{node_of}
 use Rattle.luo_rules.specs.Nodes.{named_node, defs_from, setting_of, signature_of}
 use Rattle.luo_rules.specs.TypeBreaches.{is_meaning, name_breaches, kind_breaches, expr_breaches, type_breaches, types_breaches, measures_breaches}
 use Rattle.luo_rules.specs.StatementBreaches.{stmt_breaches, walk_into, walk_breaches, walked}

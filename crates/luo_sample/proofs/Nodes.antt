@@ -13,7 +13,8 @@ use Rattle.luo_rules.specs.declared.names.Meaning.{Meaning}
 use Rattle.luo_rules.specs.Counted.{own_nodes}
 use Rattle.luo_rules.specs.TypeBreaches.{low_of}
 use Rattle.luo_rules.specs.Meanings.{meaning}
-use Rattle.luo_rules.specs.Definitions.{Definition, copies, definition_meant, named_at, next, or_by, first_node, node_within, node_of}
+use Rattle.luo_rules.specs.Definitions.{Definition, copies, definition_meant, named_at, next, or_by, first_node}
+use Rattle.luo_rules.specs.inner.Naming.{node_within, node_of}
 use Rattle.luo_rules.specs.Nodes.{named_part, nodes_from}
 use Rattle.luo_sample.specs.declared.choice.Choice.{Choice}
 use Rattle.luo_sample.specs.Text.{type_name, kind_chosen}

@@ -2,7 +2,8 @@
 use Rattle.std.proofs.Common.{◌≡◌, ℕ, zero, suc, ◌-◌, ◌<◌, List, [], ◌∷◌, ◌++◌, cond, nat_eq, Option, Some, None, refl, ap, ◌∙◌, sym, subst, arith, append_assoc, ne_eqb}
 use Rattle.std.specs.Option.{option_map}
 use Rattle.luo_rules.specs.declared.names.Meaning.{Meaning}
-use Rattle.luo_rules.specs.Definitions.{Definition, next, name_of, way_within, circle, or_by}
+use Rattle.luo_rules.specs.Definitions.{Definition, next, name_of, or_by}
+use Rattle.luo_rules.specs.inner.Naming.{way_within, circle}
 
 -- the circle is what was gone so far, and what is left to go
 pub record Goes (names : List (List ℕ × Meaning)) (defs : List Definition) (home : ℕ) (way : List (List ℕ)) (steps at : ℕ) : Type 0 where

@@ -1,7 +1,8 @@
 -- Where names lead from definition to definition.
 use Rattle.std.proofs.Common.{◌≡◌, ℕ, zero, suc, ◌-◌, List, Some, refl, ap, ◌∙◌, sym, arith}
 use Rattle.luo_rules.specs.declared.names.Meaning.{Meaning}
-use Rattle.luo_rules.specs.Definitions.{Definition, next, node_within, first_node, or_by}
+use Rattle.luo_rules.specs.Definitions.{Definition, next, first_node, or_by}
+use Rattle.luo_rules.specs.inner.Naming.{node_within}
 
 -- a step from a name to its definition
 pub node_next : (names : List (List ℕ × Meaning)) (defs : List Definition) (at named steps : ℕ) → next names defs at ≡ Some named → (steps ≡ 0 → ⊥)

@@ -1,6 +1,7 @@
 // Definitions that are names and lead back to themselves.
 ghost use Rattle.std.specs.Prelude.{◌≡◌, IfOk};
-ghost use Rattle.luo_rules.specs.Definitions.{name_of, circle};
+ghost use Rattle.luo_rules.specs.Definitions.{name_of};
+ghost use Rattle.luo_rules.specs.inner.Naming.{circle};
 
 use crate::definitions::Entry;
 use crate::links::next;

@@ -2,7 +2,8 @@
 ghost use Rattle.std.specs.Prelude.{◌≡◌, ◌+◌, ◌<◌, ◌≤◌, length, sum_by, suc};
 ghost use Rattle.luo_num.specs.declared.limits.TheConstants.{NODE_LIMIT};
 ghost use Rattle.luo_rules.specs.Counted.{own_nodes};
-ghost use Rattle.luo_rules.specs.Definitions.{definition_meant, named_by, next, first_node, node_of};
+ghost use Rattle.luo_rules.specs.Definitions.{definition_meant, named_by, next, first_node};
+ghost use Rattle.luo_rules.specs.inner.Naming.{node_of};
 
 use crate::counts::count_expr;
 use crate::definitions::Entry;

@@ -6,7 +6,8 @@ use Rattle.luo_source.specs.declared.types.TypeExpr.{TypeExpr}
 use Rattle.luo_rules.specs.declared.names.Meaning.{Meaning}
 use Rattle.luo_rules.specs.Meanings.{meaning}
 use Rattle.luo_rules.specs.Counted.{own_nodes}
-use Rattle.luo_rules.specs.Definitions.{Definition, definition_meant, node_of}
+use Rattle.luo_rules.specs.Definitions.{Definition, definition_meant}
+use Rattle.luo_rules.specs.inner.Naming.{node_of}
 use Rattle.luo_rules.specs.Nodes.{Spot, behind, part_at, nodes_at}
 
 -- names mean definitions below this number alone

@@ -1,5 +1,5 @@
 use Rattle.std.proofs.Common.{◌≡◌, suc}
-use Rattle.luo_rules.specs.Definitions.{node_within, node_of}
+use Rattle.luo_rules.specs.inner.Naming.{node_within, node_of}
 use Rattle.luo_types.proofs.links.node_of.Given as goal
 
 abbrev pub invariant-loop-named : goal.invariant-loop-named

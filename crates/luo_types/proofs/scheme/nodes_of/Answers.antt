@@ -1,4 +1,4 @@
-use Rattle.luo_rules.specs.Definitions.{node_of}
+use Rattle.luo_rules.specs.inner.Naming.{node_of}
 use Rattle.luo_types.proofs.ListLemmas.{each_more}
 use Rattle.luo_types.proofs.scheme.nodes_of.Goals as goal
 

@@ -1,5 +1,5 @@
 use Rattle.std.proofs.Common.{◌≡◌, ℕ, ◌<◌, length, Some, slice_get}
-use Rattle.luo_rules.specs.Definitions.{node_of}
+use Rattle.luo_rules.specs.inner.Naming.{node_of}
 use Rattle.luo_types.proofs.scheme.nodes_of.Given as goal
 
 abbrev pub invariant-loop-i : goal.invariant-loop-i
