@@ -48,7 +48,9 @@ fn analyse_founded(
 {
     let size = sized(last)?;
     let engine = tables(alloc, program, ranks, size, Fill::All)?;
-    analysed(alloc, program, ranks, &engine, size)
+    let text = analysed(alloc, program, ranks, &engine, size);
+    drop(engine);
+    text
 }
 
 // The report of a program.

@@ -61,7 +61,9 @@ fn audit_of<'p, R: Threads + Sync, G: Gate>(
     let size = list_sized(last)?;
     let many = workers_of(workers)?;
     let engine = tables(alloc, program, ranks, size, Fill::Counts)?;
-    audit_counted(rt, alloc, program, ranks, &engine, size, many, gate)
+    let text = audit_counted(rt, alloc, program, ranks, &engine, size, many, gate);
+    drop(engine);
+    text
 }
 
 // The report of a program.

@@ -100,7 +100,9 @@ fn list_bytes<'p>(
     let first = start.min(count);
     let many = (count - first).min(u128::from(most)) as u32;
     let mut cursor = Cursor::new(ranker, first, first + u128::from(many));
-    lines(alloc, &mut cursor, first, many)
+    let text = lines(alloc, &mut cursor, first, many);
+    drop(cursor);
+    text
 }
 
 // The same as a step.
@@ -142,7 +144,9 @@ fn list_node<'p>(
     let size = list_sized(last)?;
     let count = counted(most)?;
     let engine = tables(alloc, program, ranks, size, Fill::Counts)?;
-    listed(alloc, ranks, &engine, node, size, start, count)
+    let text = listed(alloc, ranks, &engine, node, size, start, count);
+    drop(engine);
+    text
 }
 
 // The structures of the type of this name in a program.

@@ -141,7 +141,9 @@ fn sample_of(
 {
     let ranks = founded(alloc, program)?;
     let engine = tables(alloc, program, &ranks, n, Fill::All)?;
-    summed(alloc, number, bytes, program, &engine, n)
+    let text = summed(alloc, number, bytes, program, &engine, n);
+    drop(engine);
+    text
 }
 
 /// The summary of the sample of a number at size n.

@@ -77,7 +77,9 @@ pub fn tables<'p>(
     let mut engine = Engine::start(alloc, program, ranks, last, fill)?;
     for _i in 0..last + 1 {
         if let Err(over) = engine.extend() {
-            return Err(overflow_refusal(alloc, program, over));
+            let refusal = overflow_refusal(alloc, program, over);
+            drop(engine);
+            return Err(refusal);
         }
     }
     Ok(engine)

@@ -8,4 +8,4 @@ pub returns-in_err-engine : goal.returns-in_err-engine
 returns-in_err-engine c = λ n e. go _ (c.in_ok-size.ensures.passes n e) (stop _ c.in_err-engine.ensures.passes c.from_residual-in_err-engine.ensures.1)
 
 pub returns : goal.returns
-returns c = λ n e. go _ (c.in_ok-size.ensures.passes n e) (go _ c.in_ok-engine.ensures.passes c.analysed.ensures)
+returns c = λ n e. go _ (c.in_ok-size.ensures.passes n e) (go _ c.in_ok-engine.ensures.passes c.analysed-text.ensures)

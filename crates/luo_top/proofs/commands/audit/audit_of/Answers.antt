@@ -16,4 +16,4 @@ returns-in_err-engine g c =
     λ n w e d. go _ (c.in_ok-size.ensures.passes n e) (go _ (c.in_ok-many.ensures.passes w d) (stop _ c.in_err-engine.ensures.passes c.from_residual-in_err-engine.ensures.1))
 
 pub returns : goal.returns
-returns g c = λ n w e d. go _ (c.in_ok-size.ensures.passes n e) (go _ (c.in_ok-many.ensures.passes w d) (go _ c.in_ok-engine.ensures.passes c.audit_counted.ensures))
+returns g c = λ n w e d. go _ (c.in_ok-size.ensures.passes n e) (go _ (c.in_ok-many.ensures.passes w d) (go _ c.in_ok-engine.ensures.passes c.audit_counted-text.ensures))

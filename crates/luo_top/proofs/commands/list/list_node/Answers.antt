@@ -10,11 +10,11 @@ use Rattle.luo_top.proofs.commands.list.list_node.Goals as goal
 pub tables-requires-clause-size : goal.tables-requires-clause-size
 tables-requires-clause-size c = omega (arith, c.in_ok-size.ensures.size)
 
-pub listed-requires-clause-full : goal.listed-requires-clause-full
-listed-requires-clause-full c = subst (λ (h : Held). c.in_ok-engine.engine ≡ full h Counts c.in_ok-size.size) (sym c.requires.ranks) c.in_ok-engine.ensures.full
+pub listed-text-requires-clause-full : goal.listed-text-requires-clause-full
+listed-text-requires-clause-full c = subst (λ (h : Held). c.in_ok-engine.engine ≡ full h Counts c.in_ok-size.size) (sym c.requires.ranks) c.in_ok-engine.ensures.full
 
-pub listed-requires-clause-node : goal.listed-requires-clause-node
-listed-requires-clause-node c = subst (λ (h : Held). c.args.node < length h.nodes) (sym c.requires.ranks) c.requires.node
+pub listed-text-requires-clause-node : goal.listed-text-requires-clause-node
+listed-text-requires-clause-node c = subst (λ (h : Held). c.args.node < length h.nodes) (sym c.requires.ranks) c.requires.node
 
 pub returns-in_err-size : goal.returns-in_err-size
 returns-in_err-size c = λ n s k e f d. stop _ (c.in_err-size.ensures.passes n e) c.from_residual.ensures.1
@@ -27,4 +27,4 @@ returns-in_err-engine c = λ n s k e f d. go _ (c.in_ok-size.ensures.passes n e)
 
 pub returns : goal.returns
 returns c = λ n s k e f d. go _ (c.in_ok-size.ensures.passes n e) (go _ (c.in_ok-count.ensures k d) (go _ c.in_ok-engine.ensures.passes
-    (subst (λ (h : Held). Passes itself (listed (plain_of h) c.args.node c.in_ok-size.size s c.in_ok-count.count) c.listed.result) c.requires.ranks (c.listed.ensures s f))))
+    (subst (λ (h : Held). Passes itself (listed (plain_of h) c.args.node c.in_ok-size.size s c.in_ok-count.count) c.listed-text.result) c.requires.ranks (c.listed-text.ensures s f))))

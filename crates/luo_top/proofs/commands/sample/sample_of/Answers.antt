@@ -8,4 +8,4 @@ pub returns-in_err-engine : goal.returns-in_err-engine
 returns-in_err-engine c = go _ c.in_ok-ranks.ensures.passes (stop _ c.in_err-engine.ensures.passes c.from_residual-in_err-engine.ensures.1)
 
 pub returns : goal.returns
-returns c = go _ c.in_ok-ranks.ensures.passes (go _ c.in_ok-engine.ensures.passes c.summed.ensures)
+returns c = go _ c.in_ok-ranks.ensures.passes (go _ c.in_ok-engine.ensures.passes c.summed-text.ensures)

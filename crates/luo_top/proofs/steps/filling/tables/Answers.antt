@@ -7,4 +7,4 @@ use Rattle.luo_top.proofs.steps.filling.tables.Goals as goal
 pub returns-in-Err-clause-passes : goal.returns-in-Err-clause-passes
 returns-in-Err-clause-passes c =
     let over = c.in-Err.over in
-    record { answers = c.overflow_refusal.ensures c.args.fill c.args.last (subst (λ (r : Run). IsFirstOver (plain_of r.program) r.last r.fill over.entry over.n) c.loop-i.invariant.is c.in-Err.ensures.over) }
+    record { answers = c.overflow_refusal-refusal.ensures c.args.fill c.args.last (subst (λ (r : Run). IsFirstOver (plain_of r.program) r.last r.fill over.entry over.n) c.loop-i.invariant.is c.in-Err.ensures.over) }
