@@ -1,5 +1,5 @@
 -- What the words ask for, within the limits that they pass by themselves.
-use Rattle.std.proofs.Common.{◌≡◌, ◌⊎◌, ℕ, ◌<◌, ◌≤◌, min, List, refl, sym, subst, ◌∙◌, ap, inl, inr, arith, Option, None, Some, Result, Ok, Err}
+use Rattle.std.proofs.Common.{◌≡◌, ◌⊎◌, ℕ, ◌<◌, ◌≤◌, List, refl, sym, subst, ◌∙◌, ap, inl, inr, arith, Option, None, Some, Result, Ok, Err}
 use Rattle.luo_num.specs.declared.limits.TheConstants.{SIZE_LIMIT, SAMPLE_LIMIT}
 use Rattle.luo_top.specs.declared.refusal.Refusal.{Refusal}
 use Rattle.luo_top.specs.declared.refusal.Refusal.TheVariants.{Usage, Refused, Limit, Overflow, ReadFault, NoMemory}

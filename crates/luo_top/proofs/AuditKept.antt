@@ -1,7 +1,6 @@
 -- What an audit refuses by the core form of a source is what it refuses by the source as it is written.
-use Rattle.std.proofs.Common.{◌≡◌, ◌↔◌, ◌<◌, ◌≤◌, ℕ, List, [], refl, sym, ap, ◌∙◌, Some, slice_get}
+use Rattle.std.proofs.Common.{◌≡◌, ◌↔◌, ℕ, [], refl, sym, ap, ◌∙◌, Some, slice_get}
 use Rattle.std.specs.Bool.{⊤}
-use Rattle.luo_num.specs.declared.TheConstants.{MAX}
 use Rattle.luo_model.specs.Founded.{IsFounded}
 use Rattle.luo_model.specs.Invariant.{IsProgram}
 use Rattle.luo_model.specs.Program.{Procedure}
@@ -29,8 +28,8 @@ use Rattle.luo_meaning.proofs.Named.{procedure_named, named_procedure}
 use Rattle.luo_meaning.proofs.RowsKept.{clean_source, measures_none, counts_same, structure_same, row_kept}
 use Rattle.luo_top.specs.declared.status.Status.TheVariants.{Overflow}
 use Rattle.luo_top.specs.Answer.{Answer, Refusal}
-use Rattle.luo_top.specs.AsWritten.Audit.{IsAnalyzed, HasTooManyOf, few_of, IsTotalOverOf, IsFirstTotalOverOf, AuditRefusalOf, audited_of}
-use Rattle.luo_top.specs.Commands.Audit.{HasTooMany, few, IsTotalOver, IsFirstTotalOver, AuditRefusal, audited}
+use Rattle.luo_top.specs.AsWritten.Audit.{IsAnalyzed, HasTooManyOf, few_of, IsTotalOverOf, AuditRefusalOf, audited_of}
+use Rattle.luo_top.specs.Commands.Audit.{HasTooMany, few, IsTotalOver, AuditRefusal, audited}
 use Rattle.luo_top.specs.Names.{name_of_procedure, procedure_name}
 use Rattle.luo_top.specs.Overflows.{audit_line}
 use Rattle.luo_top.proofs.SameSteps.{Match, same_makes}

@@ -1,5 +1,5 @@
 -- An audit's output is the report, whatever the number of workers, as that of `analyse` is.
-use Rattle.std.proofs.Common.{◌≡◌, ℕ, List, subst, sym, ◌∙◌, Some}
+use Rattle.std.proofs.Common.{◌≡◌, ℕ, List, subst, Some}
 use Rattle.luo_model.specs.Invariant.{IsProgram}
 use Rattle.luo_model.specs.Program.{Program}
 use Rattle.luo_model.proofs.TableLemmas.{totals_are_single}
@@ -13,7 +13,7 @@ use Rattle.luo_top.specs.Report.{IsReport}
 use Rattle.luo_top.specs.Step.{◌and_then◌}
 use Rattle.luo_top.specs.Steps.{file_program}
 use Rattle.luo_top.specs.Told.{Told}
-use Rattle.luo_top.specs.Words.{Command, Analyse, Audit, command_of}
+use Rattle.luo_top.specs.Words.{Analyse, Audit, command_of}
 use Rattle.luo_top.proofs.OneOutcome.{program-sole}
 use Rattle.luo_top.proofs.OneReport.{reports_one}
 use Rattle.luo_top.proofs.OutcomeKept.{outcome_kept}

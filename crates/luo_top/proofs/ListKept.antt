@@ -1,11 +1,9 @@
 -- A listing from the type on by the core form of a source is that by the source as it is written, step by step.
-use Rattle.std.proofs.Common.{◌≡◌, ◌↔◌, ◌+◌, ◌≤◌, ◌<◌, ◌⊎◌, inl, inr, ℕ, List, [], refl, sym, ap, subst, ◌∙◌, arith, Some, slice_get, length}
+use Rattle.std.proofs.Common.{◌≡◌, ◌↔◌, ◌+◌, ◌≤◌, ◌<◌, ◌⊎◌, inl, inr, ℕ, List, refl, sym, ap, subst, ◌∙◌, arith, Some, slice_get}
 use Rattle.std.specs.Bool.{⊤}
-use Rattle.luo_finite.specs.Listing.{In, Lists}
 use Rattle.luo_finite.proofs.Listings.{Lists-iff}
 use Rattle.luo_num.specs.declared.TheConstants.{MAX}
 use Rattle.luo_model.specs.declared.program.Def.{Def}
-use Rattle.luo_model.specs.declared.table.Entry.{Entry}
 use Rattle.luo_model.specs.declared.table.Entry.TheVariants.{Count, Total}
 use Rattle.luo_model.specs.declared.table.Fill.TheVariants.{Counts, All}
 use Rattle.luo_model.specs.Founded.{IsFounded}

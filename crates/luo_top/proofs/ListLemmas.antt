@@ -1,6 +1,5 @@
 -- What a listing shows: at most one text, and one where nothing refuses.
-use Rattle.std.proofs.Common.{◌≡◌, ℕ, List, ◌⊎◌, inl, inr, ⊎_elim, map, sym, ap, ◌∙◌, Some, slice_get}
-use Rattle.luo_finite.specs.Listing.{In}
+use Rattle.std.proofs.Common.{◌≡◌, ℕ, List, inl, inr, ⊎_elim, map, sym, ap, ◌∙◌, slice_get}
 use Rattle.luo_finite.specs.Steps.{IsSingle}
 use Rattle.luo_finite.proofs.Doubles.{NoDouble-append_left}
 use Rattle.luo_finite.proofs.Falling.{IsOrder, falling_listing}

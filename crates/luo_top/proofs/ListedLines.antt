@@ -2,7 +2,6 @@
 use Rattle.std.proofs.Common.{◌≡◌, ℕ, suc, ◌+◌, ◌-◌, ◌<◌, ◌≤◌, ◌⊎◌, inl, inr, List, [], ◌∷◌, ◌++◌, length, map, min, Result, Ok, Err, IfOk, refl, sym, ap, subst, ◌∙◌, arith, append_assoc, decimal}
 use Rattle.std.specs.Prelude.{codes, take, drop}
 use Rattle.std.proofs.lemmas.List.{append-nil, drop_all, take_all, take_min, length-drop}
-use Rattle.luo_finite.specs.Listing.{Lists, Pairwise}
 use Rattle.luo_finite.proofs.Falling.{falling_listing}
 use Rattle.luo_num.specs.declared.TheConstants.{MAX}
 use Rattle.luo_list.specs.Span.{Span, Walk}

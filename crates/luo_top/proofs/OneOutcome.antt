@@ -31,7 +31,7 @@ use Rattle.luo_top.specs.Answer.{Refusal}
 use Rattle.luo_top.specs.Commands.Analyse.{report}
 use Rattle.luo_top.specs.Commands.Audit.{few, audited}
 use Rattle.luo_top.specs.Commands.List.{type_of, counted}
-use Rattle.luo_top.specs.Commands.Run.{procedure_of, parameter_node, structure_of, charge_of, run_text}
+use Rattle.luo_top.specs.Commands.Run.{procedure_of, parameter_node, structure_of, charge_of}
 use Rattle.luo_top.specs.Commands.Sample.{text_program, summary}
 use Rattle.luo_founded.proofs.OneAnswer.{first_once}
 use Rattle.luo_top.specs.FoundedRefusals.{founded_line, FoundedRefusal}

@@ -1,5 +1,5 @@
 -- At most one refusal explains why a text gives no structure, and at most one structure is read.
-use Rattle.std.proofs.Common.{◌≡◌, ℕ, ◌+◌, ◌<◌, ◌≤◌, List, take, refl, sym, ap, ◌∙◌, arith, ⊎_elim}
+use Rattle.std.proofs.Common.{◌≡◌, ℕ, ◌<◌, ◌≤◌, List, refl, sym, ap, ◌∙◌, arith, ⊎_elim}
 use Rattle.std.specs.Prelude.{◌⊎◌}
 use Rattle.luo_model.specs.Program.{Program}
 use Rattle.luo_model.specs.Invariant.{IsProgram}

@@ -13,7 +13,7 @@ use Rattle.luo_scan.specs.declared.token.Token.{Token}
 use Rattle.luo_source.specs.declared.source.Source.{Source}
 use Rattle.luo_rules.specs.Checks.{IsSource, IsChecked}
 use Rattle.luo_rules.specs.Counted.{limits_passed}
-use Rattle.luo_rules.specs.Whole.{IsCore, breaches, core, walk_count}
+use Rattle.luo_rules.specs.Whole.{breaches, core, walk_count}
 use Rattle.luo_meaning.specs.Laws.{IsOver}
 use Rattle.luo_meaning.specs.Over.{HasOver}
 use Rattle.luo_meaning.proofs.BrokenKept.{first_kept, nothing_kept}

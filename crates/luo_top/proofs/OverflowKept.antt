@@ -1,7 +1,6 @@
 -- The first number past the last one, and what is said of it, by the core form of a source and by the source as it is written.
-use Rattle.std.proofs.Common.{◌≡◌, ◌⊎◌, ◌↔◌, ℕ, ◌+◌, ◌<◌, ◌≤◌, List, ◌++◌, length, Option, Some, slice_get, refl, sym, ap, ◌∙◌, subst, inl, inr}
+use Rattle.std.proofs.Common.{◌≡◌, ◌↔◌, ℕ, List, ◌++◌, Option, sym, ap, ◌∙◌, inl, inr}
 use Rattle.std.specs.Prelude.{codes, decimal}
-use Rattle.luo_num.specs.declared.TheConstants.{MAX}
 use Rattle.luo_model.specs.declared.program.Def.{Def}
 use Rattle.luo_model.specs.declared.program.Node.{Node}
 use Rattle.luo_model.specs.declared.program.Site.{Site}

@@ -1,5 +1,5 @@
 -- A run from the procedure on by the core form of a source is that by the source as it is written, step by step.
-use Rattle.std.proofs.Common.{◌≡◌, ◌↔◌, ℕ, List, [], refl, sym, ap, subst, ◌∙◌, Option, Some, slice_get}
+use Rattle.std.proofs.Common.{◌≡◌, ◌↔◌, ℕ, List, [], refl, sym, ap, subst, ◌∙◌, Some, slice_get}
 use Rattle.luo_finite.proofs.Places.{In_get, some_same}
 use Rattle.luo_model.specs.Charges.{Charges}
 use Rattle.luo_model.specs.Invariant.{IsProgram}

@@ -1,5 +1,5 @@
 -- Procedures by their names, and what a run shows: at most one, and one where nothing refuses.
-use Rattle.std.proofs.Common.{◌≡◌, ℕ, zero, suc, ◌+◌, ◌<◌, List, [], ◌∷◌, ◌++◌, length, map, inl, inr, refl, sym, ap, subst, ◌∙◌, arith, append_assoc, ⊎_elim, Bool, true, false, Option, None, Some, slice_get, decimal}
+use Rattle.std.proofs.Common.{◌≡◌, ℕ, zero, suc, ◌+◌, ◌<◌, List, [], ◌∷◌, ◌++◌, length, map, refl, sym, ap, subst, ◌∙◌, arith, append_assoc, Bool, true, false, Option, None, Some, slice_get, decimal}
 use Rattle.std.specs.Prelude.{if◌then◌else◌, Ok, Err}
 use Rattle.std.specs.Str.{bytes_eq}
 use Rattle.std.proofs.lemmas.List.{append-nil}
@@ -10,13 +10,11 @@ use Rattle.luo_finite.proofs.Doubles.{NoDouble-append_right}
 use Rattle.luo_finite.proofs.Membership.{In-map}
 use Rattle.luo_finite.proofs.Places.{In_get, get_map, get_map_back, none_some, some_same}
 use Rattle.luo_model.specs.declared.program.Proc.{Proc}
-use Rattle.luo_model.specs.Charges.{Charges}
 use Rattle.luo_model.specs.Founded.{IsFounded}
 use Rattle.luo_model.specs.Invariant.{IsProgram}
 use Rattle.luo_model.specs.Member.{Member}
 use Rattle.luo_model.specs.Program.{Program, Procedure, Result}
-use Rattle.luo_model.specs.Structures.{IsStructure}
-use Rattle.luo_model.specs.Tree.{Tree, size_of}
+use Rattle.luo_model.specs.Tree.{Tree}
 use Rattle.luo_model.specs.View.{Held, plain_of, procedure_of}
 use Rattle.luo_struct.specs.Text.{structure_text}
 use Rattle.luo_struct.specs.declared.structure.Structure.{Structure}
@@ -27,7 +25,7 @@ use Rattle.luo_read.specs.Reading.{Reads}
 use Rattle.luo_interp.specs.Takes.{Takes, TakesForResult}
 use Rattle.luo_interp.specs.Makes.{Makes}
 use Rattle.luo_interp.proofs.MakeLaws.{each_makes_one}
-use Rattle.luo_top.specs.Commands.Run.{IsProcedureNamed, node_on, parameter_node, StructureRefusal, structure_of, IsTail, HasTail, IsRunText}
+use Rattle.luo_top.specs.Commands.Run.{IsProcedureNamed, node_on, parameter_node, StructureRefusal, structure_of, IsTail, IsRunText}
 use Rattle.luo_top.specs.declared.refusal.Refusal.{Refusal}
 use Rattle.luo_top.specs.Refusals.{line}
 use Rattle.luo_top.specs.inner.Found.{place_from, place_of, IsThere, is_result, makes_some, has_result, AddsTail}

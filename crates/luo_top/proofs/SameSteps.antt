@@ -1,5 +1,5 @@
 -- Steps that refuse the same, and hand on what goes together.
-use Rattle.std.proofs.Common.{◌≡◌, ◌⊎◌, ◌↔◌, ℕ, List, refl, sym, ap, ◌∙◌, inl, inr}
+use Rattle.std.proofs.Common.{◌≡◌, ◌↔◌, ℕ, List, refl, sym, ap, ◌∙◌, inl, inr}
 use Rattle.luo_finite.specs.Steps.{◌or_else◌}
 use Rattle.luo_top.specs.Answer.{Answer, Output}
 use Rattle.luo_top.specs.Step.{Step, HasNone, ◌or_makes◌, ◌and_then◌, ends}

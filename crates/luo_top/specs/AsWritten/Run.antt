@@ -20,7 +20,7 @@ use Rattle.luo_meaning.specs.Defined.{DefinesProcedure}
 use Rattle.luo_meaning.specs.Made.{ProcMakes}
 use Rattle.luo_meaning.specs.Rows.{IsStructureOf}
 use Rattle.luo_top.specs.declared.status.Status.TheVariants.{Refused, Overflow}
-use Rattle.luo_top.specs.Answer.{Answer, Refusal}
+use Rattle.luo_top.specs.Answer.{Refusal}
 use Rattle.luo_top.specs.AsWritten.Steps.{sound_source, founded_source}
 use Rattle.luo_top.specs.Refusals.{line}
 use Rattle.luo_top.specs.WordRefusals.{unknown_line, refusal_of_structure, charge_line}

@@ -1,6 +1,6 @@
 -- The steps from a source on, by what it means as it is written. Its core form alone tells which rule of well-foundedness is
 -- broken first.
-use Rattle.std.specs.Prelude.{◌≡◌, ◌<◌, ◌≤◌, ⊤, ℕ, List, []}
+use Rattle.std.specs.Prelude.{◌≡◌, ◌<◌, ◌≤◌, ⊤, ℕ, List}
 use Rattle.luo_finite.specs.Steps.{◌or_else◌}
 use Rattle.luo_num.specs.declared.TheConstants.{MAX}
 use Rattle.luo_num.specs.declared.limits.TheConstants.{WALK_LIMIT}

@@ -1,4 +1,4 @@
-use Rattle.std.proofs.Common.{arith, ap, sym, ◌∙◌, ◌++◌, codes, length}
+use Rattle.std.proofs.Common.{ap, ◌∙◌, ◌++◌, codes}
 use Rattle.std.proofs.lemmas.Option.{slice_get-get_or}
 use Rattle.luo_model.specs.View.{Held, plain_of}
 use Rattle.luo_report.specs.Report.{row_text}
