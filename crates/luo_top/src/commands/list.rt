@@ -42,7 +42,7 @@ fn put_line(alloc: Global, text: &mut Vec<u8>, place: u128, s: &Structure) -> Re
     Ok(())
 }
 
-// Puts the line of what a cursor answers next behind the text.
+// Puts the line of what a cursor answers next behind the text, and gives that back to it.
 fn put_next(
     alloc: Global,
     cursor: &mut Cursor<'_>,
@@ -53,7 +53,11 @@ fn put_next(
     ensures { OnOk result (Shows cursor.old cursor.new place text.old.items text.new.items) }
 {
     match cursor.next(alloc)? {
-        Some(s) => put_line(alloc, text, place, &s),
+        Some(s) => {
+            put_line(alloc, text, place, &s)?;
+            cursor.step_from(s);
+            Ok(())
+        }
         None => Ok(()),
     }
 }
