@@ -2,6 +2,10 @@
 #![tactic(auto)]
 
 #[cfg(test)]
+mod tests_examples;
+#[cfg(test)]
+mod tests_labels;
+#[cfg(test)]
 mod tests_places;
 #[cfg(test)]
 mod tests_structures;

@@ -6,13 +6,13 @@ ghost use Rattle.luo_model.specs.View.{plain_of};
 ghost use Rattle.luo_struct.specs.Small.{IsSmall};
 ghost use Rattle.luo_struct.specs.View.{tree_of};
 
+use crate::tests_labels::all_labels;
 use luo_model::{Part, Program, Shape, Universe};
 use luo_num::limits::LIST_SIZE_LIMIT;
 use luo_num::{Boxed, Items, NoMemory};
 use luo_struct::{Structure, order, whole};
 use std::alloc::Global;
 use std::cmp::Ordering;
-use std::slice::Iter;
 
 /// Structures of each node of one size.
 pub type Found = Vec<Vec<Structure>>;
@@ -36,6 +36,15 @@ fn ordered(program: &Program, node: usize, n: u32, a: &Structure, b: &Structure)
         order(a, b)
     } else {
         Ordering::Equal
+    }
+}
+
+/// Whether these are structures of the node of size n, and equal.
+pub fn are_same(program: &Program, node: usize, n: u32, a: &Structure, b: &Structure) -> bool {
+    if is_structure(program, node, n, a) && is_structure(program, node, n, b) {
+        order(a, b) == Ordering::Equal
+    } else {
+        false
     }
 }
 
@@ -288,6 +297,21 @@ fn how_many(found: &[Vec<Structure>]) -> usize {
     many
 }
 
+// Puts what a round finds in the place of what was found of size n. The answer is how much it is.
+fn put_round(
+    alloc: Global,
+    program: &Program,
+    sizes: &mut Vec<Found>,
+    n: u32,
+    wanted: &[bool],
+) -> Result<usize, NoMemory> {
+    let found = round(alloc, program, sizes.as_slice(), n, wanted)?;
+    let many = how_many(found.as_slice());
+    sizes.pop();
+    sizes.push(found)?;
+    Ok(many)
+}
+
 /// Puts what there is of size n behind what there is of the smaller sizes: again and again, since it may be made of what is of its own size,
 /// until there is no more. In a well-founded program no chain of that is longer than there are nodes.
 pub fn put_size(
@@ -300,168 +324,13 @@ pub fn put_size(
     sizes.push(Vec::new(alloc))?;
     let mut many = 0;
     for _ in program.nodes.as_slice() {
-        let found = round(alloc, program, sizes.as_slice(), n, wanted)?;
-        let more = how_many(found.as_slice());
-        sizes.pop();
-        sizes.push(found)?;
+        let more = put_round(alloc, program, sizes, n, wanted)?;
         if more == many {
             return Ok(());
         }
         many = more;
     }
     Ok(())
-}
-
-// The numbers with one more at this place.
-fn inserted(
-    alloc: Global,
-    numbers: &[u32],
-    place: usize,
-    number: u32,
-) -> Result<Items<u32>, NoMemory> {
-    let mut longer = Items::new(alloc);
-    for (at, old) in numbers.iter().enumerate() {
-        if at == place {
-            longer.push(number)?;
-        }
-        longer.push(*old)?;
-    }
-    if place >= numbers.len() {
-        longer.push(number)?;
-    }
-    Ok(longer)
-}
-
-// The numbers with one more at each place, put behind others.
-fn put_inserted(
-    alloc: Global,
-    lists: &mut Vec<Items<u32>>,
-    numbers: &[u32],
-    number: u32,
-) -> Result<(), NoMemory> {
-    for place in 0..=numbers.len() {
-        lists.push(inserted(alloc, numbers, place, number)?)?;
-    }
-    Ok(())
-}
-
-// Each list with one more number, at each place.
-fn longer_lists(
-    alloc: Global,
-    lists: &[Items<u32>],
-    number: u32,
-) -> Result<Vec<Items<u32>>, NoMemory> {
-    let mut longer = Vec::new(alloc);
-    for numbers in lists {
-        put_inserted(alloc, &mut longer, numbers.as_slice(), number)?;
-    }
-    Ok(longer)
-}
-
-// The numbers from 1 to n in each order.
-fn permutations(alloc: Global, n: u32) -> Result<Vec<Items<u32>>, NoMemory> {
-    let mut lists = Vec::new(alloc);
-    lists.push(Items::new(alloc))?;
-    for number in 1..=n {
-        lists = longer_lists(alloc, lists.as_slice(), number)?;
-    }
-    Ok(lists)
-}
-
-// An atom, with the next label where atoms of this weight have one.
-fn labelled_atom(weight: u32, labels: &mut Iter<'_, u32>) -> Structure {
-    let label = if weight == 1 {
-        labels.next().copied().unwrap_or(0)
-    } else {
-        0
-    };
-    Structure::Atom { weight, label }
-}
-
-// The structure with these labels on its atoms of weight 1, from the left.
-#[cycle(labellings)]
-fn labelled(
-    alloc: Global,
-    s: &Structure,
-    labels: &mut Iter<'_, u32>,
-) -> Result<Structure, NoMemory> {
-    match s {
-        Structure::Atom { weight, .. } => Ok(labelled_atom(*weight, labels)),
-        Structure::Inj { branch, inner } => {
-            let inner = Boxed::new(alloc, labelled(alloc, inner.get(), labels)?)?;
-            Ok(Structure::Inj {
-                branch: *branch,
-                inner,
-            })
-        }
-        Structure::Tup { parts } => {
-            let parts = all_labelled(alloc, parts.as_slice(), labels)?;
-            Ok(Structure::Tup { parts })
-        }
-        Structure::Coll { parts } => {
-            let parts = all_labelled(alloc, parts.as_slice(), labels)?;
-            Ok(Structure::Coll { parts })
-        }
-    }
-}
-
-// Structures with these labels on their atoms of weight 1, from the left.
-#[cycle(labellings)]
-fn all_labelled(
-    alloc: Global,
-    parts: &[Structure],
-    labels: &mut Iter<'_, u32>,
-) -> Result<Items<Structure>, NoMemory> {
-    let mut all = Items::new(alloc);
-    for part in parts {
-        all.push(labelled(alloc, part, labels)?)?;
-    }
-    Ok(all)
-}
-
-// The structures of the node that have one of these forms and these labels, put behind others.
-fn put_labelled(
-    alloc: Global,
-    structures: &mut Vec<Structure>,
-    program: &Program,
-    node: usize,
-    n: u32,
-    forms: &[Structure],
-    labels: &[u32],
-) -> Result<(), NoMemory> {
-    for form in forms {
-        let s = labelled(alloc, form, &mut labels.iter())?;
-        if is_structure(program, node, n, &s) {
-            structures.push(s)?;
-        }
-    }
-    Ok(())
-}
-
-// The structures of the node that have one of these forms, with all choices of labels.
-fn all_labels(
-    alloc: Global,
-    program: &Program,
-    node: usize,
-    n: u32,
-    forms: &[Structure],
-) -> Result<Vec<Structure>, NoMemory> {
-    let mut structures = Vec::new(alloc);
-    if forms.is_empty() {
-        return Ok(structures);
-    }
-    for labels in &permutations(alloc, n)? {
-        put_labelled(
-            alloc,
-            &mut structures,
-            program,
-            node,
-            n,
-            forms,
-            labels.as_slice(),
-        )?;
-    }
-    Ok(structures)
 }
 
 /// The structures of a node of size n, in order, of what `put_size` found.

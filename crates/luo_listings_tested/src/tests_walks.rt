@@ -1,34 +1,53 @@
 // What a walk gives, beside the same lists: each structure made of the one before it.
 
 use crate::tests_places::Asked;
-use crate::tests_structures::is_structure;
+use crate::tests_structures::are_same;
 use luo_list::Cursor;
 use luo_model::Program;
-use luo_struct::{Structure, order};
+use luo_num::NoMemory;
+use luo_struct::Structure;
 use std::alloc::Global;
-use std::cmp::Ordering;
 use std::process::Abort;
 use std::test::Fail;
 
-// The cursor answers this structure, and is given its answer back.
+// Whether the cursor answers this structure next. What it answers is given back to it.
+fn is_next(
+    alloc: Global,
+    program: &Program,
+    cursor: &mut Cursor<'_>,
+    asked: Asked<'_>,
+    there: &Structure,
+) -> Result<bool, NoMemory> {
+    match cursor.next(alloc)? {
+        Some(s) => {
+            let is_same = are_same(program, asked.node, asked.n, &s, there);
+            cursor.step_from(s);
+            Ok(is_same)
+        }
+        None => Ok(false),
+    }
+}
+
+// Whether the cursor answers nothing more.
+fn is_at_end(alloc: Global, cursor: &mut Cursor<'_>) -> Result<bool, NoMemory> {
+    match cursor.next(alloc)? {
+        Some(_) => Ok(false),
+        None => Ok(true),
+    }
+}
+
+// The cursor answers this structure next.
 fn answers<R: Abort>(
     rt: &R,
     alloc: Global,
     program: &Program,
     cursor: &mut Cursor<'_>,
     asked: Asked<'_>,
-    s: &Structure,
+    there: &Structure,
 ) -> Result<(), Fail> {
+    let is_next = is_next(alloc, program, cursor, asked, there)?;
     let Asked { example, node, n } = asked;
-    assert!(rt; is_structure(program, node, n, s));
-    let next = cursor.next(alloc)?;
-    assert!(rt; next.is_some(), "{example}: size {n} of node {node}");
-    if let Some(next) = next {
-        assert!(rt; is_structure(program, node, n, &next));
-        let is_same = order(&next, s) == Ordering::Equal;
-        assert!(rt; is_same, "{example}: a step of size {n} of node {node}");
-        cursor.step_from(next);
-    }
+    assert!(rt; is_next, "{example}: a step of size {n} of node {node}");
     Ok(())
 }
 
@@ -41,11 +60,11 @@ pub fn goes_through<R: Abort>(
     asked: Asked<'_>,
     structures: &[Structure],
 ) -> Result<(), Fail> {
-    for s in structures {
-        answers(rt, alloc, program, cursor, asked, s)?;
+    for there in structures {
+        answers(rt, alloc, program, cursor, asked, there)?;
     }
-    let end = cursor.next(alloc)?;
+    let is_at_end = is_at_end(alloc, cursor)?;
     let Asked { example, node, n } = asked;
-    assert!(rt; end.is_none(), "{example}: size {n} of node {node}");
+    assert!(rt; is_at_end, "{example}: the end of size {n} of node {node}");
     Ok(())
 }
