@@ -25,6 +25,7 @@ use Rattle.luo_model.specs.Founded.{CallsAmong, OwnCall, IsFounded}
 use Rattle.luo_model.specs.Invariant.{IsProgram, IsAllowed}
 use Rattle.luo_model.specs.Lists.{arm_list}
 use Rattle.luo_model.specs.Member.{Member}
+use Rattle.luo_model.specs.declared.program.Part.{Part}
 use Rattle.luo_model.specs.Scopes.Stands.{Stand, itself, stands, component, MayBind, bound_parts}
 use Rattle.luo_model.specs.Scopes.Fits.{FitsItems, FitsItem, FitsArms}
 use Rattle.luo_model.specs.View.{Held, plain_of, procedure_of, item_of, item_list, body_of}
@@ -248,8 +249,8 @@ item_short p left items i x e h g c = h g (go items i e)
     go (y ∷ items) zero e = call_among g (item_of y) (item_list items) (subst (λ z. CallsAmong g (plain.item (item_of z) plain.no_items)) (sym (some_same y x e)) c)
     go (y ∷ items) (suc i) e = call_behind g (item_of y) (item_list items) (go items i e)
 
-pub bound_parts : (bind : Bind) (k : ℕ) (t : Tree) (ts : Trees) → bind ≡ Parts k → t ≡ Tup ts → to_list ts ≡ bound bind t
-bound_parts bind k t ts e f = ap parts_of (sym f) ∙ ap (λ b. bound b t) (sym e)
+pub parts_are_bound : (bind : Bind) (k : ℕ) (t : Tree) (ts : Trees) → bind ≡ Parts k → t ≡ Tup ts → to_list ts ≡ bound bind t
+parts_are_bound bind k t ts e f = ap parts_of (sym f) ∙ ap (λ b. bound b t) (sym e)
 
 -- what an item is done on, and what is done there
 abbrev pub var_of : plain.Item → ℕ

@@ -20,6 +20,7 @@ use Rattle.luo_model.specs.Program.{Program, Procedure, Result, ValueArms, no_va
 use Rattle.luo_model.specs.Charges.{bound}
 use Rattle.luo_model.specs.Founded.{CallsAmong, CallsIn}
 use Rattle.luo_model.specs.Invariant.{IsProgram, IsAllowed, IsNamed}
+use Rattle.luo_model.specs.declared.program.Part.{Part}
 use Rattle.luo_model.specs.Scopes.Stands.{Stand, itself, stands, MayBind, bound_parts}
 use Rattle.luo_model.specs.Scopes.Fits.{FitsValue, FitsValues, FitsValueArms}
 use Rattle.luo_model.specs.Scopes.ValueBodies.{join_items, value_items, values_items, value_body}
