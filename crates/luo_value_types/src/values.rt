@@ -2,7 +2,7 @@
 ghost use Rattle.std.specs.Prelude.{◌≡◌, ◌≤◌, ◌+◌, ◌*◌, ℕ, List, [], ◌∷◌, Some, map, length, IfOk, IfErr};
 ghost use Rattle.luo_num.specs.declared.limits.TheConstants.{NUMBER_LIMIT, STATEMENT_LIMIT};
 ghost use Rattle.luo_source.specs.declared.values.SourceValue as source;
-ghost use Rattle.luo_model.specs.Scopes.{stands};
+ghost use Rattle.luo_model.specs.Scopes.Stands.{stands};
 ghost use Rattle.luo_rules.specs.Breaches.{StopsAt};
 ghost use Rattle.luo_rules.specs.declared.setting.Variable.{Variable};
 ghost use Rattle.luo_rules.specs.Settings.{shape_at};

@@ -1,5 +1,5 @@
 use Rattle.std.proofs.Common.{length, sym, ◌∙◌, ap, subst, refl, arith, rules}
-use Rattle.luo_model.specs.Scopes.{stands}
+use Rattle.luo_model.specs.Scopes.Stands.{stands}
 use Rattle.luo_model.specs.View.{body_of}
 use Rattle.luo_source.specs.declared.statements.Stmt.{Skip, Charge, Call, Block, Case, Forall}
 use Rattle.luo_rules.specs.Breaches.{StopsAt}

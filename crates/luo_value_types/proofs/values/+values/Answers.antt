@@ -2,7 +2,7 @@ use Rattle.std.proofs.Common.{rules, [], ◌∷◌, Some, None, map, sym, arith}
 use Rattle.std.proofs.lemmas.List.{drop_more}
 use Rattle.luo_source.specs.declared.values.SourceValue as source
 use Rattle.luo_model.specs.declared.program.Part.{Part}
-use Rattle.luo_model.specs.Scopes.{stands}
+use Rattle.luo_model.specs.Scopes.Stands.{stands}
 use Rattle.luo_rules.specs.Breaches.{StopsAt}
 use Rattle.luo_rules.specs.Settings.{shape_at}
 use Rattle.luo_value_types.specs.inner.Stands.{stand_of}
