@@ -6,7 +6,7 @@ use Rattle.luo_finite.proofs.Membership.{In-append_left, In-append_right}
 use Rattle.luo_finite.proofs.Places.{some_same, none_some}
 use Rattle.luo_model.specs.declared.program.Site.{Site}
 use Rattle.luo_model.specs.Program.{Program, Procedure, site_node}
-use Rattle.luo_model.specs.Scopes.{body_sites}
+use Rattle.luo_model.specs.Scopes.Sites.{body_sites}
 use Rattle.luo_model.specs.Invariant.{IsProgram, procedure_sites, placed, sites_from, numbered_from}
 
 numbered_get : (k : ℕ) (l : List Site) (x : ℕ) (s : Site) → In (x, s) (numbered_from k l) → (j : ℕ) × (x ≡ k + j) × (slice_get l j ≡ Some s)
@@ -21,7 +21,7 @@ placed_last caller place (w ∷ l) x y = let r = placed_last caller (place + 1) 
 site_in : (p : Program) (Ps : List Procedure) (k f : ℕ) (P : Procedure) → slice_get Ps f ≡ Some P → (s : Site) × In (P.site, s) (sites_from p k Ps) × (s.node ≡ P.on.node)
 site_in p [] k f P e = absurd (none_some P e)
 site_in p (Q ∷ Ps) k zero P e =
-    let r = placed_last k 0 (body_sites p (P.on.node ∷ []) P.body) P.site P.on.node in (
+    let r = placed_last k 0 (body_sites p (P.on ∷ []) P.body) P.site P.on.node in (
       r.0,
       In-append_left (P.site, r.0) (placed k 0 (procedure_sites p Q)) (sites_from p (k + 1) Ps)
           (subst (λ (Z : Procedure). In (P.site, r.0) (placed k 0 (procedure_sites p Z))) (sym (some_same Q P e)) r.1),

@@ -4,6 +4,8 @@ use Rattle.std.proofs.lemmas.Result.{IfOk-weaker}
 use Rattle.std.proofs.lemmas.Option.{slice_get-get_or, slice_get_past}
 use Rattle.std.proofs.lemmas.Bool.Decides.{nat_tests}
 use Rattle.std.proofs.lemmas.List.{map-append, take_all}
+use Rattle.luo_model.specs.declared.body.Bind.{Bind}
+use Rattle.luo_model.specs.declared.body.Bind.TheVariants.{Nothing, Whole, Parts}
 use Rattle.luo_model.specs.declared.program.Part.{Part}
 use Rattle.luo_model.specs.declared.program.Def.{Def}
 use Rattle.luo_model.specs.declared.program.Proc.{Proc}
@@ -17,6 +19,7 @@ use Rattle.luo_model.specs.Program as plain
 use Rattle.luo_model.specs.Program.{Program, Procedure, no_node, shape_of}
 use Rattle.luo_model.specs.View.{item_of, item_list, body_of, procedure_of}
 use Rattle.luo_model.specs.Lists.{arm_list}
+use Rattle.luo_model.specs.Scopes.Stands.{Stand, inside, itself, stand_part, stands, part_at}
 use Rattle.luo_model.proofs.ViewLemmas.{case_item, walk_item}
 use Rattle.luo_equation.specs.Expr as made
 use Rattle.luo_equation.specs.Expr.{Exprs, no_exprs, expr}
@@ -26,7 +29,7 @@ use Rattle.luo_equation.specs.declared.equation.Equation as done_equation
 use Rattle.luo_equation.specs.Equation.{Equation}
 use Rattle.luo_equation.specs.declared.equation.Left.TheVariants as left
 use Rattle.luo_system.specs.Plain.{join_exprs, terms_of, factors_of, opened, as_sum, sum_of, closed_product, product_of, walk_of}
-use Rattle.luo_system.specs.System.{exprs_of, shape_expr, node_expr, inside_expr, part_expr, part_at, others, stands_at, item_var, own_expr, body_expr, items_exprs, item_expr, term_expr, case_expr, arms_exprs, arm_expr, walk_expr, walk_body_expr, descriptor, defs_from, procs_from}
+use Rattle.luo_system.specs.System.{exprs_of, shape_expr, node_expr, inside_expr, part_expr, others, item_var, own_expr, body_expr, items_exprs, item_expr, term_expr, case_expr, arms_exprs, arm_expr, walk_expr, walk_body_expr, descriptor, defs_from, procs_from}
 use Rattle.luo_compile.proofs.CodeLemmas.{exprs-behind, put_behind, put_end, sum_done}
 
 take-more : {X : Type 0} (xs : List X) (j : ℕ) (x : X) → j < length xs → x ≡ get_or xs j x → take (suc j) xs ≡ take j xs ++ x ∷ []
@@ -151,6 +154,13 @@ walk_done p on body s kind part low high inner marked at is e same =
     ∙ sym (ap (λ t. walk_expr (part_expr p) t (λ c. body_expr p (c ∷ []) (c ∷ []) body)) (at ∙ is))
 
 -- ---- arms
+pub union_stands : (parts made : List Part) (on : Part) (s t : Shape) → made ≡ parts → s ≡ shape.Union parts → t ≡ s → made ≡ map stand_part (stands on t)
+union_stands parts made on s t m e f = m ∙ sym (back parts) ∙ ap (λ z. map stand_part (stands on z)) (sym (f ∙ e))
+  where
+    back : (parts : List Part) → map stand_part (map inside parts) ≡ parts
+    back [] = refl
+    back (part ∷ parts) = ap (λ l. part ∷ l) (back parts)
+
 pub some_there : (xs : List Part) (i : ℕ) (x : Part) → i < length xs → x ≡ get_or xs i x → slice_get xs i ≡ Some x
 some_there xs i x h e = slice_get-get_or xs i x h ∙ ap Some (sym e)
 
@@ -162,47 +172,62 @@ none_there xs i h = slice_get_past xs i (past i (length xs) h)
 
 module _ (p : Program) where
   -- no arm is left
-  arms-end : (stands : List Part) → arms_exprs p stands plain.no_arms ≡ no_exprs
+  arms-end : (stands : List Part) → arms_exprs p (map inside stands) plain.no_arms ≡ no_exprs
   arms-end [] = refl
   arms-end (t ∷ stands) = refl
 
   arms-more : (stands : List Part) (arms : List Arm) (i : ℕ) (stand : Part) (arm : Arm) → i < length arms → arm ≡ get_or arms i arm → slice_get stands i ≡ Some stand
-      → arms_exprs p stands (arm_list (take (suc i) arms)) ≡ join_exprs (arms_exprs p stands (arm_list (take i arms))) (expr (arm_expr p stand arm.bind (body_of arm.body)) no_exprs)
+      → arms_exprs p (map inside stands) (arm_list (take (suc i) arms)) ≡ join_exprs (arms_exprs p (map inside stands) (arm_list (take i arms))) (expr (arm_expr p (inside stand) arm.bind (body_of arm.body)) no_exprs)
   arms-more stands [] i stand arm h e s = absurd (omega (arith, h))
   arms-more [] (a ∷ arms) i stand arm h e s = absurd (cc)
-  arms-more (t ∷ stands) (a ∷ arms) zero stand arm h e s = ap (λ l. expr (arm_expr p t a.bind (body_of a.body)) l) (arms-end stands)
-      ∙ ap (λ (b : Arm). expr (arm_expr p t b.bind (body_of b.body)) no_exprs) (sym e) ∙ ap (λ u. expr (arm_expr p u arm.bind (body_of arm.body)) no_exprs) (one s)
+  arms-more (t ∷ stands) (a ∷ arms) zero stand arm h e s = ap (λ l. expr (arm_expr p (inside t) a.bind (body_of a.body)) l) (arms-end stands)
+      ∙ ap (λ (b : Arm). expr (arm_expr p (inside t) b.bind (body_of b.body)) no_exprs) (sym e) ∙ ap (λ u. expr (arm_expr p (inside u) arm.bind (body_of arm.body)) no_exprs) (one s)
     where
       one : Some t ≡ Some stand → t ≡ stand
       one h = cc
-  arms-more (t ∷ stands) (a ∷ arms) (suc i) stand arm h e s = ap (λ l. expr (arm_expr p t a.bind (body_of a.body)) l) (arms-more stands arms i stand arm (omega (arith, h)) e s)
+  arms-more (t ∷ stands) (a ∷ arms) (suc i) stand arm h e s = ap (λ l. expr (arm_expr p (inside t) a.bind (body_of a.body)) l) (arms-more stands arms i stand arm (omega (arith, h)) e s)
 
-  arms-none : (stands : List Part) (arms : List Arm) (i : ℕ) → slice_get stands i ≡ None → arms_exprs p stands (arm_list (take (suc i) arms)) ≡ arms_exprs p stands (arm_list (take i arms))
+  arms-none : (stands : List Part) (arms : List Arm) (i : ℕ) → slice_get stands i ≡ None → arms_exprs p (map inside stands) (arm_list (take (suc i) arms)) ≡ arms_exprs p (map inside stands) (arm_list (take i arms))
   arms-none stands [] zero s = refl
   arms-none stands [] (suc i) s = refl
   arms-none [] (a ∷ arms) zero s = refl
   arms-none [] (a ∷ arms) (suc i) s = refl
   arms-none (t ∷ stands) (a ∷ arms) zero s = absurd (cc)
-  arms-none (t ∷ stands) (a ∷ arms) (suc i) s = ap (λ l. expr (arm_expr p t a.bind (body_of a.body)) l) (arms-none stands arms i s)
+  arms-none (t ∷ stands) (a ∷ arms) (suc i) s = ap (λ l. expr (arm_expr p (inside t) a.bind (body_of a.body)) l) (arms-none stands arms i s)
 
   pub put_arm : (stands : List Part) (arms : List Arm) (i : ℕ) (stand : Part) (arm : Arm) (e : made.Expr) (old now new : Exprs) → i < length arms → arm ≡ get_or arms i arm
       → slice_get stands i ≡ Some stand
-      → e ≡ arm_expr p stand arm.bind (body_of arm.body) → new ≡ join_exprs now (terms_of e)
-      → now ≡ join_exprs old (opened terms_of (arms_exprs p stands (arm_list (take i arms)))) → new ≡ join_exprs old (opened terms_of (arms_exprs p stands (arm_list (take (i + 1) arms))))
+      → e ≡ arm_expr p (inside stand) arm.bind (body_of arm.body) → new ≡ join_exprs now (terms_of e)
+      → now ≡ join_exprs old (opened terms_of (arms_exprs p (map inside stands) (arm_list (take i arms)))) → new ≡ join_exprs old (opened terms_of (arms_exprs p (map inside stands) (arm_list (take (i + 1) arms))))
   put_arm stands arms i stand arm e old now new l at s same n h =
-      rw add-one (put_behind terms_of (arms_exprs p stands (arm_list (take i arms))) e (arm_expr p stand arm.bind (body_of arm.body)) (arms_exprs p stands (arm_list (take (suc i) arms))) old now new
+      rw add-one (put_behind terms_of (arms_exprs p (map inside stands) (arm_list (take i arms))) e (arm_expr p (inside stand) arm.bind (body_of arm.body)) (arms_exprs p (map inside stands) (arm_list (take (suc i) arms))) old now new
       (arms-more stands arms i stand arm l at s) same n h)
 
   pub no_arm : (stands : List Part) (arms : List Arm) (i : ℕ) (old now : Exprs) → slice_get stands i ≡ None
-      → now ≡ join_exprs old (opened terms_of (arms_exprs p stands (arm_list (take i arms)))) → now ≡ join_exprs old (opened terms_of (arms_exprs p stands (arm_list (take (i + 1) arms))))
+      → now ≡ join_exprs old (opened terms_of (arms_exprs p (map inside stands) (arm_list (take i arms)))) → now ≡ join_exprs old (opened terms_of (arms_exprs p (map inside stands) (arm_list (take (i + 1) arms))))
   no_arm stands arms i old now s h = rw add-one (h ∙ ap (λ l. join_exprs old (opened terms_of l)) (sym (arms-none stands arms i s)))
 
-  pub arms_done : (on : Part) (stands : List Part) (arms : List Arm) (i : ℕ) (now : Exprs) (e : made.Expr) → stands ≡ stands_at p on → length arms ≤ i
-      → now ≡ opened terms_of (arms_exprs p stands (arm_list (take i arms))) → e ≡ as_sum now
+  -- what an arm is for shows in no descriptor but by its part
+  arm_same : (S : Stand) (bind : Bind) (body : plain.Body) → arm_expr p (inside (stand_part S)) bind body ≡ arm_expr p S bind body
+  arm_same (inside part) bind body = refl
+  arm_same (itself part) Nothing body = refl
+  arm_same (itself part) Whole body = refl
+  arm_same (itself part) (Parts k) body = refl
+
+  arms_same : (Ss : List Stand) (arms : plain.Arms) → arms_exprs p (map inside (map stand_part Ss)) arms ≡ arms_exprs p Ss arms
+  arms_same [] plain.no_arms = refl
+  arms_same [] (plain.arm bind body arms) = refl
+  arms_same (S ∷ Ss) plain.no_arms = refl
+  arms_same (S ∷ Ss) (plain.arm bind body arms) =
+      ap (λ e. expr e (arms_exprs p (map inside (map stand_part Ss)) arms)) (arm_same S bind body) ∙ ap (λ es. expr (arm_expr p S bind body) es) (arms_same Ss arms)
+
+  pub arms_done : (on : Part) (standing : List Part) (arms : List Arm) (i : ℕ) (now : Exprs) (e : made.Expr) → standing ≡ map stand_part (stands on (shape_of p on.node)) → length arms ≤ i
+      → now ≡ opened terms_of (arms_exprs p (map inside standing) (arm_list (take i arms))) → e ≡ as_sum now
       → e ≡ case_expr p on (arm_list arms)
-  arms_done on stands arms i now e s l h n =
-      sum_done (arms_exprs p stands (arm_list arms)) now e (h ∙ ap (λ (l : List Arm). opened terms_of (arms_exprs p stands (arm_list l))) (take_all i arms l)) n
-      ∙ ap (λ (ss : List Part). sum_of (arms_exprs p ss (arm_list arms))) s
+  arms_done on standing arms i now e s l h n =
+      sum_done (arms_exprs p (map inside standing) (arm_list arms)) now e (h ∙ ap (λ (l : List Arm). opened terms_of (arms_exprs p (map inside standing) (arm_list l))) (take_all i arms l)) n
+      ∙ ap (λ (ss : List Part). sum_of (arms_exprs p (map inside ss) (arm_list arms))) s
+      ∙ ap sum_of (arms_same (stands on (shape_of p on.node)) (arm_list arms))
 
   -- ---- equations
   abbrev defined : ℕ → Def → Equation

@@ -1,11 +1,14 @@
 // The descriptors of bodies.
-ghost use Rattle.std.specs.Prelude.{◌≡◌, IfOk, OnOk, [], ◌∷◌};
+ghost use Rattle.std.specs.Prelude.{◌≡◌, IfOk, OnOk, [], ◌∷◌, map};
+ghost use Rattle.luo_model.specs.Program.{shape_of};
+ghost use Rattle.luo_model.specs.Scopes.Stands as scopes;
+ghost use Rattle.luo_model.specs.Scopes.Stands.{inside, stand_part};
 ghost use Rattle.luo_model.specs.View.{plain_of, item_of, body_of};
 ghost use Rattle.luo_model.specs.Lists.{arm_list};
 ghost use Rattle.luo_equation.specs.Expr.{expr};
 ghost use Rattle.luo_equation.specs.View.{expr_of, expr_list};
 ghost use Rattle.luo_system.specs.Plain.{sum_of};
-ghost use Rattle.luo_system.specs.System.{own_expr, body_expr, term_expr, item_expr, item_var, case_expr, arm_expr, walk_body_expr, stands_at};
+ghost use Rattle.luo_system.specs.System.{own_expr, body_expr, term_expr, item_expr, item_var, case_expr, arm_expr, walk_body_expr};
 
 use crate::parts::{add_others, add_parts, factors_at, part_at, part_of, shape_at};
 use crate::plain::{add_factor, add_term, product_of_factors, sum_of_terms, walk_over};
@@ -90,7 +93,8 @@ fn item_descriptor(
 
 // What the arms of a case stand for: the branches of a union, or a product itself.
 fn stands<'p>(program: &'p Program, on: &'p Part) -> &'p [Part]
-    ensures { result.now ≡ stands_at (plain_of program.now) on.now }
+    ensures { result.now ≡ map stand_part
+        (scopes.stands on.now (shape_of (plain_of program.now) on.now.node)) }
 {
     match shape_at(program, on.node) {
         Some(Shape::Union { parts }) => parts.as_slice(),
@@ -124,7 +128,7 @@ fn arm_descriptor(
     arm: &Arm,
 ) -> Result<Expr, NoMemory>
     ensures { IfOk result (λ e. expr_of e
-        ≡ arm_expr (plain_of program.now) stand arm.now.bind (body_of arm.now.body)) }
+        ≡ arm_expr (plain_of program.now) (inside stand) arm.now.bind (body_of arm.now.body)) }
 {
     let one = [stand];
     match arm.bind {

@@ -1,11 +1,12 @@
 // The expressions of nodes and parts.
 ghost use Rattle.std.specs.Prelude.{◌≡◌, IfOk, OnOk, IfSome, IfNone, [], length};
 ghost use Rattle.luo_model.specs.declared.program.Shape.TheVariants.{Union};
+ghost use Rattle.luo_model.specs.Scopes.Stands as scopes;
 ghost use Rattle.luo_model.specs.View.{plain_of};
 ghost use Rattle.luo_model.specs.Program.{shape_of};
 ghost use Rattle.luo_equation.specs.View.{expr_of, expr_list};
 ghost use Rattle.luo_system.specs.Plain.{join_exprs, all_factors, sum_of, product_of};
-ghost use Rattle.luo_system.specs.System.{atom_expr, exprs_of, node_expr, inside_expr, part_expr, factors_in, stands_for, part_at, others};
+ghost use Rattle.luo_system.specs.System.{atom_expr, exprs_of, node_expr, inside_expr, part_expr, others};
 
 use crate::plain::{add_factor, add_term, collection, product_of_factors, sum_of_terms};
 use luo_equation::Expr;
@@ -143,7 +144,7 @@ pub(crate) fn add_others(
 
 /// The part of a variable.
 pub(crate) fn part_at(parts: &[Part], i: usize) -> Part
-    ensures { result ≡ part_at parts.now i }
+    ensures { result ≡ scopes.part_at parts.now i }
 {
     match parts.get(i) {
         Some(part) => *part,
@@ -156,7 +157,7 @@ pub(crate) fn part_at(parts: &[Part], i: usize) -> Part
 
 /// The factors of a product, and of another construct none.
 pub(crate) fn factors_at(program: &Program, x: usize) -> &[Part]
-    ensures { result.now ≡ factors_in (shape_of (plain_of program.now) x) }
+    ensures { result.now ≡ scopes.factors (shape_of (plain_of program.now) x) }
 {
     match shape_at(program, x) {
         Some(Shape::Product { parts }) => parts.as_slice(),

@@ -118,7 +118,7 @@ module _ (plan : Planned) (is : IsPlan plan) (ranks levels order : List ℕ) (la
       ordered = subst (λ n. IsOrderOf n (IsSiteBefore ranks levels) order) wide ordered;
       linked = sites_linked;
       tasks_wide = laid_length plan.starts plan.factors (recipes_of P) laid made ∙ sym (ap length (recipes_are P is.proper)) ∙ same_length (jobs_of P) ∙ jobs_length P is.proper;
-      tasks_are = λ i j t a b. laid_tasks plan.starts plan.factors (recipes_of P) laid made (λ r h. recipes_have P plan.starts plan.factors is.laid is.proper r h) i (recipe_of P j.node j.doing) t (recipe_there P is.proper i j a) b;
+      tasks_are = λ i j t a b. laid_tasks plan.starts plan.factors (recipes_of P) laid made (λ r h. recipes_have P plan.starts plan.factors is.laid is.proper r h) i (recipe_of P j.on.node j.doing) t (recipe_there P is.proper i j a) b;
     };
   }
     where

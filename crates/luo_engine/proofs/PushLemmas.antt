@@ -9,7 +9,7 @@ use Rattle.luo_model.specs.declared.program.Part.{Part}
 use Rattle.luo_model.specs.declared.program.Shape.{Shape}
 use Rattle.luo_model.specs.declared.program.Shape.TheVariants as shape
 use Rattle.luo_model.specs.Program.{Program, Items, shape_of}
-use Rattle.luo_model.specs.Scopes.{factors, inside}
+use Rattle.luo_model.specs.Scopes.Stands.{factors}
 use Rattle.luo_model.specs.Lists.{arm_list}
 use Rattle.luo_model.specs.declared.body.Arm.{Arm}
 use Rattle.luo_model.specs.View.{body_of, item_list}
@@ -30,15 +30,11 @@ pushed starts old mid new S own y start arity sites e f g h i m n = record {
   rows = n ∙ ap (λ l. l ++ None ∷ []) m ∙ append_assoc old (links_from (slice_index starts S.node) S.parts) (None ∷ []);
 }
 
-factors_length : (is : Items) (j : ℕ) (ys : List ℕ) → length (factors_from is j ys) ≡ length ys
+factors_length : (is : Items) (j : ℕ) (ys : List Part) → length (factors_from is j ys) ≡ length ys
 factors_length is j [] = refl
 factors_length is j (y ∷ ys) = omega (arith, factors_length is (suc j) ys)
 
-parts_length : (ps : List Part) → length (map (λ (part : Part). part.node) ps) ≡ length ps
-parts_length [] = refl
-parts_length (p ∷ ps) = omega (arith, parts_length ps)
-
-factors_are : (s : Shape) → factors s ≡ map (λ (part : Part). part.node) (product_parts s)
+factors_are : (s : Shape) → factors s ≡ product_parts s
 factors_are (shape.Atom w) = refl
 factors_are (shape.Union parts) = refl
 factors_are (shape.Product parts) = refl
@@ -60,20 +56,20 @@ module _ (p : Program) (starts : List ℕ) (old mid new : List (Option Link)) (y
 
   -- the parts of a product are bound
   push_bound : (k : ℕ) (parts : List Part) → bind ≡ Parts k → sites ≡ [] → parts ≡ product_parts (shape_of p y) → arity ≡ length parts
-      → mid ≡ old ++ links_from (slice_index starts y) (factors_from (item_list body.items) 0 (map (λ (part : Part). part.node) parts)) → Goal
+      → mid ≡ old ++ links_from (slice_index starts y) (factors_from (item_list body.items) 0 parts) → Goal
   push_bound k parts b s e a m =
-      let same : map (λ (part : Part). part.node) parts ≡ factors (shape_of p y) = ap (λ (ps : List Part). map (λ (part : Part). part.node) ps) e ∙ sym (factors_are (shape_of p y)) in
+      let same : parts ≡ factors (shape_of p y) = e ∙ sym (factors_are (shape_of p y)) in
       subst (λ (z : Bind). IsPushed starts old new (record { own = body.own; node = y; sites = sites; start = start; arity = arity }) (scope_of p y z (body_of body))) (sym b)
       (pushed starts old mid new (scope_of p y (Parts k) (body_of body)) body.own y start arity sites refl refl s begins
-      (a ∙ sym (parts_length parts) ∙ ap length same ∙ sym (factors_length (item_list body.items) 0 (factors (shape_of p y))))
-      (m ∙ ap (λ (ys : List ℕ). old ++ links_from (slice_index starts y) (factors_from (item_list body.items) 0 ys)) same) last)
+      (a ∙ ap length same ∙ sym (factors_length (item_list body.items) 0 (factors (shape_of p y))))
+      (m ∙ ap (λ (ys : List Part). old ++ links_from (slice_index starts y) (factors_from (item_list body.items) 0 ys)) same) last)
 
   pub push_some : (k : ℕ) (parts : List Part) (items : List Item) (from : ℕ) → bind ≡ Parts k → sites ≡ [] → parts ≡ product_parts (shape_of p y) → items ≡ body.items → from ≡ slice_index starts y → arity ≡ length parts
-      → mid ≡ old ++ links_from from (factors_from (item_list items) 0 (map (λ (part : Part). part.node) parts)) → Goal
+      → mid ≡ old ++ links_from from (factors_from (item_list items) 0 parts) → Goal
   push_some k parts items from b s e i f a m =
       push_bound k parts b s e a
-      (m ∙ ap (λ n. old ++ links_from n (factors_from (item_list items) 0 (map (λ (part : Part). part.node) parts))) f
-      ∙ ap (λ (l : List Item). old ++ links_from (slice_index starts y) (factors_from (item_list l) 0 (map (λ (part : Part). part.node) parts))) i)
+      (m ∙ ap (λ n. old ++ links_from n (factors_from (item_list items) 0 parts)) f
+      ∙ ap (λ (l : List Item). old ++ links_from (slice_index starts y) (factors_from (item_list l) 0 parts)) i)
 
   pub push_none : (k : ℕ) (parts : List Part) → bind ≡ Parts k → sites ≡ [] → parts ≡ product_parts (shape_of p y) → arity ≡ length parts → length parts ≤ 0 → mid ≡ old → Goal
   push_none k [] b s e a z m = push_bound k [] b s e a (m ∙ sym (append-nil old))
@@ -128,7 +124,7 @@ union_more p starts old mid new zs more Z arms parts b arm dp at h g a s e =
     one_more : (b : ℕ) → suc b ≡ b + 1
     one_more b = omega arith
 
-all_scopes : (p : Program) (arms : List Arm) (parts : List Part) (b : ℕ) → length arms ≤ b ⊎ length parts ≤ b → first_scopes p arms parts b ≡ scopes_of p (map (λ (part : Part). inside part.node) parts) (arm_list arms)
+all_scopes : (p : Program) (arms : List Arm) (parts : List Part) (b : ℕ) → length arms ≤ b ⊎ length parts ≤ b → first_scopes p arms parts b ≡ scopes_of p (map (λ (part : Part). part.node) parts) (arm_list arms)
 all_scopes p arms [] zero h = refl
 all_scopes p arms [] (suc b) h = none_here arms
   where
@@ -144,7 +140,7 @@ at_end : (a b c k : ℕ) → c ≡ min a b → c ≤ k → b ≤ k ⊎ a ≤ k
 at_end a b c k e h = grind arith
 
 pub union_end : (p : Program) (starts : List ℕ) (old now : List (Option Link)) (zs : List Scope) (arms : List Arm) (parts : List Part) (width b : ℕ) → width ≡ min (length parts) (length arms) → width ≤ b → PushedSoFar p starts old now zs arms parts b
-    → ArePushed starts old now zs (scopes_of p (map (λ (part : Part). inside part.node) parts) (arm_list arms))
+    → ArePushed starts old now zs (scopes_of p (map (λ (part : Part). part.node) parts) (arm_list arms))
 union_end p starts old now zs arms parts width b w h a = subst (ArePushed starts old now zs) (all_scopes p arms parts b (at_end (length parts) (length arms) width b w h)) a
 
 pub none_pushed : (p : Program) (starts : List ℕ) (links now : List (Option Link)) (zs : List Scope) (arms : List Arm) (parts : List Part) → now ≡ links → zs ≡ [] → PushedSoFar p starts links now zs arms parts 0

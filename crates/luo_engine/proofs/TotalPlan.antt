@@ -16,7 +16,7 @@ use Rattle.luo_model.specs.declared.program.Shape.TheVariants as shape
 use Rattle.luo_model.specs.Program.{Program, shape_of, site_node}
 use Rattle.luo_model.specs.Structures.{IsStructure}
 use Rattle.luo_model.specs.Member.{IsWithin}
-use Rattle.luo_model.specs.Scopes.{component, IsCollection}
+use Rattle.luo_model.specs.Scopes.Stands.{component, IsCollection}
 use Rattle.luo_model.specs.Charges.{of_body, of_walk, works_of}
 use Rattle.luo_model.specs.Levels.{IsRank}
 use Rattle.luo_model.specs.Tables.{IsCount, IsTotal}
@@ -139,7 +139,7 @@ module _ (plan : Planned) (s : Sites) (fixed : ArePlanned plan s) where
 
     -- the recipe of the site
     abbrev pub recipe : Recipe
-    recipe = recipe_of P job_there.0.node job_there.0.doing
+    recipe = recipe_of P job_there.0.on.node job_there.0.doing
 
     pub task_is : (t : Task) → slice_get s.tasks i ≡ Some t → IsTask plan.factors s.links recipe t
     task_is t e = fixed.sites_are.tasks_are i job_there.0 t job_there.1 e
@@ -227,17 +227,17 @@ module _ (plan : Planned) (s : Sites) (fixed : ArePlanned plan s) where
       collection_there (shape.Product parts) i = absurd i
       collection_there (shape.Coll kind part low high) i = (kind, part, low, high, refl)
 
-      walk_of : (d : Doing) (site node : ℕ) → In (record { site = site; node = node; doing = d }) (jobs_of P) → site ≡ i → IsTask plan.factors s.links (recipe_of P node d) (Walk collection body) → IsWalk P i body
-      walk_of (does b) site node h e a = absurd a
-      walk_of (calls callee) site node h e a = absurd a
-      walk_of (chooses arms) site node h e a = absurd a
-      walk_of (walks b body_site) site node h e a =
+      walk_of : (d : Doing) (site : ℕ) (on : Part) → In (record { site = site; on = on; doing = d }) (jobs_of P) → site ≡ i → IsTask plan.factors s.links (recipe_of P on.node d) (Walk collection body) → IsWalk P i body
+      walk_of (does b) site on h e a = absurd a
+      walk_of (calls callee) site on h e a = absurd a
+      walk_of (chooses arms) site on h e a = absurd a
+      walk_of (walks b body_site) site on h e a =
           let q = fixed.plan_is.proper in
-          let w = job_is P q (record { site = site; node = node; doing = walks b body_site }) h in
-          let c = collection_there (shape_of P node) w.fits.0 in
-          let own : Job = record { site = body_site; node = component (shape_of P node); doing = does b } in
-          let o = job_is P q own (w.inner own (In-append_right own (jobs_of_body P (component (shape_of P node) ∷ []) b) (own ∷ []) (inl refl))) in
-          let here : site_node P i ≡ node = ap (site_node P) (sym e) ∙ w.node_is in
+          let w = job_is P q (record { site = site; on = on; doing = walks b body_site }) h in
+          let c = collection_there (shape_of P on.node) w.fits.0 in
+          let own : Job = record { site = body_site; on = component (shape_of P on.node); doing = does b } in
+          let o = job_is P q own (w.inner own (In-append_right own (jobs_of_body P (component (shape_of P on.node) ∷ []) b) (own ∷ []) (inl refl))) in
+          let here : site_node P i ≡ on.node = ap (site_node P) (sym e) ∙ w.node_is in
           record {
             site = subst (λ z. z < length P.sites) e w.within;
             kind = c.0;
@@ -249,11 +249,11 @@ module _ (plan : Planned) (s : Sites) (fixed : ArePlanned plan s) where
             walk = subst (λ z. In (z, of_walk b) (works_of P)) e w.there;
             inner = subst (λ z. In (z, of_body b) (works_of P)) (sym a.1) o.there;
             there = subst (λ z. z < length P.sites) (sym a.1) o.within;
-            node = ap (site_node P) a.1 ∙ o.node_is ∙ ap component c.4;
+            node = ap (site_node P) a.1 ∙ o.node_is ∙ ap (λ (t : Shape). (component t).node) c.4;
           }
 
       pub walk_is : IsWalk P i body
-      walk_is = walk_of job_there.0.doing job_there.0.site job_there.0.node job_in site_is (task_is (Walk collection body) walk)
+      walk_is = walk_of job_there.0.doing job_there.0.site job_there.0.on job_in site_is (task_is (Walk collection body) walk)
 
       -- the body comes before where one component is allowed
       body_before : AllowsOne (shape_of P (site_node P i)) → Before body i

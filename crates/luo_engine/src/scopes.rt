@@ -1,10 +1,9 @@
 // The scopes of a program's sites, with the rows of their factors.
 ghost use Rattle.std.specs.Prelude.{◌≡◌, ◌<◌, ◌+◌, ◌^◌, ◌++◌, ◌∷◌, [], map, length, IfOk, OnOk, IsTrue, ◌↔◌};
 ghost use Rattle.luo_model.specs.Program.{shape_of, site_node};
-ghost use Rattle.luo_model.specs.Scopes.{inside, stands};
 ghost use Rattle.luo_model.specs.View.{plain_of, item_of, item_list, body_of};
 ghost use Rattle.luo_model.specs.Lists.{arm_list};
-ghost use Rattle.luo_recipes.specs.Tasks.{var_in, site_in, sites_on, factors_from, scope_of, scopes_of};
+ghost use Rattle.luo_recipes.specs.Tasks.{var_in, site_in, sites_on, factors_from, scope_of, scopes_of, stand_nodes};
 ghost use Rattle.luo_engine.specs.inner.Laying.{product_parts, union_parts, IsProductShape, IsPushed, ArePushed, links_from};
 ghost use Rattle.luo_recipes.specs.Starts.{HaveRoom};
 
@@ -112,7 +111,7 @@ fn push_factors(
 ) -> Result<(), NoMemory>
     requires { start + length parts.now < 2 ^ 32 }
     ensures { OnOk result (links.new ≡ links.old ++ links_from start
-        (factors_from (item_list items.now) 0 (map (λ part. part.node) parts.now))) }
+        (factors_from (item_list items.now) 0 parts.now)) }
 {
     for j in 0..parts.len() {
         let sites = sites_of(alloc, j, items)?;
@@ -175,7 +174,7 @@ fn push_union(
 ) -> Result<Items<Scope>, NoMemory>
     requires { HaveRoom (plain_of program.now) starts.now }
     ensures { IfOk result (λ scopes. ArePushed starts.now links.old links.new scopes
-        (scopes_of (plain_of program.now) (map (λ part. inside part.node) parts.now)
+        (scopes_of (plain_of program.now) (map (λ part. part.node) parts.now)
         (arm_list arms.now))) }
 {
     let mut scopes = Items::new(alloc);
@@ -227,7 +226,7 @@ pub fn push_case(
 ) -> Result<Items<Scope>, NoMemory>
     requires { HaveRoom (plain_of program.now) starts.now }
     ensures { IfOk result (λ scopes. ArePushed starts.now links.old links.new scopes
-        (scopes_of (plain_of program.now) (stands x (shape_of (plain_of program.now) x))
+        (scopes_of (plain_of program.now) (stand_nodes x (shape_of (plain_of program.now) x))
         (arm_list arms.now))) }
 {
     let branches = branches_at(program, x);

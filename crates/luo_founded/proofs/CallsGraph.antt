@@ -7,7 +7,8 @@ use Rattle.luo_model.specs.declared.program.Proc.{Proc}
 use Rattle.luo_model.specs.Program.{Program, Procedure, Body, Does, Items, no_items}
 use Rattle.luo_model.specs.Program as plain
 use Rattle.luo_model.specs.View.{Held, plain_of, procedure_of, item_list}
-use Rattle.luo_model.specs.Scopes.{FitsBody, FitsItems}
+use Rattle.luo_model.specs.declared.program.Part.{Part}
+use Rattle.luo_model.specs.Scopes.Fits.{FitsBody, FitsItems}
 use Rattle.luo_model.specs.Invariant.{IsProgram}
 use Rattle.luo_founded.specs.inner.Graph.{IsGraph}
 use Rattle.luo_model.specs.Founded.{CallsAmong, CallsIn, OwnCall}
@@ -34,18 +35,18 @@ calls_found g items = (there items, λ r. back items r.1 r.3 (In_get items r.0 r
     back (Case' var shape arms site ∷ items) i c h = ⊎_elim (λ e. absurd (subst (IsCallOf g) e c)) (λ j. back items i c j) h
     back (Forall' var own shape inner body_site site ∷ items) i c h = ⊎_elim (λ e. absurd (subst (IsCallOf g) e c)) (λ j. back items i c j) h
 
-pub call_within : (p : Program) (vars : List ℕ) (items : Items) (g : ℕ) → FitsItems p vars items → CallsAmong g items → g < length p.procs
+pub call_within : (p : Program) (vars : List Part) (items : Items) (g : ℕ) → FitsItems p vars items → CallsAmong g items → g < length p.procs
 call_within p vars no_items g f c = absurd c
 call_within p vars (plain.item (plain.Call var callee site) is) g f c =
-    ⊎_elim (λ e. subst (λ h. h < length p.procs) e (slice_get_within p.procs callee f.0.0 f.0.1)) (λ d. call_within p vars is g f.1 d) c
+    ⊎_elim (λ e. subst (λ h. h < length p.procs) e (slice_get_within p.procs callee f.0.0 f.0.2)) (λ d. call_within p vars is g f.1 d) c
 call_within p vars (plain.item (plain.Case var arms site) is) g f c = call_within p vars is g f.1 c
 call_within p vars (plain.item (plain.Forall var body body_site site) is) g f c = call_within p vars is g f.1 c
 
 pub own_within : (p : Program) → IsProgram p → (f g : ℕ) → OwnCall p f g → g < length p.procs
 own_within p q f g o = by_body o.0.body (q.procedures f o.0 o.1).1 o.2
   where
-    by_body : (body : Body) → FitsBody p (o.0.on.node ∷ []) body → CallsIn g body → g < length p.procs
-    by_body (Does own items) f c = call_within p (o.0.on.node ∷ []) items g f.1 c
+    by_body : (body : Body) → FitsBody p (o.0.on ∷ []) body → CallsIn g body → g < length p.procs
+    by_body (Does own items) f c = call_within p (o.0.on ∷ []) items g f.1 c
 
 pub calls_graph : (p : Held) → IsProgram (plain_of p) → (n : ℕ) (edges : List (List ℕ)) → EachGives (λ (P : Proc) g. CallsAmong g (item_list P.body.items)) p.procs n edges → n ≡ length p.procs → IsGraph (OwnCall (plain_of p)) (length p.procs) edges
 calls_graph p q n edges h l = record {

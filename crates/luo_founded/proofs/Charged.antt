@@ -10,7 +10,8 @@ use Rattle.luo_model.specs.Tree.{Tree, Trees, Atom, Inj, Tup, Coll, none, more, 
 use Rattle.luo_model.specs.Program.{Program, Procedure, Body, Does, Items, no_items, item, Call, Case, Forall, Arms, no_arms, arm, shape_of, site_node}
 use Rattle.luo_model.specs.Member.{Fits, FitAll, FitEach, Member}
 use Rattle.luo_model.specs.Charges.{parts_of, bound, EachCharges, BodyCharges, ItemsCharge, CaseCharges, Charges, Work, of_body, of_call, of_case, of_walk, works_of, WorkCharges, SiteCharges}
-use Rattle.luo_model.specs.Scopes.{FitsBody, FitsItems, FitsArms, inside, itself, stands, factors, component, IsCollection, IsProductOf, MayBind, bound_nodes}
+use Rattle.luo_model.specs.Scopes.Stands.{inside, itself, stands, factors, component, IsCollection, IsProductOf, MayBind, bound_parts}
+use Rattle.luo_model.specs.Scopes.Fits.{FitsBody, FitsItems, FitsArms}
 use Rattle.luo_model.specs.Invariant.{IsProgram}
 use Rattle.luo_model.proofs.ChargeLemmas.{charges_one}
 use Rattle.luo_model.proofs.DepthLemmas.{charges_by_body}
@@ -37,44 +38,44 @@ abbrev mutual
 
 module _ (p : Program) where
   -- the variables of a scope are members of their nodes, and no larger than this
-  abbrev pub Bound : ℕ → List ℕ → List Tree → Type 0
+  abbrev pub Bound : ℕ → List Part → List Tree → Type 0
   Bound b [] [] = Unit {0}
-  Bound b (x ∷ xs) (t ∷ ts) = Member p x t × (parts_in t ≤ b) × Bound b xs ts
+  Bound b (x ∷ xs) (t ∷ ts) = Member p x.node t × (parts_in t ≤ b) × Bound b xs ts
   Bound b _ _ = ⊥
 
-  bound_at : (b : ℕ) (xs : List ℕ) (ts : List Tree) (var x : ℕ) → Bound b xs ts → slice_get xs var ≡ Some x → (t : Tree) × (slice_get ts var ≡ Some t) × Member p x t × (parts_in t ≤ b)
+  bound_at : (b : ℕ) (xs : List Part) (ts : List Tree) (var : ℕ) (x : Part) → Bound b xs ts → slice_get xs var ≡ Some x → (t : Tree) × (slice_get ts var ≡ Some t) × Member p x.node t × (parts_in t ≤ b)
   bound_at b [] [] var x h e = absurd (none_some x e)
   bound_at b [] (t ∷ ts) var x h e = absurd h
   bound_at b (y ∷ xs) [] var x h e = absurd h
-  bound_at b (y ∷ xs) (t ∷ ts) zero x h e = (t, refl, subst (λ z. Member p z t) (some_same y x e) h.0, h.1)
+  bound_at b (y ∷ xs) (t ∷ ts) zero x h e = (t, refl, subst (λ (z : Part). Member p z.node t) (some_same y x e) h.0, h.1)
   bound_at b (y ∷ xs) (t ∷ ts) (suc var) x h e = bound_at b xs ts var x h.2 e
 
-  bound_factors : (b : ℕ) (parts : List Part) (ts : Trees) → FitAll p parts ts → all_parts_in ts ≤ b → Bound b (map (λ (part : Part). part.node) parts) (to_list ts)
+  bound_factors : (b : ℕ) (parts : List Part) (ts : Trees) → FitAll p parts ts → all_parts_in ts ≤ b → Bound b parts (to_list ts)
   bound_factors b [] none m h = tt
   bound_factors b [] (more t ts) m h = absurd m
   bound_factors b (part ∷ parts) none m h = absurd m
   bound_factors b (part ∷ parts) (more t ts) m h = (m.0, omega arith, bound_factors b parts ts m.1 (omega arith))
 
   -- the parts of a member of a product
-  bound_parts : (b k : ℕ) (s : Shape) (t : Tree) → IsProductOf k s → Fits p s t → parts_in t ≤ suc b → Bound b (factors s) (parts_of t)
-  bound_parts b k (shape.Atom w) t i m h = absurd i
-  bound_parts b k (shape.Union parts) t i m h = absurd i
-  bound_parts b k (shape.Coll kind part low high) t i m h = absurd i
-  bound_parts b k (shape.Product parts) (Atom w l) i m h = absurd m
-  bound_parts b k (shape.Product parts) (Inj j t) i m h = absurd m
-  bound_parts b k (shape.Product parts) (Tup ts) i m h = bound_factors b parts ts m (omega arith)
-  bound_parts b k (shape.Product parts) (Coll ts) i m h = absurd m
+  product_bound : (b k : ℕ) (s : Shape) (t : Tree) → IsProductOf k s → Fits p s t → parts_in t ≤ suc b → Bound b (factors s) (parts_of t)
+  product_bound b k (shape.Atom w) t i m h = absurd i
+  product_bound b k (shape.Union parts) t i m h = absurd i
+  product_bound b k (shape.Coll kind part low high) t i m h = absurd i
+  product_bound b k (shape.Product parts) (Atom w l) i m h = absurd m
+  product_bound b k (shape.Product parts) (Inj j t) i m h = absurd m
+  product_bound b k (shape.Product parts) (Tup ts) i m h = bound_factors b parts ts m (omega arith)
+  product_bound b k (shape.Product parts) (Coll ts) i m h = absurd m
 
   -- what an arm binds inside a branch, and of a product
-  bound_inside : (b y : ℕ) (bind : Bind) (t : Tree) → MayBind p (inside y) bind → Member p y t → parts_in t ≤ b → Bound b (bound_nodes p (inside y) bind) (bound bind t)
+  bound_inside : (b : ℕ) (y : Part) (bind : Bind) (t : Tree) → MayBind p (inside y) bind → Member p y.node t → parts_in t ≤ b → Bound b (bound_parts p (inside y) bind) (bound bind t)
   bound_inside b y Nothing t i m h = tt
   bound_inside b y Whole t i m h = (m, h, tt)
-  bound_inside b y (Parts k) t i m h = bound_parts b k (shape_of p y) t i m (omega arith)
+  bound_inside b y (Parts k) t i m h = product_bound b k (shape_of p y.node) t i m (omega arith)
 
-  bound_itself : (b x : ℕ) (bind : Bind) (t : Tree) → MayBind p (itself x) bind → Member p x t → parts_in t ≤ suc b → Bound b (bound_nodes p (itself x) bind) (bound bind t)
+  bound_itself : (b : ℕ) (x : Part) (bind : Bind) (t : Tree) → MayBind p (itself x) bind → Member p x.node t → parts_in t ≤ suc b → Bound b (bound_parts p (itself x) bind) (bound bind t)
   bound_itself b x Nothing t i m h = tt
   bound_itself b x Whole t i m h = absurd i
-  bound_itself b x (Parts k) t i m h = bound_parts b k (shape_of p x) t i m h
+  bound_itself b x (Parts k) t i m h = product_bound b k (shape_of p x.node) t i m h
 
   -- what is charged on structures that are no larger than this
   abbrev pub Charging : ℕ → Type 0
@@ -89,7 +90,7 @@ module _ (p : Program) where
       (x.0 + y.0, (x.0, y.0, x.1, y.1, refl))
 
   walk_charged : (c : ℕ) (s : Shape) → IsCollection s → (C : List Tree → ℕ → Type 0) → (t : Tree) → Fits p s t → parts_in t ≤ suc c
-      → ((u : Tree) → Member p (component s) u → parts_in u ≤ c → (q : ℕ) × C (u ∷ []) q) → (q : ℕ) × (ts : Trees) × (t ≡ Coll ts) × EachCharges (λ u. C (u ∷ [])) ts q
+      → ((u : Tree) → Member p (component s).node u → parts_in u ≤ c → (q : ℕ) × C (u ∷ []) q) → (q : ℕ) × (ts : Trees) × (t ≡ Coll ts) × EachCharges (λ u. C (u ∷ [])) ts q
   walk_charged c (shape.Atom w) i C t m h each = absurd i
   walk_charged c (shape.Union parts) i C t m h each = absurd i
   walk_charged c (shape.Product parts) i C t m h each = absurd i
@@ -101,9 +102,9 @@ module _ (p : Program) where
       (r.0, ts, refl, r.1)
 
   -- a case on a member of a union or a product
-  case_charged : (c : ℕ) (arms : Arms) (x : ℕ) (s : Shape) → shape_of p x ≡ s → 1 ≤ length (stands x s) → FitsArms p (stands x s) arms → (t : Tree) → Fits p s t → parts_in t ≤ suc c
-      → ((parts : List Part) → FitsArms p (map (λ (part : Part). inside part.node) parts) arms → (i : ℕ) (u : Tree) (part : Part) → slice_get parts i ≡ Some part → Member p part.node u → parts_in u ≤ c → (q : ℕ) × CaseCharges (Charges p) arms (Inj (suc i) u) q)
-      → (FitsArms p (itself x ∷ []) arms → (ts : Trees) → Member p x (Tup ts) → parts_in (Tup ts) ≤ suc c → (q : ℕ) × CaseCharges (Charges p) arms (Tup ts) q)
+  case_charged : (c : ℕ) (arms : Arms) (x : Part) (s : Shape) → shape_of p x.node ≡ s → 1 ≤ length (stands x s) → FitsArms p (stands x s) arms → (t : Tree) → Fits p s t → parts_in t ≤ suc c
+      → ((parts : List Part) → FitsArms p (map inside parts) arms → (i : ℕ) (u : Tree) (part : Part) → slice_get parts i ≡ Some part → Member p part.node u → parts_in u ≤ c → (q : ℕ) × CaseCharges (Charges p) arms (Inj (suc i) u) q)
+      → (FitsArms p (itself x ∷ []) arms → (ts : Trees) → Member p x.node (Tup ts) → parts_in (Tup ts) ≤ suc c → (q : ℕ) × CaseCharges (Charges p) arms (Tup ts) q)
       → (q : ℕ) × CaseCharges (Charges p) arms t q
   case_charged c arms x (shape.Atom w) e l f t m h union product = absurd (omega arith)
   case_charged c arms x (shape.Coll kind part low high) e l f t m h union product = absurd (omega arith)
@@ -119,46 +120,46 @@ module _ (p : Program) where
 
   mutual
     -- in a scope with variables up to b calls are charged as is said, and inside it all is up to c
-    items_charged : (b c : ℕ) → b ≤ suc c → Charging c → (items : Items) (xs : List ℕ) (vars : List Tree) → FitsItems p xs items → Bound b xs vars
+    items_charged : (b c : ℕ) → b ≤ suc c → Charging c → (items : Items) (xs : List Part) (vars : List Tree) → FitsItems p xs items → Bound b xs vars
         → ((g : ℕ) (P : Procedure) → CallsAmong g items → slice_get p.procs g ≡ Some P → (t : Tree) → Member p P.on.node t → parts_in t ≤ b → (q : ℕ) × Charges p g t q)
         → (q : ℕ) × ItemsCharge (Charges p) items vars q
     items_charged b c h inner no_items xs vars f v call = (0, refl)
     items_charged b c h inner (item (Call var callee site) is) xs vars f v call =
-        let r = bound_at b xs vars var f.0.0.on.node v f.0.2 in
-        let x = call callee f.0.0 (inl refl) f.0.1 r.0 r.2 r.3 in
+        let r = bound_at b xs vars var f.0.1 v f.0.3 in
+        let x = call callee f.0.0 (inl refl) f.0.2 r.0 (subst (λ z. Member p z r.0) f.0.4 r.2) r.3 in
         let y = items_charged b c h inner is xs vars f.1 v (λ g P i. call g P (inr i)) in
         (x.0 + y.0, (x.0, y.0, (r.0, r.1, x.1), y.1, refl))
     items_charged b c h inner (item (Case var arms site) is) xs vars f v call =
         let r = bound_at b xs vars var f.0.0 v f.0.1 in
-        let x = case_charged c arms f.0.0 (shape_of p f.0.0) refl f.0.2 f.0.3 r.0 r.2 (omega (arith, r.3))
+        let x = case_charged c arms f.0.0 (shape_of p f.0.0.node) refl f.0.2 f.0.3 r.0 r.2 (omega (arith, r.3))
         (λ parts g i u part e m l. branch_charged c inner arms parts g i u part e m l) (λ g ts m l. product_charged c inner arms f.0.0 g ts m l) in
         let y = items_charged b c h inner is xs vars f.1 v call in
         (x.0 + y.0, (x.0, y.0, (r.0, r.1, x.1), y.1, refl))
     items_charged b c h inner (item (Forall var body body_site site) is) xs vars f v call =
         let r = bound_at b xs vars var f.0.0 v f.0.1 in
-        let x = walk_charged c (shape_of p f.0.0) f.0.2 (BodyCharges (Charges p) body) r.0 r.2 (omega (arith, r.3)) (λ t m l. body_charged c inner body (component (shape_of p f.0.0) ∷ []) (t ∷ []) f.0.3 (m, l, tt)) in
+        let x = walk_charged c (shape_of p f.0.0.node) f.0.2 (BodyCharges (Charges p) body) r.0 r.2 (omega (arith, r.3)) (λ t m l. body_charged c inner body (component (shape_of p f.0.0.node) ∷ []) (t ∷ []) f.0.3 (m, l, tt)) in
         let y = items_charged b c h inner is xs vars f.1 v call in
         (x.0 + y.0, (x.0, y.0, (x.1, r.1 ∙ ap Some x.2, x.3), y.1, refl))
 
-    body_charged : (c : ℕ) → Charging c → (body : Body) (xs : List ℕ) (vars : List Tree) → FitsBody p xs body → Bound c xs vars → (q : ℕ) × BodyCharges (Charges p) body vars q
+    body_charged : (c : ℕ) → Charging c → (body : Body) (xs : List Part) (vars : List Tree) → FitsBody p xs body → Bound c xs vars → (q : ℕ) × BodyCharges (Charges p) body vars q
     body_charged c inner (Does own items) xs vars f v =
         let r = items_charged c c (omega arith) inner items xs vars f.1 v (λ g P i e t m l. inner g P e t m l) in
         (own + r.0, (r.0, r.1, refl))
 
-    product_charged : (c : ℕ) → Charging c → (arms : Arms) (x : ℕ) → FitsArms p (itself x ∷ []) arms → (ts : Trees) → Member p x (Tup ts) → parts_in (Tup ts) ≤ suc c → (q : ℕ) × CaseCharges (Charges p) arms (Tup ts) q
+    product_charged : (c : ℕ) → Charging c → (arms : Arms) (x : Part) → FitsArms p (itself x ∷ []) arms → (ts : Trees) → Member p x.node (Tup ts) → parts_in (Tup ts) ≤ suc c → (q : ℕ) × CaseCharges (Charges p) arms (Tup ts) q
     product_charged c inner no_arms x f ts m h = absurd f
     product_charged c inner (arm bind body (arm other more_body arms)) x f ts m h = absurd f.2
     product_charged c inner (arm bind body no_arms) x f ts m h =
-        body_charged c inner body (bound_nodes p (itself x) bind) (bound bind (Tup ts)) f.1 (bound_itself c x bind (Tup ts) f.0 m h)
+        body_charged c inner body (bound_parts p (itself x) bind) (bound bind (Tup ts)) f.1 (bound_itself c x bind (Tup ts) f.0 m h)
 
-    branch_charged : (c : ℕ) → Charging c → (arms : Arms) (parts : List Part) → FitsArms p (map (λ (part : Part). inside part.node) parts) arms → (i : ℕ) (t : Tree) (part : Part) → slice_get parts i ≡ Some part
+    branch_charged : (c : ℕ) → Charging c → (arms : Arms) (parts : List Part) → FitsArms p (map inside parts) arms → (i : ℕ) (t : Tree) (part : Part) → slice_get parts i ≡ Some part
         → Member p part.node t → parts_in t ≤ c → (q : ℕ) × CaseCharges (Charges p) arms (Inj (suc i) t) q
     branch_charged c inner arms [] f i t part e m h = absurd (none_some part e)
     branch_charged c inner no_arms (first ∷ parts) f i t part e m h = absurd f
     branch_charged c inner (arm bind body no_arms) (first ∷ parts) f zero t part e m h =
-        body_charged c inner body (bound_nodes p (inside first.node) bind) (bound bind t) f.1 (bound_inside c first.node bind t f.0 (subst (λ (z : Part). Member p z.node t) (sym (some_same first part e)) m) h)
+        body_charged c inner body (bound_parts p (inside first) bind) (bound bind t) f.1 (bound_inside c first bind t f.0 (subst (λ (z : Part). Member p z.node t) (sym (some_same first part e)) m) h)
     branch_charged c inner (arm bind body (arm other more_body arms)) (first ∷ parts) f zero t part e m h =
-        body_charged c inner body (bound_nodes p (inside first.node) bind) (bound bind t) f.1 (bound_inside c first.node bind t f.0 (subst (λ (z : Part). Member p z.node t) (sym (some_same first part e)) m) h)
+        body_charged c inner body (bound_parts p (inside first) bind) (bound bind t) f.1 (bound_inside c first bind t f.0 (subst (λ (z : Part). Member p z.node t) (sym (some_same first part e)) m) h)
     branch_charged c inner (arm bind body no_arms) (first ∷ parts) f (suc i) t part e m h = branch_charged c inner no_arms parts f.2 i t part e m h
     branch_charged c inner (arm bind body (arm other more_body arms)) (first ∷ parts) f (suc i) t part e m h = branch_charged c inner (arm other more_body arms) parts f.2 i t part e m h
 
@@ -169,7 +170,7 @@ module _ (p : Program) where
     some_parts (Tup ts) = omega arith
     some_parts (Coll ts) = omega arith
 
-    whole_charged : (b c : ℕ) → b ≤ suc c → Charging c → (body : Body) (x : ℕ) (t : Tree) → FitsBody p (x ∷ []) body → Member p x t → parts_in t ≤ b
+    whole_charged : (b c : ℕ) → b ≤ suc c → Charging c → (body : Body) (x : Part) (t : Tree) → FitsBody p (x ∷ []) body → Member p x.node t → parts_in t ≤ b
         → ((g : ℕ) (P : Procedure) → CallsIn g body → slice_get p.procs g ≡ Some P → (u : Tree) → Member p P.on.node u → parts_in u ≤ b → (q : ℕ) × Charges p g u q)
         → (q : ℕ) × BodyCharges (Charges p) body (t ∷ []) q
     whole_charged b c h inner (Does own items) x t f m l call =
@@ -184,7 +185,7 @@ module _ (p : Program) where
     charging (suc c) (suc left) f P e path l h t m s =
         let r = whole_charged (suc c) c (omega arith)
         (λ g Q d u n k. charging c (length p.procs) g Q d [] (no_path (OwnCall p) (length p.procs) g) (omega arith) u n k)
-        P.body P.on.node t (q.procedures f P e).1 m s
+        P.body P.on t (q.procedures f P e).1 m s
         (λ g Q i d u n k. charging (suc c) left g Q d (f ∷ path) (longer_path (OwnCall p) none (length p.procs) path f g l (slice_get_within p.procs f P e) (P, e, i)) (omega arith) u n k) in
         (r.0, charges_by_body p f P t r.0 e r.1)
 
@@ -196,16 +197,16 @@ module _ (p : Program) where
     one_charge f P e t m = let r = charge_exists f P e t m in (r.0, r.1, λ b c. charges_one p f t b r.0 c r.1)
 
     -- and so does each site on each member of its node
-    work_charged : (x : ℕ) (work : Work) → WorkOn p x work → (t : Tree) → Member p x t → (a : ℕ) × WorkCharges p work t a
+    work_charged : (x : Part) (work : Work) → WorkOn p x work → (t : Tree) → Member p x.node t → (a : ℕ) × WorkCharges p work t a
     work_charged x (of_body body) f t m = body_charged (parts_in t) (λ g P e u n l. charge_exists g P e u n) body (x ∷ []) (t ∷ []) f (m, omega arith, tt)
     work_charged x (of_call callee) f t m = charge_exists callee f.0 f.1 t (subst (λ y. Member p y t) (sym f.2) m)
     work_charged x (of_case arms) f t m =
         let inner : Charging (parts_in t) = λ g P e u n l. charge_exists g P e u n in
-        case_charged (parts_in t) arms x (shape_of p x) refl f.0 f.1 t m (omega arith)
+        case_charged (parts_in t) arms x (shape_of p x.node) refl f.0 f.1 t m (omega arith)
         (λ parts g i u part e n l. branch_charged (parts_in t) inner arms parts g i u part e n l) (λ g ts n l. product_charged (parts_in t) inner arms x g ts n l)
     work_charged x (of_walk body) f t m =
-        let r = walk_charged (parts_in t) (shape_of p x) f.0 (BodyCharges (Charges p) body) t m (omega arith)
-        (λ u n l. body_charged (parts_in t) (λ g P e v o k. charge_exists g P e v o) body (component (shape_of p x) ∷ []) (u ∷ []) f.1 (n, l, tt)) in
+        let r = walk_charged (parts_in t) (shape_of p x.node) f.0 (BodyCharges (Charges p) body) t m (omega arith)
+        (λ u n l. body_charged (parts_in t) (λ g P e v o k. charge_exists g P e v o) body (component (shape_of p x.node) ∷ []) (u ∷ []) f.1 (n, l, tt)) in
         (r.0, (r.1, r.2, r.3))
 
     pub site_charge : (i : ℕ) → i < length p.sites → (t : Tree) → Member p (site_node p i) t → (a : ℕ) × SiteCharges p i t a
@@ -213,7 +214,7 @@ module _ (p : Program) where
         let w = get_within (works_of p) i (omega (arith, works_length p q)) in
         let at = work_at p q i w.0 w.1 in
         let here : site_node p i ≡ at.0.node = ap (λ (s : Site). s.node) (get_or_from_slice_get p.sites i at.0 (record { node = 0; caller = 0; place = 0 }) at.1) in
-        let r = work_charged at.0.node w.0.1 at.3 t (subst (λ x. Member p x t) here m) in
+        let r = work_charged at.3.0 w.0.1 at.3.2 t (subst (λ x. Member p x t) (here ∙ sym at.3.1) m) in
         (r.0, (w.0.1, subst (λ s. In (s, w.0.1) (works_of p)) at.2 (In_get (works_of p) i w.0 w.1), r.1))
 
     pub one_site_charge : (i : ℕ) → i < length p.sites → (t : Tree) → Member p (site_node p i) t → (a : ℕ) × SiteCharges p i t a × ((b : ℕ) → SiteCharges p i t b → b ≡ a)

@@ -9,7 +9,8 @@ use Rattle.luo_model.specs.declared.program.Proc.{Proc}
 use Rattle.luo_model.specs.Program.{Program, Procedure, Body, Does, Items, no_items, item, Item, Call, Case, Forall}
 use Rattle.luo_model.specs.Charges.{Work, of_body, of_call, of_case, of_walk, works_of}
 use Rattle.luo_model.specs.View.{Held, plain_of, procedure_of, body_of}
-use Rattle.luo_model.specs.Scopes.{FitsBody}
+use Rattle.luo_model.specs.declared.program.Part.{Part}
+use Rattle.luo_model.specs.Scopes.Fits.{FitsBody}
 use Rattle.luo_model.specs.Invariant.{IsProgram}
 use Rattle.luo_model.specs.Founded.{CallsAmong, CallsIn, OwnCall}
 use Rattle.luo_model.specs.Levels.{ItemLevel, ItemsLevel, BodyLevel, LevelWithin, WholeLevel, WorkLevel, IsLevel}
@@ -116,13 +117,13 @@ module _ (p : Program) (q : IsProgram p) where
   }
 
   -- each site has the level of what is done there
-  work_right : (wholes : List ℕ) → AreWholes p wholes → (x : ℕ) (work : Work) → WorkOn p x work → WorkLevel p work (work_level wholes work)
+  work_right : (wholes : List ℕ) → AreWholes p wholes → (x : Part) (work : Work) → WorkOn p x work → WorkLevel p work (work_level wholes work)
   work_right wholes a x (of_body body) f = level_known (WholeLevel p) wholes body (λ g c. known g (called body (x ∷ []) f g c))
     where
       known : (g : ℕ) → g < length p.procs → (r : ℕ) × (slice_get wholes g ≡ Some r) × WholeLevel p g r
       known g h = let r = get_within wholes g (omega (arith, a.long)) in (r.0, r.1, a.each g r.0 r.1)
 
-      called : (body : Body) (vars : List ℕ) → FitsBody p vars body → (g : ℕ) → CallsIn g body → g < length p.procs
+      called : (body : Body) (vars : List Part) → FitsBody p vars body → (g : ℕ) → CallsIn g body → g < length p.procs
       called (Does own items) vars f g c = call_within p vars items g f.1 c
   work_right wholes a x (of_call callee) f = let r = get_within wholes callee (omega (arith, a.long, slice_get_within p.procs callee f.0 f.1)) in (r.0, a.each callee r.0 r.1, ap past r.1)
   work_right wholes a x (of_case arms) f = refl
@@ -133,7 +134,7 @@ module _ (p : Program) (q : IsProgram p) where
       let x = get_map_back (λ (w : ℕ × Work). work_level wholes w.1) (works_of p) site r (ap (λ l. slice_get l site) (sym e) ∙ g) in
       let i : In x.0 (works_of p) = In_get (works_of p) site x.0 x.1 in
       let at = work_at p q site x.0 x.1 in
-      (x.0.1, subst (λ s. In (s, x.0.1) (works_of p)) at.2 i, subst (WorkLevel p x.0.1) x.2 (work_right wholes a at.0.node x.0.1 at.3))
+      (x.0.1, subst (λ s. In (s, x.0.1) (works_of p)) at.2 i, subst (WorkLevel p x.0.1) x.2 (work_right wholes a at.3.0 x.0.1 at.3.2))
 
   pub levels_long : (wholes levels : List ℕ) → levels ≡ levels_of wholes (works_of p) → length levels ≡ length p.sites
   levels_long wholes levels e = ap length e ∙ length_map (λ (w : ℕ × Work). work_level wholes w.1) (works_of p) ∙ works_length p q

@@ -4,7 +4,7 @@ use Rattle.luo_model.specs.Tree.{Tree, Trees, Inj, Tup, Coll, none, more}
 use Rattle.luo_model.specs.Tree as tree
 use Rattle.luo_model.specs.Program.{Items, no_items, item, Value, Given, Made, Atom, Tuple, Branch, Chosen, Values, no_values, value, ValueArms, no_value_arms, value_arm}
 use Rattle.luo_model.specs.Charges.{bound, BodyCharges, ItemsCharge, CaseCharges, ChargesWithin}
-use Rattle.luo_model.specs.Scopes.{join_items, value_own, values_own, value_items, values_items, value_sites, value_arm_bodies, value_body}
+use Rattle.luo_model.specs.Scopes.ValueBodies.{join_items, value_own, values_own, value_items, values_items, value_sites, value_arm_bodies, value_body}
 use Rattle.luo_interp.specs.Laws.{atoms_in, all_atoms_in, ChargesAtoms, EachChargesAtoms, ArmsChargeAtoms, AtomsAreCharged}
 use Rattle.luo_interp.specs.Makes.{ValueMakes, ValuesMake, ArmsMake, MakesWithin}
 use Rattle.luo_interp.proofs.MakeSteps.{result_fits}

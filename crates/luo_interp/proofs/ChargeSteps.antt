@@ -25,7 +25,9 @@ use Rattle.luo_model.specs.Founded.{CallsAmong, OwnCall, IsFounded}
 use Rattle.luo_model.specs.Invariant.{IsProgram, IsAllowed}
 use Rattle.luo_model.specs.Lists.{arm_list}
 use Rattle.luo_model.specs.Member.{Member}
-use Rattle.luo_model.specs.Scopes.{FitsItems, FitsItem, FitsArms, Stand, itself, stands, component, MayBind, bound_nodes}
+use Rattle.luo_model.specs.declared.program.Part.{Part}
+use Rattle.luo_model.specs.Scopes.Stands.{Stand, itself, stands, component, MayBind, bound_parts}
+use Rattle.luo_model.specs.Scopes.Fits.{FitsItems, FitsItem, FitsArms}
 use Rattle.luo_model.specs.View.{Held, plain_of, procedure_of, item_of, item_list, body_of}
 use Rattle.luo_model.proofs.NodeLemmas.{node_at_place}
 use Rattle.luo_model.proofs.SiteLemmas.{procedures_charge_their_bodies}
@@ -203,24 +205,24 @@ module _ (p : Program) where
   pub walk_stands : (i : Item) (var body_site site : ℕ) (body : Body) → i ≡ Forall var body body_site site → StandsItem p (item_of i) → StandsBody p (body_of body)
   walk_stands i var body_site site body e h =
       let g : FitsItem p h.0 (plain.Forall var (body_of body) body_site site) = subst (FitsItem p h.0) (ap item_of e ∙ walk_item var body body_site site) h.1 in
-      (component (shape_of p g.0) ∷ [], g.3)
+      (component (shape_of p g.0.node) ∷ [], g.3)
 
   pub arm_stands : (arms : List Arm) (place : ℕ) (a : Arm) → slice_get arms place ≡ Some a → StandArms p (arm_list arms) → StandsBody p (body_of a.body)
-  arm_stands arms place a e h = go (stands h.0 (shape_of p h.0)) arms place e h.1
+  arm_stands arms place a e h = go (stands h.0 (shape_of p h.0.node)) arms place e h.1
     where
       go : (ss : List Stand) (arms : List Arm) (place : ℕ) → slice_get arms place ≡ Some a → FitsArms p ss (arm_list arms) → StandsBody p (body_of a.body)
       go ss [] place e f = absurd (none_some a e)
       go [] (x ∷ arms) place e f = absurd f
-      go (s ∷ ss) (x ∷ arms) zero e f = subst (λ (z : Arm). StandsBody p (body_of z.body)) (some_same x a e) (bound_nodes p s x.bind, f.1)
+      go (s ∷ ss) (x ∷ arms) zero e f = subst (λ (z : Arm). StandsBody p (body_of z.body)) (some_same x a e) (bound_parts p s x.bind, f.1)
       go (s ∷ ss) (x ∷ arms) (suc place) e f = go ss arms place e f.2
 
   -- the one arm of a case doesn't bind a whole
   pub parts_or_nothing : IsProgram p → (a : Arm) → a.bind ≡ Whole → StandArms p (arm_list (a ∷ [])) → ⊥
   parts_or_nothing q a e h = ⊎_elim
-      (λ n. go h.0 (shape_of p h.0) (subst (IsAllowed p.universe) (sym n.2) (q.allowed h.0 n.0 n.1)) a.bind e h.1)
-      (λ n. subst (λ z. FitsArms p (stands h.0 z) (arm_list (a ∷ []))) n h.1) (node_at_place p h.0)
+      (λ n. go h.0 (shape_of p h.0.node) (subst (IsAllowed p.universe) (sym n.2) (q.allowed h.0.node n.0 n.1)) a.bind e h.1)
+      (λ n. subst (λ z. FitsArms p (stands h.0 z) (arm_list (a ∷ []))) n h.1) (node_at_place p h.0.node)
     where
-      go : (x : ℕ) (s : Shape) → IsAllowed p.universe s → (b : Bind) → b ≡ Whole → FitsArms p (stands x s) (arm b (body_of a.body) no_arms) → ⊥
+      go : (x : Part) (s : Shape) → IsAllowed p.universe s → (b : Bind) → b ≡ Whole → FitsArms p (stands x s) (arm b (body_of a.body) no_arms) → ⊥
       go x (shape.Atom w) k b e f = f
       go x (shape.Union []) k b e f = f
       go x (shape.Union (part ∷ [])) k b e f = omega (arith, k.0)
@@ -247,8 +249,8 @@ item_short p left items i x e h g c = h g (go items i e)
     go (y ∷ items) zero e = call_among g (item_of y) (item_list items) (subst (λ z. CallsAmong g (plain.item (item_of z) plain.no_items)) (sym (some_same y x e)) c)
     go (y ∷ items) (suc i) e = call_behind g (item_of y) (item_list items) (go items i e)
 
-pub bound_parts : (bind : Bind) (k : ℕ) (t : Tree) (ts : Trees) → bind ≡ Parts k → t ≡ Tup ts → to_list ts ≡ bound bind t
-bound_parts bind k t ts e f = ap parts_of (sym f) ∙ ap (λ b. bound b t) (sym e)
+pub parts_are_bound : (bind : Bind) (k : ℕ) (t : Tree) (ts : Trees) → bind ≡ Parts k → t ≡ Tup ts → to_list ts ≡ bound bind t
+parts_are_bound bind k t ts e f = ap parts_of (sym f) ∙ ap (λ b. bound b t) (sym e)
 
 -- what an item is done on, and what is done there
 abbrev pub var_of : plain.Item → ℕ

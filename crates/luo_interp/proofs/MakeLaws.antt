@@ -17,7 +17,8 @@ use Rattle.luo_model.specs.Charges.{parts_of, bound}
 use Rattle.luo_model.specs.Founded.{CallsIn, OwnCall}
 use Rattle.luo_model.specs.Invariant.{IsProgram}
 use Rattle.luo_model.specs.Member.{IsLabel, Fits, FitAll, FitEach, Member}
-use Rattle.luo_model.specs.Scopes.{FitsValue, FitsValues, FitsValueArms, inside, itself, stands, factors, IsProductOf, MayBind, bound_nodes}
+use Rattle.luo_model.specs.Scopes.Stands.{inside, itself, stands, factors, IsProductOf, MayBind, bound_parts}
+use Rattle.luo_model.specs.Scopes.Fits.{FitsValue, FitsValues, FitsValueArms}
 use Rattle.luo_founded.proofs.Charged.{parts_in, all_parts_in, Bound}
 use Rattle.luo_interp.specs.Laws.{EachMakesOne}
 use Rattle.luo_interp.specs.Makes.{ValueMakes, ValuesMake, ArmsMake, MakesWithin, Makes}
@@ -159,37 +160,37 @@ module _ (p : Program) (plain_atoms : p.universe ≡ Unlabelled) where
     none_of_each part (more t ts) m = ap (λ l. l ++ all_labels_of ts) (no_labels (shape_of p part.node) t m.0) ∙ none_of_each part ts m.1
 
   -- a structure of this node that a scope of structures with at most so many parts makes
-  bound_at : (b : ℕ) (xs : List ℕ) (ts : List Tree) (var x : ℕ) → Bound p b xs ts → slice_get xs var ≡ Some x → (t : Tree) × (slice_get ts var ≡ Some t) × Member p x t × (parts_in t ≤ b)
+  bound_at : (b : ℕ) (xs : List Part) (ts : List Tree) (var : ℕ) (x : Part) → Bound p b xs ts → slice_get xs var ≡ Some x → (t : Tree) × (slice_get ts var ≡ Some t) × Member p x.node t × (parts_in t ≤ b)
   bound_at b [] [] var x h e = absurd (none_some x e)
   bound_at b [] (t ∷ ts) var x h e = absurd h
   bound_at b (y ∷ xs) [] var x h e = absurd h
-  bound_at b (y ∷ xs) (t ∷ ts) zero x h e = (t, refl, subst (λ z. Member p z t) (some_same y x e) h.0, h.1)
+  bound_at b (y ∷ xs) (t ∷ ts) zero x h e = (t, refl, subst (λ (z : Part). Member p z.node t) (some_same y x e) h.0, h.1)
   bound_at b (y ∷ xs) (t ∷ ts) (suc var) x h e = bound_at b xs ts var x h.2 e
 
-  bound_factors : (b : ℕ) (parts : List Part) (ts : Trees) → FitAll p parts ts → all_parts_in ts ≤ b → Bound p b (map (λ (part : Part). part.node) parts) (to_list ts)
+  bound_factors : (b : ℕ) (parts : List Part) (ts : Trees) → FitAll p parts ts → all_parts_in ts ≤ b → Bound p b parts (to_list ts)
   bound_factors b [] none m h = tt
   bound_factors b [] (more t ts) m h = absurd m
   bound_factors b (part ∷ parts) none m h = absurd m
   bound_factors b (part ∷ parts) (more t ts) m h = (m.0, omega arith, bound_factors b parts ts m.1 (omega arith))
 
-  bound_parts : (b k : ℕ) (s : Shape) (t : Tree) → IsProductOf k s → Fits p s t → parts_in t ≤ suc b → Bound p b (factors s) (parts_of t)
-  bound_parts b k (shape.Atom w) t i m h = absurd i
-  bound_parts b k (shape.Union parts) t i m h = absurd i
-  bound_parts b k (shape.Coll kind part low high) t i m h = absurd i
-  bound_parts b k (shape.Product parts) (Atom w l) i m h = absurd m
-  bound_parts b k (shape.Product parts) (Inj j t) i m h = absurd m
-  bound_parts b k (shape.Product parts) (Tup ts) i m h = bound_factors b parts ts m (omega arith)
-  bound_parts b k (shape.Product parts) (Coll ts) i m h = absurd m
+  product_bound : (b k : ℕ) (s : Shape) (t : Tree) → IsProductOf k s → Fits p s t → parts_in t ≤ suc b → Bound p b (factors s) (parts_of t)
+  product_bound b k (shape.Atom w) t i m h = absurd i
+  product_bound b k (shape.Union parts) t i m h = absurd i
+  product_bound b k (shape.Coll kind part low high) t i m h = absurd i
+  product_bound b k (shape.Product parts) (Atom w l) i m h = absurd m
+  product_bound b k (shape.Product parts) (Inj j t) i m h = absurd m
+  product_bound b k (shape.Product parts) (Tup ts) i m h = bound_factors b parts ts m (omega arith)
+  product_bound b k (shape.Product parts) (Coll ts) i m h = absurd m
 
-  bound_inside : (b y : ℕ) (bind : Bind) (t : Tree) → MayBind p (inside y) bind → Member p y t → parts_in t ≤ b → Bound p b (bound_nodes p (inside y) bind) (bound bind t)
+  bound_inside : (b : ℕ) (y : Part) (bind : Bind) (t : Tree) → MayBind p (inside y) bind → Member p y.node t → parts_in t ≤ b → Bound p b (bound_parts p (inside y) bind) (bound bind t)
   bound_inside b y Nothing t i m h = tt
   bound_inside b y Whole t i m h = (m, h, tt)
-  bound_inside b y (Parts k) t i m h = bound_parts b k (shape_of p y) t i m (omega arith)
+  bound_inside b y (Parts k) t i m h = product_bound b k (shape_of p y.node) t i m (omega arith)
 
-  bound_itself : (b x : ℕ) (bind : Bind) (t : Tree) → MayBind p (itself x) bind → Member p x t → parts_in t ≤ suc b → Bound p b (bound_nodes p (itself x) bind) (bound bind t)
+  bound_itself : (b : ℕ) (x : Part) (bind : Bind) (t : Tree) → MayBind p (itself x) bind → Member p x.node t → parts_in t ≤ suc b → Bound p b (bound_parts p (itself x) bind) (bound bind t)
   bound_itself b x Nothing t i m h = tt
   bound_itself b x Whole t i m h = absurd i
-  bound_itself b x (Parts k) t i m h = bound_parts b k (shape_of p x) t i m h
+  bound_itself b x (Parts k) t i m h = product_bound b k (shape_of p x.node) t i m h
 
   -- what is made of structures that are no larger than this
   abbrev Making : ℕ → Type 0
@@ -207,16 +208,16 @@ module _ (p : Program) (plain_atoms : p.universe ≡ Unlabelled) where
   tuple_member x k (shape.Product parts) e i ts h = subst (λ z. Fits p z (Tup ts)) (sym e) (h parts refl)
   tuple_member x k (shape.Coll kind part low high) e i ts h = absurd i
 
-  product_parts : (k : ℕ) (s : Shape) → IsProductOf k s → (parts : List Part) × (s ≡ shape.Product parts) × (factors s ≡ map (λ (part : Part). part.node) parts)
+  product_parts : (k : ℕ) (s : Shape) → IsProductOf k s → (parts : List Part) × (s ≡ shape.Product parts) × (factors s ≡ parts)
   product_parts k (shape.Atom w) i = absurd i
   product_parts k (shape.Union parts) i = absurd i
   product_parts k (shape.Product parts) i = (parts, refl, refl)
   product_parts k (shape.Coll kind part low high) i = absurd i
 
   -- a case on a member of a union or a product
-  case_made : (c : ℕ) (arms : ValueArms) (x expected : ℕ) (s : Shape) → shape_of p x ≡ s → 1 ≤ length (stands x s) → FitsValueArms p (stands x s) expected arms → (t : Tree) → Fits p s t → parts_in t ≤ suc c
-      → ((parts : List Part) → FitsValueArms p (map (λ (part : Part). inside part.node) parts) expected arms → (i : ℕ) (u : Tree) (part : Part) → slice_get parts i ≡ Some part → Member p part.node u → parts_in u ≤ c → (w : Tree) × ArmsMake (Makes p) arms (Inj (suc i) u) w × Member p expected w)
-      → (FitsValueArms p (itself x ∷ []) expected arms → (ts : Trees) → Member p x (Tup ts) → parts_in (Tup ts) ≤ suc c → (w : Tree) × ArmsMake (Makes p) arms (Tup ts) w × Member p expected w)
+  case_made : (c : ℕ) (arms : ValueArms) (x : Part) (expected : ℕ) (s : Shape) → shape_of p x.node ≡ s → 1 ≤ length (stands x s) → FitsValueArms p (stands x s) expected arms → (t : Tree) → Fits p s t → parts_in t ≤ suc c
+      → ((parts : List Part) → FitsValueArms p (map inside parts) expected arms → (i : ℕ) (u : Tree) (part : Part) → slice_get parts i ≡ Some part → Member p part.node u → parts_in u ≤ c → (w : Tree) × ArmsMake (Makes p) arms (Inj (suc i) u) w × Member p expected w)
+      → (FitsValueArms p (itself x ∷ []) expected arms → (ts : Trees) → Member p x.node (Tup ts) → parts_in (Tup ts) ≤ suc c → (w : Tree) × ArmsMake (Makes p) arms (Tup ts) w × Member p expected w)
       → (w : Tree) × ArmsMake (Makes p) arms t w × Member p expected w
   case_made c arms x expected (shape.Atom w) e l f t m h union product = absurd (omega arith)
   case_made c arms x expected (shape.Coll kind part low high) e l f t m h union product = absurd (omega arith)
@@ -232,14 +233,15 @@ module _ (p : Program) (plain_atoms : p.universe ≡ Unlabelled) where
 
   mutual
     -- in a scope with variables up to b calls make what is said, and inside it all is up to c
-    value_made : (b c : ℕ) → b ≤ suc c → Making c → (v : Value) (xs : List ℕ) (vars : List Tree) (expected : ℕ) → FitsValue p xs expected v → Bound p b xs vars
+    value_made : (b c : ℕ) → b ≤ suc c → Making c → (v : Value) (xs : List Part) (vars : List Tree) (expected : ℕ) → FitsValue p xs expected v → Bound p b xs vars
         → ((g : ℕ) (P : Procedure) (r : Result) → ValueCalls g v → slice_get p.procs g ≡ Some P → P.result ≡ Some r → (t : Tree) → Member p P.on.node t → parts_in t ≤ b → (u : Tree) × Makes p g t u × Member p r.on.node u)
         → (u : Tree) × ValueMakes (Makes p) v vars u × Member p expected u
-    value_made b c h inner (plain.Given var) xs vars expected f v call = let r = bound_at b xs vars var expected v f in (r.0, r.1, r.2)
+    value_made b c h inner (plain.Given var) xs vars expected f v call =
+        let r = bound_at b xs vars var f.0 v f.1 in (r.0, r.1, subst (λ z. Member p z r.0) f.2 r.2)
     value_made b c h inner (plain.Made var callee) xs vars expected f v call =
-        let r = bound_at b xs vars var f.0.on.node v f.3 in
-        let x = call callee f.0 f.1 refl f.2 f.4 r.0 r.2 r.3 in
-        (x.0, (r.0, r.1, x.1), subst (λ n. Member p n x.0) f.5 x.2)
+        let r = bound_at b xs vars var f.2 v f.4 in
+        let x = call callee f.0 f.1 refl f.3 f.6 r.0 (subst (λ z. Member p z r.0) f.5 r.2) r.3 in
+        (x.0, (r.0, r.1, x.1), subst (λ n. Member p n x.0) f.7 x.2)
     value_made b c h inner (plain.Atom weight own) xs vars expected f v call = (Atom weight 0, refl, atom_member expected weight f.0)
     value_made b c h inner (plain.Tuple vs) xs vars expected f v call =
         let d = product_parts _ (shape_of p expected) f.0 in
@@ -250,11 +252,11 @@ module _ (p : Program) (plain_atoms : p.universe ≡ Unlabelled) where
         (Inj number r.0, (r.0, r.1, refl), branch_member expected number f.1 f.0 f.2 r.0 f.3 f.4 f.5 r.2)
     value_made b c h inner (plain.Chosen var arms) xs vars expected f v call =
         let r = bound_at b xs vars var f.0 v f.1 in
-        let x = case_made c arms f.0 expected (shape_of p f.0) refl f.2 f.3 r.0 r.2 (omega (arith, r.3))
+        let x = case_made c arms f.0 expected (shape_of p f.0.node) refl f.2 f.3 r.0 r.2 (omega (arith, r.3))
         (λ parts g i u part e m l. branch_made c inner arms expected parts g i u part e m l) (λ g ts m l. product_made c inner arms f.0 expected g ts m l) in
         (x.0, (r.0, r.1, x.1), x.2)
 
-    values_made : (b c : ℕ) → b ≤ suc c → Making c → (vs : Values) (xs : List ℕ) (vars : List Tree) (parts : List Part) → FitsValues p xs (map (λ (part : Part). part.node) parts) vs → Bound p b xs vars
+    values_made : (b c : ℕ) → b ≤ suc c → Making c → (vs : Values) (xs : List Part) (vars : List Tree) (parts : List Part) → FitsValues p xs parts vs → Bound p b xs vars
         → ((g : ℕ) (P : Procedure) (r : Result) → ValuesCall g vs → slice_get p.procs g ≡ Some P → P.result ≡ Some r → (t : Tree) → Member p P.on.node t → parts_in t ≤ b → (u : Tree) × Makes p g t u × Member p r.on.node u)
         → (us : Trees) × ValuesMake (Makes p) vs vars us × FitAll p parts us
     values_made b c h inner plain.no_values xs vars [] f v call = (none, refl, tt)
@@ -265,19 +267,19 @@ module _ (p : Program) (plain_atoms : p.universe ≡ Unlabelled) where
         let y = values_made b c h inner vs xs vars parts f.1 v (λ g P r i. call g P r (inr i)) in
         (more x.0 y.0, (x.0, y.0, x.1, y.1, refl), (x.2, y.2))
 
-    product_made : (c : ℕ) → Making c → (arms : ValueArms) (x expected : ℕ) → FitsValueArms p (itself x ∷ []) expected arms → (ts : Trees) → Member p x (Tup ts) → parts_in (Tup ts) ≤ suc c → (w : Tree) × ArmsMake (Makes p) arms (Tup ts) w × Member p expected w
+    product_made : (c : ℕ) → Making c → (arms : ValueArms) (x : Part) (expected : ℕ) → FitsValueArms p (itself x ∷ []) expected arms → (ts : Trees) → Member p x.node (Tup ts) → parts_in (Tup ts) ≤ suc c → (w : Tree) × ArmsMake (Makes p) arms (Tup ts) w × Member p expected w
     product_made c inner no_value_arms x expected f ts m h = absurd f
     product_made c inner (value_arm bind v (value_arm other w arms)) x expected f ts m h = absurd f.2
-    product_made c inner (value_arm bind v no_value_arms) x expected f ts m h = value_made c c (omega arith) inner v (bound_nodes p (itself x) bind) (bound bind (Tup ts)) expected f.1 (bound_itself c x bind (Tup ts) f.0 m h) (λ g P r i e k t n l. inner g P r e k t n l)
+    product_made c inner (value_arm bind v no_value_arms) x expected f ts m h = value_made c c (omega arith) inner v (bound_parts p (itself x) bind) (bound bind (Tup ts)) expected f.1 (bound_itself c x bind (Tup ts) f.0 m h) (λ g P r i e k t n l. inner g P r e k t n l)
 
-    branch_made : (c : ℕ) → Making c → (arms : ValueArms) (expected : ℕ) (parts : List Part) → FitsValueArms p (map (λ (part : Part). inside part.node) parts) expected arms → (i : ℕ) (t : Tree) (part : Part) → slice_get parts i ≡ Some part
+    branch_made : (c : ℕ) → Making c → (arms : ValueArms) (expected : ℕ) (parts : List Part) → FitsValueArms p (map inside parts) expected arms → (i : ℕ) (t : Tree) (part : Part) → slice_get parts i ≡ Some part
         → Member p part.node t → parts_in t ≤ c → (w : Tree) × ArmsMake (Makes p) arms (Inj (suc i) t) w × Member p expected w
     branch_made c inner arms expected [] f i t part e m h = absurd (none_some part e)
     branch_made c inner no_value_arms expected (first ∷ parts) f i t part e m h = absurd f
     branch_made c inner (value_arm bind v no_value_arms) expected (first ∷ parts) f zero t part e m h =
-        value_made c c (omega arith) inner v (bound_nodes p (inside first.node) bind) (bound bind t) expected f.1 (bound_inside c first.node bind t f.0 (subst (λ (z : Part). Member p z.node t) (sym (some_same first part e)) m) h) (λ g P r i e k t n l. inner g P r e k t n l)
+        value_made c c (omega arith) inner v (bound_parts p (inside first) bind) (bound bind t) expected f.1 (bound_inside c first bind t f.0 (subst (λ (z : Part). Member p z.node t) (sym (some_same first part e)) m) h) (λ g P r i e k t n l. inner g P r e k t n l)
     branch_made c inner (value_arm bind v (value_arm other w arms)) expected (first ∷ parts) f zero t part e m h =
-        value_made c c (omega arith) inner v (bound_nodes p (inside first.node) bind) (bound bind t) expected f.1 (bound_inside c first.node bind t f.0 (subst (λ (z : Part). Member p z.node t) (sym (some_same first part e)) m) h) (λ g P r i e k t n l. inner g P r e k t n l)
+        value_made c c (omega arith) inner v (bound_parts p (inside first) bind) (bound bind t) expected f.1 (bound_inside c first bind t f.0 (subst (λ (z : Part). Member p z.node t) (sym (some_same first part e)) m) h) (λ g P r i e k t n l. inner g P r e k t n l)
     branch_made c inner (value_arm bind v no_value_arms) expected (first ∷ parts) f (suc i) t part e m h = branch_made c inner no_value_arms expected parts f.2 i t part e m h
     branch_made c inner (value_arm bind v (value_arm other w arms)) expected (first ∷ parts) f (suc i) t part e m h = branch_made c inner (value_arm other w arms) expected parts f.2 i t part e m h
 
@@ -291,7 +293,7 @@ module _ (p : Program) (plain_atoms : p.universe ≡ Unlabelled) where
         let fits = result_fits p q f P r e k in
         let x = value_made (suc c) c (omega arith)
         (λ g Q o d n u a i. making c (length p.procs) g Q o d n [] (no_path (OwnCall p) (length p.procs) g) (omega arith) u a i)
-        r.value (P.on.node ∷ []) (t ∷ []) r.on.node fits.2 (m, s, tt)
+        r.value (P.on ∷ []) (t ∷ []) r.on.node fits.2 (m, s, tt)
         (λ g Q o i d n u a j. making (suc c) left g Q o d n (f ∷ path) (longer_path (OwnCall p) founded (length p.procs) path f g l (slice_get_within p.procs f P e) (P, e, subst (CallsIn g) (sym fits.3.1) (value_calls g fits.3.0 r.value i))) (omega arith) u a j) in
         (x.0, makes_by_value p f P r t x.0 e k x.1, x.2)
 

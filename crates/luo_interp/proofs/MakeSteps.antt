@@ -20,7 +20,10 @@ use Rattle.luo_model.specs.Program.{Program, Procedure, Result, ValueArms, no_va
 use Rattle.luo_model.specs.Charges.{bound}
 use Rattle.luo_model.specs.Founded.{CallsAmong, CallsIn}
 use Rattle.luo_model.specs.Invariant.{IsProgram, IsAllowed, IsNamed}
-use Rattle.luo_model.specs.Scopes.{FitsValue, FitsValues, FitsValueArms, Stand, itself, stands, MayBind, bound_nodes, join_items, value_items, values_items, value_body}
+use Rattle.luo_model.specs.declared.program.Part.{Part}
+use Rattle.luo_model.specs.Scopes.Stands.{Stand, itself, stands, MayBind, bound_parts}
+use Rattle.luo_model.specs.Scopes.Fits.{FitsValue, FitsValues, FitsValueArms}
+use Rattle.luo_model.specs.Scopes.ValueBodies.{join_items, value_items, values_items, value_body}
 use Rattle.luo_model.specs.View.{Held, plain_of, procedure_of, result_of, value_of}
 use Rattle.luo_model.proofs.NodeLemmas.{node_at_place}
 use Rattle.luo_struct.specs.declared.structure.Structure.{Structure}
@@ -95,11 +98,11 @@ module _ (p : Program) where
   pub values_stand : (values : List Value) (i : ℕ) (v : Value) → slice_get values i ≡ Some v → StandValues p (value_list values) → StandsValue p (value_of v)
   values_stand values i v e h = go h.1 values i e h.2
     where
-      go : (nodes : List ℕ) (values : List Value) (i : ℕ) → slice_get values i ≡ Some v → FitsValues p h.0 nodes (value_list values) → StandsValue p (value_of v)
-      go nodes [] i e f = absurd (none_some v e)
+      go : (parts : List Part) (values : List Value) (i : ℕ) → slice_get values i ≡ Some v → FitsValues p h.0 parts (value_list values) → StandsValue p (value_of v)
+      go parts [] i e f = absurd (none_some v e)
       go [] (x ∷ values) i e f = absurd f
-      go (y ∷ nodes) (x ∷ values) zero e f = subst (λ z. StandsValue p (value_of z)) (some_same x v e) (h.0, y, f.0)
-      go (y ∷ nodes) (x ∷ values) (suc i) e f = go nodes values i e f.1
+      go (y ∷ parts) (x ∷ values) zero e f = subst (λ z. StandsValue p (value_of z)) (some_same x v e) (h.0, y.node, f.0)
+      go (y ∷ parts) (x ∷ values) (suc i) e f = go parts values i e f.1
 
   pub values_short : (left : ℕ) (values : List Value) (i : ℕ) (v : Value) → slice_get values i ≡ Some v → ValuesAreShort p left (value_list values) → ValueIsShort p left (value_of v)
   values_short left values i v e h g c = h g (go values i e)
@@ -125,20 +128,20 @@ module _ (p : Program) where
   branch_short left v number inner e h = subst (λ z. ValueIsShort p left z) e h
 
   pub value_arm_stands : (arms : List ValueArm) (place : ℕ) (a : ValueArm) → slice_get arms place ≡ Some a → StandValueArms p (value_arm_list arms) → StandsValue p (value_of a.value)
-  value_arm_stands arms place a e h = go (stands h.0 (shape_of p h.0)) arms place e h.2
+  value_arm_stands arms place a e h = go (stands h.0 (shape_of p h.0.node)) arms place e h.2
     where
       go : (ss : List Stand) (arms : List ValueArm) (place : ℕ) → slice_get arms place ≡ Some a → FitsValueArms p ss h.1 (value_arm_list arms) → StandsValue p (value_of a.value)
       go ss [] place e f = absurd (none_some a e)
       go [] (x ∷ arms) place e f = absurd f
-      go (s ∷ ss) (x ∷ arms) zero e f = subst (λ (z : ValueArm). StandsValue p (value_of z.value)) (some_same x a e) (bound_nodes p s x.bind, h.1, f.1)
+      go (s ∷ ss) (x ∷ arms) zero e f = subst (λ (z : ValueArm). StandsValue p (value_of z.value)) (some_same x a e) (bound_parts p s x.bind, h.1, f.1)
       go (s ∷ ss) (x ∷ arms) (suc place) e f = go ss arms place e f.2
 
   pub no_whole : IsProgram p → (a : ValueArm) → a.bind ≡ Whole → StandValueArms p (value_arm_list (a ∷ [])) → ⊥
   no_whole q a e h = ⊎_elim
-      (λ n. go h.0 (shape_of p h.0) (subst (IsAllowed p.universe) (sym n.2) (q.allowed h.0 n.0 n.1)) a.bind e h.2)
-      (λ n. subst (λ z. FitsValueArms p (stands h.0 z) h.1 (value_arm_list (a ∷ []))) n h.2) (node_at_place p h.0)
+      (λ n. go h.0 (shape_of p h.0.node) (subst (IsAllowed p.universe) (sym n.2) (q.allowed h.0.node n.0 n.1)) a.bind e h.2)
+      (λ n. subst (λ z. FitsValueArms p (stands h.0 z) h.1 (value_arm_list (a ∷ []))) n h.2) (node_at_place p h.0.node)
     where
-      go : (x : ℕ) (s : Shape) → IsAllowed p.universe s → (b : Bind) → b ≡ Whole → FitsValueArms p (stands x s) h.1 (value_arm b (value_of a.value) no_value_arms) → ⊥
+      go : (x : Part) (s : Shape) → IsAllowed p.universe s → (b : Bind) → b ≡ Whole → FitsValueArms p (stands x s) h.1 (value_arm b (value_of a.value) no_value_arms) → ⊥
       go x (shape.Atom w) k b e f = f
       go x (shape.Union []) k b e f = f
       go x (shape.Union (part ∷ [])) k b e f = omega (arith, k.0)
@@ -250,9 +253,9 @@ no_maker p f s made e m = go m.0 m.1
     go (suc depth) m = none_some m.0 (sym e ∙ m.2)
 
 pub result_fits : (p : Program) → IsProgram p → (f : ℕ) (P : Procedure) (r : Result) → slice_get p.procs f ≡ Some P → P.result ≡ Some r
-    → IsNamed p r.on × (p.universe ≡ Unlabelled) × FitsValue p (P.on.node ∷ []) r.on.node r.value × ((first : ℕ) × (P.body ≡ value_body first r.value))
+    → IsNamed p r.on × (p.universe ≡ Unlabelled) × FitsValue p (P.on ∷ []) r.on.node r.value × ((first : ℕ) × (P.body ≡ value_body first r.value))
 result_fits p q f P r e g =
-    subst (λ o. IfSome o (λ (r : Result). IsNamed p r.on × (p.universe ≡ Unlabelled) × FitsValue p (P.on.node ∷ []) r.on.node r.value × ((first : ℕ) × (P.body ≡ value_body first r.value)))) g (q.procedures f P e).2
+    subst (λ o. IfSome o (λ (r : Result). IsNamed p r.on × (p.universe ≡ Unlabelled) × FitsValue p (P.on ∷ []) r.on.node r.value × ((first : ℕ) × (P.body ≡ value_body first r.value)))) g (q.procedures f P e).2
 
 -- what values of each form make
 pub given_made : (R : ℕ → Tree → Tree → Type 0) (v : plain.Value) (var : ℕ) (ss : List Structure) (s : Structure) (t : Tree) → v ≡ plain.Given var → slice_get ss var ≡ Some s → ValueMakes R v (to_list (tree_list ss)) t → tree_of s ≡ t

@@ -4,7 +4,7 @@ use Rattle.std.specs.Prelude.{if◌then◌else◌, decimal, is_some}
 use Rattle.std.specs.Option.{option_map}
 use Rattle.luo_model.specs.declared.program.Part.{Part}
 use Rattle.luo_model.specs.declared.program.Shape.{Shape}
-use Rattle.luo_model.specs.Scopes.{Stand, factors}
+use Rattle.luo_model.specs.Scopes.Stands.{Stand, factors}
 use Rattle.luo_source.specs.declared.names.Name.{Name}
 use Rattle.luo_source.specs.declared.values.SourceValue.{SourceValue, Given, Made, Atom, Tuple', Branch', Case', Row_of-SourceValue, end_of-SourceValue, more_of-SourceValue, Row_of-SourceValueArm, end_of-SourceValueArm, more_of-SourceValueArm}
 use Rattle.luo_source.specs.declared.source.ProcDef.{ProcDef}

@@ -4,7 +4,7 @@ use Rattle.std.specs.Prelude.{true, is_some}
 use Rattle.luo_model.specs.declared.program.Part.{Part}
 use Rattle.luo_model.specs.Tree.{Tree}
 use Rattle.luo_model.specs.Member.{Member}
-use Rattle.luo_model.specs.Scopes.{factors}
+use Rattle.luo_model.specs.Scopes.Stands.{factors}
 use Rattle.luo_source.specs.declared.types.TypeExpr.{TypeExpr, Named, Epsilon, Atom, Union', Product', Coll', Row_of-TypeExpr, end_of-TypeExpr, more_of-TypeExpr}
 use Rattle.luo_source.specs.declared.source.Source.{Source}
 use Rattle.luo_rules.specs.Counted.{own_nodes}

@@ -5,7 +5,7 @@ use Rattle.luo_model.specs.Program as plain
 use Rattle.luo_model.specs.Program.{Procedure, Body, Does, Items, no_items, item, Item, Arms}
 use Rattle.luo_model.specs.Levels as model
 use Rattle.luo_model.specs.Levels.{ItemLevel, ItemsLevel, LevelWithin, WholeLevel}
-use Rattle.luo_model.specs.Scopes.{join_items, value_items, values_items, value_arm_bodies}
+use Rattle.luo_model.specs.Scopes.ValueBodies.{join_items, value_items, values_items, value_arm_bodies}
 use Rattle.luo_model.specs.Scopes as scopes
 use Rattle.luo_source.specs.declared.names.Name.{Name}
 use Rattle.luo_source.specs.declared.statements.Stmt.{Stmt, Skip, Charge, Call, Block', Case', Forall', Row_of-Stmt, end_of-Stmt, more_of-Stmt}

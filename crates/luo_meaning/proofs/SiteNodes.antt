@@ -4,7 +4,7 @@ use Rattle.luo_finite.specs.Listing.{In}
 use Rattle.luo_finite.proofs.Membership.{In-append_left, In-append_right}
 use Rattle.luo_model.specs.declared.program.Site.{Site}
 use Rattle.luo_model.specs.Program.{Program, Procedure, site_node}
-use Rattle.luo_model.specs.Scopes.{body_sites}
+use Rattle.luo_model.specs.Scopes.Sites.{body_sites}
 use Rattle.luo_model.specs.Invariant.{IsProgram, procedure_sites, placed, sites_from, numbered_from}
 use Rattle.luo_rules.proofs.Lists.{some_same, none_some, index_get}
 

@@ -4,7 +4,7 @@ use Rattle.std.specs.Prelude.{flat_map}
 use Rattle.luo_num.specs.declared.limits.TheConstants.{STATEMENT_LIMIT}
 use Rattle.luo_model.specs.declared.program.Site.{Site}
 use Rattle.luo_model.specs.Program.{Procedure}
-use Rattle.luo_model.specs.Scopes.{body_sites}
+use Rattle.luo_model.specs.Scopes.Sites.{body_sites}
 use Rattle.luo_model.specs.Invariant.{IsProgram, procedure_sites, placed, sites_from, numbered_from}
 use Rattle.luo_source.specs.declared.source.ProcDef.{ProcDef}
 use Rattle.luo_source.specs.declared.source.Source.{Source}

@@ -8,7 +8,9 @@ use Rattle.luo_model.specs.Tree.{Tree}
 use Rattle.luo_model.specs.Program.{Program, Procedure, Body, Does, Items, no_items, item, Item, Call, Case, Forall, Arms, no_arms, arm, shape_of, site_node}
 use Rattle.luo_model.specs.Charges.{Work, of_body, of_call, of_case, of_walk, works_of_body, works_of_items, works_of_item, works_of_arms, works_of_procedure, works_of, WorkCharges, SiteCharges}
 use Rattle.luo_model.specs.Levels.{IsLevel, WorkLevel}
-use Rattle.luo_model.specs.Scopes.{Stand, stands, component, bound_nodes, node_at, FitsBody, FitsItems, FitsItem, FitsArms, body_sites, items_sites, item_sites, arms_sites}
+use Rattle.luo_model.specs.Scopes.Stands.{Stand, stands, component, bound_parts, part_at}
+use Rattle.luo_model.specs.Scopes.Fits.{FitsBody, FitsItems, FitsItem, FitsArms}
+use Rattle.luo_model.specs.Scopes.Sites.{body_sites, items_sites, item_sites, arms_sites}
 use Rattle.luo_model.specs.Invariant.{IsProgram, procedure_sites, placed, sites_from}
 use Rattle.luo_model.proofs.WorkLemmas.{sites_are_apart, works_length, work_at}
 use Rattle.luo_meaning.proofs.SiteNodes.{numbered_get}

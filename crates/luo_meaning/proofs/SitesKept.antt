@@ -10,7 +10,8 @@ use Rattle.luo_model.specs.Charges as model
 use Rattle.luo_model.specs.Levels as level_of
 use Rattle.luo_model.specs.Levels.{WholeLevel, WorkLevel}
 use Rattle.luo_model.specs.Charges.{Work, of_body, of_call, of_case, of_walk, EachCharges, Charges, CaseCharges, WorkCharges}
-use Rattle.luo_model.specs.Scopes.{Stand, stands, component, IsCollection, node_at, bound_nodes, join_items}
+use Rattle.luo_model.specs.Scopes.Stands.{Stand, stands, component, IsCollection, part_at, bound_parts}
+use Rattle.luo_model.specs.Scopes.ValueBodies.{join_items}
 use Rattle.luo_source.specs.declared.names.Name.{Name}
 use Rattle.luo_source.specs.declared.types.TypeExpr.{TypeExpr}
 use Rattle.luo_source.specs.declared.statements.Stmt.{Stmt, Skip, Charge, Call, Block', Case', Forall', Row_of-Stmt, end_of-Stmt, more_of-Stmt, Row_of-SourceArm, end_of-SourceArm, more_of-SourceArm}

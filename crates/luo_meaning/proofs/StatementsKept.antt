@@ -10,7 +10,8 @@ use Rattle.luo_model.specs.Program as plain
 use Rattle.luo_model.specs.Program.{Body, Does, Items, no_items, Arms, no_arms, arm}
 use Rattle.luo_model.specs.Charges as model
 use Rattle.luo_model.specs.Charges.{EachCharges, ItemCharges, CaseCharges}
-use Rattle.luo_model.specs.Scopes.{Stand, join_items}
+use Rattle.luo_model.specs.Scopes.Stands.{Stand}
+use Rattle.luo_model.specs.Scopes.ValueBodies.{join_items}
 use Rattle.luo_source.specs.declared.names.Name.{Name}
 use Rattle.luo_source.specs.declared.statements.Pattern.{Pattern}
 use Rattle.luo_source.specs.declared.statements.Stmt.{Stmt, Skip, Charge, Call, Block', Case', Forall', Row_of-Stmt, end_of-Stmt, more_of-Stmt, Row_of-SourceArm, end_of-SourceArm, more_of-SourceArm}

@@ -5,7 +5,8 @@ use Rattle.std.specs.Str.{bytes_eq}
 use Rattle.luo_model.specs.Tree.{Tree, Trees, Atom, Inj, Tup, Coll, none, more}
 use Rattle.luo_model.specs.Program.{Does, Items, no_items, item, Item, no_arms}
 use Rattle.luo_model.specs.Charges.{parts_of, EachCharges, BodyCharges, ItemsCharge, ItemCharges, CaseCharges}
-use Rattle.luo_model.specs.Scopes.{Stand, join_items}
+use Rattle.luo_model.specs.Scopes.Stands.{Stand}
+use Rattle.luo_model.specs.Scopes.ValueBodies.{join_items}
 use Rattle.luo_model.specs.Charges as model
 use Rattle.luo_source.specs.declared.names.Name.{Name}
 use Rattle.luo_source.specs.declared.statements.Pattern.{Pattern}

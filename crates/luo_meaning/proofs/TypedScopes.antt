@@ -3,7 +3,7 @@ use Rattle.std.proofs.Common.{◌≡◌, ℕ, suc, ◌+◌, List, [], ◌∷◌,
 use Rattle.std.specs.Prelude.{Bool, true, false, if◌then◌else◌}
 use Rattle.std.specs.Str.{bytes_eq}
 use Rattle.luo_model.specs.declared.program.Part.{Part}
-use Rattle.luo_model.specs.Scopes.{Stand, inside, itself, stand_node, factors, bound_nodes}
+use Rattle.luo_model.specs.Scopes.Stands.{Stand, inside, itself, stand_part, factors, bound_parts}
 use Rattle.luo_source.specs.declared.names.Name.{Name}
 use Rattle.luo_source.specs.declared.statements.Pattern.{Pattern}
 use Rattle.luo_source.specs.declared.statements.Pattern.TheVariants as pat

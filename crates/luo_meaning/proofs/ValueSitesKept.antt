@@ -4,7 +4,8 @@ use Rattle.luo_model.specs.Tree.{Tree}
 use Rattle.luo_model.specs.Program.{Arms}
 use Rattle.luo_model.specs.Charges.{Charges, CaseCharges}
 use Rattle.luo_model.specs.Scopes as scopes
-use Rattle.luo_model.specs.Scopes.{Stand, stands, node_at, bound_nodes, value_items, values_items, value_arm_bodies}
+use Rattle.luo_model.specs.Scopes.Stands.{Stand, stands, part_at, bound_parts}
+use Rattle.luo_model.specs.Scopes.ValueBodies.{value_items, values_items, value_arm_bodies}
 use Rattle.luo_source.specs.declared.names.Name.{Name}
 use Rattle.luo_source.specs.declared.types.TypeExpr.{TypeExpr}
 use Rattle.luo_source.specs.declared.values.SourceValue.{SourceValue, Given, Made, Atom, Tuple', Branch', Case', Row_of-SourceValue, end_of-SourceValue, more_of-SourceValue, Row_of-SourceValueArm, end_of-SourceValueArm, more_of-SourceValueArm}

@@ -7,7 +7,8 @@ use Rattle.luo_model.specs.Program as plain
 use Rattle.luo_model.specs.Program.{Body, Does, Items, no_items, Arms, no_arms, arm}
 use Rattle.luo_model.specs.Charges as model
 use Rattle.luo_model.specs.Charges.{ItemCharges, CaseCharges}
-use Rattle.luo_model.specs.Scopes.{Stand, value_own, values_own, value_sites, value_arms_sites, value_items, values_items, value_arm_bodies}
+use Rattle.luo_model.specs.Scopes.Stands.{Stand}
+use Rattle.luo_model.specs.Scopes.ValueBodies.{value_own, values_own, value_sites, value_arms_sites, value_items, values_items, value_arm_bodies}
 use Rattle.luo_source.specs.declared.names.Name.{Name}
 use Rattle.luo_source.specs.declared.statements.Pattern.{Pattern}
 use Rattle.luo_source.specs.declared.values.SourceValue.{SourceValue, Given, Made, Atom, Tuple', Branch', Case', Row_of-SourceValue, end_of-SourceValue, more_of-SourceValue, Row_of-SourceValueArm, end_of-SourceValueArm, more_of-SourceValueArm}

@@ -12,7 +12,7 @@ use Rattle.luo_model.specs.Program as plain
 use Rattle.luo_model.specs.Program.{no_value_arms, value_arm}
 use Rattle.luo_model.specs.Charges as model
 use Rattle.luo_model.specs.Member.{IsLabel, Fits}
-use Rattle.luo_model.specs.Scopes.{Stand, factors}
+use Rattle.luo_model.specs.Scopes.Stands.{Stand, factors}
 use Rattle.luo_source.specs.declared.names.Name.{Name}
 use Rattle.luo_source.specs.declared.statements.Pattern.{Pattern}
 use Rattle.luo_source.specs.declared.types.TypeExpr.{TypeExpr}

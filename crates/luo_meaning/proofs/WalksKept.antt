@@ -8,7 +8,9 @@ use Rattle.luo_model.specs.declared.program.Part.{Part}
 use Rattle.luo_model.specs.declared.program.Shape.TheVariants as shape
 use Rattle.luo_model.specs.Program as plain
 use Rattle.luo_model.specs.Program.{Procedure, Body, Does, Items, no_items, item, Arms}
-use Rattle.luo_model.specs.Scopes.{Stand, stands, component, node_at, bound_nodes, join_items, walk_of, body_walks, items_walks, arms_walks, value_items, values_items, value_arm_bodies, value_sites}
+use Rattle.luo_model.specs.Scopes.Stands.{Stand, stands, component, part_at, bound_parts}
+use Rattle.luo_model.specs.Scopes.ValueBodies.{join_items, value_items, values_items, value_arm_bodies, value_sites}
+use Rattle.luo_model.specs.Scopes.Walks.{multiset_of, body_walks, items_walks, arms_walks}
 use Rattle.luo_model.specs.Program.{Value, Values, no_values, value, ValueArms, no_value_arms, value_arm}
 use Rattle.luo_source.specs.declared.names.Name.{Name}
 use Rattle.luo_source.specs.declared.types.TypeExpr.{TypeExpr, Named}

@@ -13,7 +13,10 @@ use Rattle.luo_model.specs.declared.program.Node.{Node}
 use Rattle.luo_model.specs.declared.program.Def.{Def}
 use Rattle.luo_model.specs.declared.program.Site.{Site}
 use Rattle.luo_model.specs.Program.{Program, Procedure, Result}
-use Rattle.luo_model.specs.Scopes.{FitsBody, FitsValue, value_body, body_sites, body_items, body_walks}
+use Rattle.luo_model.specs.Scopes.Fits.{FitsBody, FitsValue}
+use Rattle.luo_model.specs.Scopes.ValueBodies.{value_body}
+use Rattle.luo_model.specs.Scopes.Sites.{body_sites}
+use Rattle.luo_model.specs.Scopes.Walks.{multiset_of, body_items, body_walks}
 
 -- the parts of a construct
 abbrev pub inner_parts : Shape → List Part
@@ -95,21 +98,15 @@ IsAllowed universe (Union parts) = (2 ≤ length parts) × (length parts ≤ PAR
 IsAllowed universe (Product parts) = (2 ≤ length parts) × (length parts ≤ PART_LIMIT)
 IsAllowed universe (Coll kind part low high) = IsKind universe kind × IsLow kind low × (low ≤ BOUND_LIMIT) × IfSome high (λ most. (low ≤ most) × (most ≤ BOUND_LIMIT))
 
--- 1 for a multiset or a powerset
-abbrev pub multiset_of : Shape → ℕ
-multiset_of (Coll Multiset part low high) = 1
-multiset_of (Coll Powerset part low high) = 1
-multiset_of _ = 0
-
 -- the procedure stands on a type, its body fits, and so does its value where it has a result, which gives the body
 abbrev pub IsProcedure : Program → Procedure → Type 0
-IsProcedure p P = IsNamed p P.on × FitsBody p (P.on.node ∷ []) P.body
-    × IfSome P.result (λ (r : Result). IsNamed p r.on × (p.universe ≡ Unlabelled) × FitsValue p (P.on.node ∷ []) r.on.node r.value
+IsProcedure p P = IsNamed p P.on × FitsBody p (P.on ∷ []) P.body
+    × IfSome P.result (λ (r : Result). IsNamed p r.on × (p.universe ≡ Unlabelled) × FitsValue p (P.on ∷ []) r.on.node r.value
     × ((first : ℕ) × (P.body ≡ value_body first r.value)))
 
 -- the sites of a procedure with their nodes, its whole last
 abbrev pub procedure_sites : Program → Procedure → List (ℕ × ℕ)
-procedure_sites p P = body_sites p (P.on.node ∷ []) P.body ++ (P.site, P.on.node) ∷ []
+procedure_sites p P = body_sites p (P.on ∷ []) P.body ++ (P.site, P.on.node) ∷ []
 
 -- the sites of a procedure by their places in it
 abbrev pub placed : ℕ → ℕ → List (ℕ × ℕ) → List (ℕ × Site)
@@ -155,7 +152,7 @@ pub record IsProgram (p : Program) : Type 0 where
   pub few_procedures : length p.procs ≤ PROCEDURE_LIMIT
   pub few_items : sum_by (λ P. body_items P.body) p.procs ≤ STATEMENT_LIMIT
   pub few_analyses : length p.analyses ≤ ANALYSIS_LIMIT
-  pub few_walks : sum_by (λ P. body_walks p (P.on.node ∷ []) P.body) p.procs ≤ WALK_LIMIT
+  pub few_walks : sum_by (λ P. body_walks p (P.on ∷ []) P.body) p.procs ≤ WALK_LIMIT
   -- each procedure stands on a type and fits it
   pub procedures : (f : ℕ) (P : Procedure) → slice_get p.procs f ≡ Some P → IsProcedure p P
   -- the sites are numbered by procedure, each item behind all that stands inside it, and each has its node

@@ -8,7 +8,8 @@ use Rattle.luo_finite.proofs.Walks.{no_path, few_steps}
 use Rattle.luo_model.specs.declared.program.Site.{Site}
 use Rattle.luo_model.specs.Program.{Program, Procedure, Body, Does, Items, no_items, item, Item, Call, Case, Forall}
 use Rattle.luo_model.specs.Charges.{Work, of_body, of_call, of_case, of_walk, works_of}
-use Rattle.luo_model.specs.Scopes.{FitsBody}
+use Rattle.luo_model.specs.declared.program.Part.{Part}
+use Rattle.luo_model.specs.Scopes.Fits.{FitsBody}
 use Rattle.luo_model.specs.Invariant.{IsProgram}
 use Rattle.luo_model.specs.Founded.{IsFounded, CallsAmong, CallsIn, OwnCall}
 use Rattle.luo_model.specs.Levels.{ItemLevel, ItemsLevel, BodyLevel, LevelWithin, WholeLevel, WorkLevel, IsLevel}
@@ -46,7 +47,7 @@ module _ (p : Program) (q : IsProgram p) (f : IsFounded p) where
       within : (a b : ℕ) → OwnCall p a b → a < length p.procs
       within a b (P, there, c) = slice_get_within p.procs a P there
 
-  work_level : (x : ℕ) (work : Work) → WorkOn p x work → (r : ℕ) × WorkLevel p work r
+  work_level : (x : Part) (work : Work) → WorkOn p x work → (r : ℕ) × WorkLevel p work r
   work_level x (of_body (Does own items)) on = body_level (WholeLevel p) (Does own items) (λ g c. whole_level g (call_within p (x ∷ []) items g on.1 c))
   work_level x (of_call callee) on = let r = whole_level callee (slice_get_within p.procs callee on.0 on.1) in (suc r.0, (r.0, r.1, refl))
   work_level x (of_case arms) on = (0, refl)
@@ -56,5 +57,5 @@ module _ (p : Program) (q : IsProgram p) (f : IsFounded p) where
   level_exists i h =
       let w = get_within (works_of p) i (omega (arith, h, works_length p q)) in
       let at = work_at p q i w.0 w.1 in
-      let r = work_level at.0.node w.0.1 at.3 in
+      let r = work_level at.3.0 w.0.1 at.3.2 in
       (r.0, (w.0.1, subst (λ s. In (s, w.0.1) (works_of p)) at.2 (In_get (works_of p) i w.0 w.1), r.1))

@@ -53,11 +53,11 @@ pub sites_here : (i : Item) (is : Items) (j : ℕ) → var_in i ≡ j → sites_
 sites_here i is j e = ap (λ (t : Bool). if t then site_in i ∷ sites_on j is else sites_on j is) (eq-eqb (var_in i) j e)
 
 -- an item on a variable before these
-factors_before : (i : Item) (is : Items) (j : ℕ) (ys : List ℕ) → var_in i < j → factors_from (item i is) j ys ≡ factors_from is j ys
+factors_before : (i : Item) (is : Items) (j : ℕ) (ys : List Part) → var_in i < j → factors_from (item i is) j ys ≡ factors_from is j ys
 factors_before i is j [] h = refl
 factors_before i is j (y ∷ ys) h =
-    ap (λ (s : List ℕ). record { node = y; sites = s } ∷ factors_from (item i is) (suc j) ys) (sites_other i is j (λ e. absurd (omega (arith, e, h))))
-    ∙ ap (λ (fs : List FactorSites). record { node = y; sites = sites_on j is } ∷ fs) (factors_before i is (suc j) ys (omega arith))
+    ap (λ (s : List ℕ). record { node = y.node; sites = s } ∷ factors_from (item i is) (suc j) ys) (sites_other i is j (λ e. absurd (omega (arith, e, h))))
+    ∙ ap (λ (fs : List FactorSites). record { node = y.node; sites = sites_on j is } ∷ fs) (factors_before i is (suc j) ys (omega arith))
 
 part_node : Part → ℕ
 part_node part = part.node
@@ -66,22 +66,22 @@ module _ (u : Universe) (counts totals : ℕ → ℕ → ℕ) where
   abbrev pub column : Part → ℕ → ℕ
   column part = counts part.node
 
-  plain_counts : (is : Items) (j : ℕ) (ps : List Part) → map (factor_counts counts) (factors_from is j (map (λ (part : Part). part.node) ps)) ≡ sums_in (plain column ps)
+  plain_counts : (is : Items) (j : ℕ) (ps : List Part) → map (factor_counts counts) (factors_from is j ps) ≡ sums_in (plain column ps)
   plain_counts is j [] = refl
   plain_counts is j (part ∷ ps) = ap (λ l. counts part.node ∷ l) (plain_counts is (suc j) ps)
 
   -- the charged products of the factors from a variable on
   abbrev pub pointed : Items → ℕ → List Part → ℕ → ℕ
-  pointed is j ps n = point_all u (factor_counts counts) (factor_totals totals) (factors_from is j (map (λ (part : Part). part.node) ps)) n
+  pointed is j ps n = point_all u (factor_counts counts) (factor_totals totals) (factors_from is j ps) n
 
   pointed_before : (i : Item) (is : Items) (j : ℕ) (ps : List Part) (n : ℕ) → var_in i < j → pointed (item i is) j ps n ≡ pointed is j ps n
-  pointed_before i is j ps n h = ap (λ (fs : List FactorSites). point_all u (factor_counts counts) (factor_totals totals) fs n) (factors_before i is j (map (λ (part : Part). part.node) ps) h)
+  pointed_before i is j ps n h = ap (λ (fs : List FactorSites). point_all u (factor_counts counts) (factor_totals totals) fs n) (factors_before i is j ps h)
 
   abbrev site_sum : List ℕ → ℕ → ℕ
   site_sum sites k = sum_by (λ s. totals s k) sites
 
   rest : Items → ℕ → List Part → ℕ → ℕ
-  rest is j ps = products u (map (factor_counts counts) (factors_from is j (map (λ (part : Part). part.node) ps)))
+  rest is j ps = products u (map (factor_counts counts) (factors_from is j ps))
 
   pointed_cons : (is : Items) (j : ℕ) (part : Part) (ps : List Part) (n : ℕ) → pointed is j (part ∷ ps) n ≡ shares u (site_sum (sites_on j is)) (rest is (suc j) ps) n + shares u (counts part.node) (pointed is (suc j) ps) n
   unfolding rest

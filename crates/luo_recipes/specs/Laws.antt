@@ -23,7 +23,7 @@ pub record FollowRecipes (p : Program) (counts totals : ℕ → ℕ → ℕ) : T
   pub counted : Obeys p counts
   pub totalled : (i n : ℕ) → i < length p.sites → IsTotal p i n (totals i n)
   pub recipes : (j : Job) (n : ℕ) → In j (jobs_of p)
-      → totals j.site n ≡ recipe_number p counts totals (recipe_of p j.node j.doing) n
+      → totals j.site n ≡ recipe_number p counts totals (recipe_of p j.on.node j.doing) n
 
 abbrev pub TotalsHaveRecipes : Type 0
 TotalsHaveRecipes =

@@ -11,7 +11,7 @@ use Rattle.luo_model.specs.declared.program.Kind.TheVariants.{Sequence, Set, Cyc
 use Rattle.luo_model.specs.declared.program.Shape.{Shape}
 use Rattle.luo_model.specs.declared.program.Shape.TheVariants as shape
 use Rattle.luo_model.specs.Invariant.{IsKind, IsLow, greatest_weight}
-use Rattle.luo_model.specs.Scopes.{Stand, IsCollection}
+use Rattle.luo_model.specs.Scopes.Stands.{Stand, IsCollection}
 use Rattle.luo_source.specs.declared.names.Name.{Name}
 use Rattle.luo_source.specs.declared.types.Bound.{Bound}
 use Rattle.luo_source.specs.declared.statements.Pattern.{Pattern}

@@ -8,7 +8,10 @@ use Rattle.luo_model.specs.declared.program.Universe.TheVariants.{Unlabelled, La
 use Rattle.luo_model.specs.declared.program.Site.{Site}
 use Rattle.luo_model.specs.Program as plain
 use Rattle.luo_model.specs.Program.{Program, Procedure, Result}
-use Rattle.luo_model.specs.Scopes.{FitsBody, FitsValue, value_body, value_sites, body_sites, body_items}
+use Rattle.luo_model.specs.Scopes.Fits.{FitsBody, FitsValue}
+use Rattle.luo_model.specs.Scopes.ValueBodies.{value_body, value_sites}
+use Rattle.luo_model.specs.Scopes.Sites.{body_sites}
+use Rattle.luo_model.specs.Scopes.Walks.{body_items}
 use Rattle.luo_model.specs.Invariant.{IsNamed, IsProcedure, placed, sites_from}
 use Rattle.luo_source.specs.declared.names.Name.{Name}
 use Rattle.luo_source.specs.declared.source.ProcBody.{ProcBody}

@@ -2,7 +2,8 @@
 use Rattle.std.proofs.Common.{◌≡◌, ℕ, suc, ◌+◌, List, [], ◌∷◌, ◌++◌, map, length, refl, sym, ap, ◌∙◌, subst, arith}
 use Rattle.luo_model.specs.declared.program.Site.{Site}
 use Rattle.luo_model.specs.Program.{Procedure, Body, Does, Items, no_items, item, Item, Call, Case, Forall, Arms, no_arms, arm, shape_of}
-use Rattle.luo_model.specs.Scopes.{Stand, stands, component, bound_nodes, node_at, body_sites, items_sites, item_sites, arms_sites}
+use Rattle.luo_model.specs.Scopes.Stands.{Stand, stands, component, bound_parts, part_at}
+use Rattle.luo_model.specs.Scopes.Sites.{body_sites, items_sites, item_sites, arms_sites}
 use Rattle.luo_model.specs.Invariant.{procedure_sites, placed, sites_from, numbered_from}
 use Rattle.luo_rules.specs.declared.setting.Setting.{Setting}
 use Rattle.luo_rules.proofs.PatternFacts.{program_over}

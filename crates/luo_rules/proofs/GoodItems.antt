@@ -4,7 +4,11 @@ use Rattle.std.proofs.Math.Nat.{mul-le-mul_right}
 use Rattle.luo_num.specs.declared.limits.TheConstants.{NUMBER_LIMIT, STATEMENT_LIMIT}
 use Rattle.luo_model.specs.declared.body.Bind.{Bind}
 use Rattle.luo_model.specs.Program.{Program, Does, Items, no_items, item, Item, Call, Case, Forall, Arms, no_arms, arm, shape_of}
-use Rattle.luo_model.specs.Scopes.{Stand, stands, component, IsCollection, MayBind, bound_nodes, node_at, FitsItems, FitsItem, FitsArms, join_items, items_sites, item_sites, arms_sites, items_in}
+use Rattle.luo_model.specs.Scopes.Stands.{Stand, stands, component, IsCollection, MayBind, bound_parts, part_at}
+use Rattle.luo_model.specs.Scopes.Fits.{FitsItems, FitsItem, FitsArms}
+use Rattle.luo_model.specs.Scopes.ValueBodies.{join_items}
+use Rattle.luo_model.specs.Scopes.Sites.{items_sites, item_sites, arms_sites}
+use Rattle.luo_model.specs.Scopes.Walks.{items_in}
 use Rattle.luo_rules.proofs.Lists.{index_get}
 
 -- sites with numbers from this one on

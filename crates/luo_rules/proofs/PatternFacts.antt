@@ -9,7 +9,7 @@ use Rattle.luo_model.specs.declared.program.Shape.{Shape}
 use Rattle.luo_model.specs.declared.program.Shape.TheVariants as shape
 use Rattle.luo_model.specs.declared.program.Site.{Site}
 use Rattle.luo_model.specs.Program.{Program, Procedure}
-use Rattle.luo_model.specs.Scopes.{Stand, inside, itself, stands, factors, IsProductOf, MayBind, bound_nodes}
+use Rattle.luo_model.specs.Scopes.Stands.{Stand, inside, itself, stands, factors, IsProductOf, MayBind, bound_parts}
 use Rattle.luo_source.specs.declared.names.Name.{Name}
 use Rattle.luo_source.specs.declared.statements.Pattern.{Pattern}
 use Rattle.luo_source.specs.declared.statements.Pattern.TheVariants.{Named, NamedWhole, NamedParts, Parts, Any, AnyWhole}

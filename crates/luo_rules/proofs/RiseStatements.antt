@@ -1,6 +1,6 @@
 -- The breaches of statements stand at rising tokens.
 use Rattle.std.proofs.Common.{ℕ, ◌+◌, ◌<◌, ◌≤◌, List, [], ◌∷◌, length, refl, sym, subst, Option, Some, None, arith}
-use Rattle.luo_model.specs.Scopes.{Stand, inside}
+use Rattle.luo_model.specs.Scopes.Stands.{Stand, inside}
 use Rattle.luo_model.specs.declared.program.Shape.{Shape}
 use Rattle.luo_model.specs.declared.program.Shape.TheVariants as shape
 use Rattle.luo_scan.specs.Lexemes.{Lexeme}

@@ -1,7 +1,7 @@
 -- The breaches of values stand at rising tokens.
 use Rattle.std.proofs.Common.{ℕ, ◌+◌, List, [], ◌∷◌, length, refl, sym, subst, Bool, true, false, Option, Some, None, arith}
 use Rattle.std.specs.Prelude.{codes, decimal}
-use Rattle.luo_model.specs.Scopes.{Stand, inside}
+use Rattle.luo_model.specs.Scopes.Stands.{Stand, inside}
 use Rattle.luo_scan.specs.declared.token.Mark.TheVariants.{Comma}
 use Rattle.luo_scan.specs.declared.token.TokenKind.TheVariants as kind
 use Rattle.luo_scan.specs.Lexemes.{Lexeme, lexeme}

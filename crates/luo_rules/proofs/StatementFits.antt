@@ -8,7 +8,9 @@ use Rattle.luo_model.specs.declared.program.Shape.{Shape}
 use Rattle.luo_model.specs.declared.program.Shape.TheVariants as shape
 use Rattle.luo_model.specs.declared.program.Site.{Site}
 use Rattle.luo_model.specs.Program.{Program, Procedure, Items, no_items, Does, shape_of}
-use Rattle.luo_model.specs.Scopes.{Stand, stands, component, IsCollection, FitsItem, items_in, arms_in}
+use Rattle.luo_model.specs.Scopes.Stands.{Stand, stands, component, IsCollection}
+use Rattle.luo_model.specs.Scopes.Fits.{FitsItem}
+use Rattle.luo_model.specs.Scopes.Walks.{items_in, arms_in}
 use Rattle.luo_model.specs.Program as plain
 use Rattle.luo_source.specs.declared.names.Name.{Name}
 use Rattle.luo_source.specs.declared.statements.Stmt.{Stmt, Skip, Charge, Call, Block', Case', Forall', Row_of-Stmt, end_of-Stmt, more_of-Stmt, Row_of-SourceArm, end_of-SourceArm, more_of-SourceArm}

@@ -5,7 +5,8 @@ use Rattle.std.proofs.lemmas.List.Sums.{sum_by-cons}
 use mathlib.Core.Former.{Count}
 use denote.Hole.Carrier.{hidden}
 use Rattle.luo_model.specs.Program as plain
-use Rattle.luo_model.specs.Scopes.{Stand, join_items}
+use Rattle.luo_model.specs.Scopes.Stands.{Stand}
+use Rattle.luo_model.specs.Scopes.ValueBodies.{join_items}
 use Rattle.luo_source.specs.declared.names.Name.{Name}
 use Rattle.luo_source.specs.declared.statements.SourceArm.{SourceArm}
 use Rattle.luo_source.specs.declared.statements.Stmt.{Stmt, Block, Block', Case, Case', Forall, Row_of-Stmt, end_of-Stmt, more_of-Stmt, items-the_row-Stmt, items_hidden-the_row-Stmt-0, Row_of-SourceArm, end_of-SourceArm, more_of-SourceArm, items-the_row-SourceArm, items_hidden-the_row-SourceArm-1}

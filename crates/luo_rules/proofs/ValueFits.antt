@@ -9,7 +9,8 @@ use Rattle.luo_model.specs.declared.program.Shape.TheVariants as shape
 use Rattle.luo_model.specs.declared.program.Site.{Site}
 use Rattle.luo_model.specs.Program as plain
 use Rattle.luo_model.specs.Program.{Program, Procedure, Result}
-use Rattle.luo_model.specs.Scopes.{Stand, stands, factors, IsProductOf, FitsValue, FitsValues, FitsValueArms, value_count}
+use Rattle.luo_model.specs.Scopes.Stands.{Stand, stands, factors, IsProductOf}
+use Rattle.luo_model.specs.Scopes.Fits.{FitsValue, FitsValues, FitsValueArms, value_count}
 use Rattle.luo_source.specs.declared.names.Name.{Name}
 use Rattle.luo_source.specs.declared.values.SourceValue.{SourceValue, Given, Made, Atom, Tuple', Branch', Case', Row_of-SourceValue, end_of-SourceValue, more_of-SourceValue, Row_of-SourceValueArm, end_of-SourceValueArm, more_of-SourceValueArm}
 use Rattle.luo_rules.specs.declared.names.Meaning.{Meaning}

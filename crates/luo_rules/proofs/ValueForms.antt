@@ -6,7 +6,7 @@ use Rattle.luo_source.specs.declared.names.Name.{Name}
 use Rattle.luo_source.specs.declared.values.SourceValueArm.{SourceValueArm}
 use Rattle.luo_source.specs.declared.values.SourceValue.{SourceValue, Tuple, Tuple', Branch, Case, Case', Row_of-SourceValue, end_of-SourceValue, more_of-SourceValue, items-the_row-SourceValue, items_hidden-the_row-SourceValue-0, Row_of-SourceValueArm, end_of-SourceValueArm, more_of-SourceValueArm, items-the_row-SourceValueArm, items_hidden-the_row-SourceValueArm-2}
 use Rattle.luo_model.specs.Program as plain
-use Rattle.luo_model.specs.Scopes.{Stand}
+use Rattle.luo_model.specs.Scopes.Stands.{Stand}
 use Rattle.luo_rules.specs.declared.setting.Setting.{Setting}
 use Rattle.luo_rules.specs.declared.setting.Variable.{Variable}
 use Rattle.luo_rules.specs.Settings.{found, place_of, case_stands}

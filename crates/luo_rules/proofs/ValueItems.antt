@@ -3,7 +3,10 @@ use Rattle.std.proofs.Common.{ℕ, suc, ◌+◌, ◌*◌, ◌≤◌, List, [], �
 use Rattle.std.proofs.Math.Nat.{add-mul}
 use Rattle.luo_num.specs.declared.limits.TheConstants.{NUMBER_LIMIT, STATEMENT_LIMIT}
 use Rattle.luo_model.specs.Program.{Program, Value, Given, Made, Atom, Tuple, Branch, Chosen, Values, no_values, value, ValueArms, no_value_arms, value_arm, shape_of}
-use Rattle.luo_model.specs.Scopes.{Stand, stands, bound_nodes, FitsValue, FitsValues, FitsValueArms, value_own, values_own, value_sites, values_sites, value_arms_sites, value_items, values_items, value_arm_bodies, items_in, arms_in}
+use Rattle.luo_model.specs.Scopes.Stands.{Stand, stands, bound_parts}
+use Rattle.luo_model.specs.Scopes.Fits.{FitsValue, FitsValues, FitsValueArms}
+use Rattle.luo_model.specs.Scopes.ValueBodies.{value_own, values_own, value_sites, values_sites, value_arms_sites, value_items, values_items, value_arm_bodies}
+use Rattle.luo_model.specs.Scopes.Walks.{items_in, arms_in}
 use Rattle.luo_source.specs.declared.values.SourceValue as val
 use Rattle.luo_source.specs.declared.values.SourceValue.{SourceValue, Row_of-SourceValue, end_of-SourceValue, more_of-SourceValue, Row_of-SourceValueArm, end_of-SourceValueArm, more_of-SourceValueArm}
 use Rattle.luo_rules.specs.declared.setting.Setting.{Setting}

@@ -5,7 +5,7 @@ use Rattle.luo_model.specs.declared.program.Universe.TheVariants.{Unlabelled, La
 use Rattle.luo_model.specs.declared.program.Kind.{Kind}
 use Rattle.luo_model.specs.declared.program.Kind.TheVariants.{Cycle}
 use Rattle.luo_model.specs.declared.program.Shape.{Shape}
-use Rattle.luo_model.specs.Scopes.{Stand, IsCollection}
+use Rattle.luo_model.specs.Scopes.Stands.{Stand, IsCollection}
 use Rattle.luo_model.specs.Invariant.{IsKind, IsLow, greatest_weight}
 use Rattle.luo_source.specs.declared.names.Name.{Name}
 use Rattle.luo_source.specs.declared.types.Bound.{Bound}

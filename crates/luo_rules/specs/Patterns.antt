@@ -8,7 +8,7 @@ use Rattle.luo_model.specs.declared.body.Bind.{Bind}
 use Rattle.luo_model.specs.declared.body.Bind.TheVariants as bind
 use Rattle.luo_model.specs.declared.program.Shape.{Shape}
 use Rattle.luo_model.specs.declared.program.Shape.TheVariants as shape
-use Rattle.luo_model.specs.Scopes.{Stand, inside, itself, stand_node, factors}
+use Rattle.luo_model.specs.Scopes.Stands.{Stand, inside, itself, stand_part, factors}
 use Rattle.luo_rules.specs.declared.rule.Breach.{Breach}
 use Rattle.luo_rules.specs.declared.rule.Rule.TheVariants.{Y1, Y10, Y11, Y13}
 use Rattle.luo_rules.specs.declared.setting.Setting.{Setting}

@@ -5,7 +5,7 @@ use Rattle.luo_source.specs.declared.names.Name.{Name}
 use Rattle.luo_model.specs.declared.program.Part.{Part}
 use Rattle.luo_model.specs.declared.program.Shape.{Shape}
 use Rattle.luo_model.specs.Program.{Program, shape_of}
-use Rattle.luo_model.specs.Scopes.{Stand, stands}
+use Rattle.luo_model.specs.Scopes.Stands.{Stand, stands}
 use Rattle.luo_rules.specs.declared.names.Meaning.{Meaning}
 use Rattle.luo_rules.specs.declared.names.Meaning.TheVariants.{Definition, Procedure}
 use Rattle.luo_rules.specs.declared.rule.Breach.{Breach}

@@ -1,7 +1,8 @@
 -- The core form of statements.
 use Rattle.std.specs.Prelude.{ℕ, ◌+◌, List, [], ◌∷◌}
 use Rattle.luo_model.specs.Program as plain
-use Rattle.luo_model.specs.Scopes.{Stand, join_items}
+use Rattle.luo_model.specs.Scopes.Stands.{Stand}
+use Rattle.luo_model.specs.Scopes.ValueBodies.{join_items}
 use Rattle.luo_source.specs.declared.names.Name.{Name}
 use Rattle.luo_source.specs.declared.statements.Stmt.{Stmt, Charge, Call, Block', Case', Forall', Row_of-Stmt, end_of-Stmt, more_of-Stmt, Row_of-SourceArm, end_of-SourceArm, more_of-SourceArm}
 use Rattle.luo_rules.specs.declared.setting.Setting.{Setting}

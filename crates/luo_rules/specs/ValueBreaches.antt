@@ -5,7 +5,7 @@ use Rattle.luo_source.specs.declared.values.SourceValue.{SourceValue, Given, Mad
 use Rattle.luo_model.specs.declared.program.Part.{Part}
 use Rattle.luo_model.specs.declared.program.Shape.{Shape}
 use Rattle.luo_model.specs.declared.program.Shape.TheVariants as shape
-use Rattle.luo_model.specs.Scopes.{Stand, factors}
+use Rattle.luo_model.specs.Scopes.Stands.{Stand, factors}
 use Rattle.luo_rules.specs.declared.rule.Breach.{Breach}
 use Rattle.luo_rules.specs.declared.rule.Rule.TheVariants.{Y13, Y15}
 use Rattle.luo_rules.specs.declared.setting.Setting.{Setting}

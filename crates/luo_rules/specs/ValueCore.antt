@@ -5,7 +5,7 @@ use Rattle.luo_source.specs.declared.values.SourceValue.{SourceValue, Given, Mad
 use Rattle.luo_model.specs.declared.program.Shape.{Shape}
 use Rattle.luo_model.specs.declared.program.Shape.TheVariants as shape
 use Rattle.luo_model.specs.Program as plain
-use Rattle.luo_model.specs.Scopes.{Stand}
+use Rattle.luo_model.specs.Scopes.Stands.{Stand}
 use Rattle.luo_rules.specs.declared.setting.Setting.{Setting}
 use Rattle.luo_rules.specs.declared.setting.Variable.{Variable}
 use Rattle.luo_rules.specs.Meanings.{value_of, procedure_of}

@@ -3,7 +3,8 @@ use Rattle.std.specs.Prelude.{◌≡◌, ℕ, suc, ◌+◌, List, [], ◌∷◌,
 use Rattle.luo_model.specs.declared.program.Universe.{Universe}
 use Rattle.luo_model.specs.declared.program.Universe.TheVariants.{Unlabelled, Labelled}
 use Rattle.luo_model.specs.Program as plain
-use Rattle.luo_model.specs.Scopes.{join_items, value_body, value_sites, body_walks}
+use Rattle.luo_model.specs.Scopes.ValueBodies.{join_items, value_body, value_sites}
+use Rattle.luo_model.specs.Scopes.Walks.{body_walks}
 use Rattle.luo_model.specs.Invariant.{sites_from}
 use Rattle.luo_source.specs.declared.names.Name.{Name}
 use Rattle.luo_source.specs.declared.statements.Stmt.{Stmt}

@@ -11,7 +11,7 @@ use Rattle.luo_model.specs.declared.program.Def.{Def}
 use Rattle.luo_model.specs.declared.program.Kind.{Kind}
 use Rattle.luo_model.specs.declared.program.Shape.TheVariants as shape
 use Rattle.luo_model.specs.Invariant.{bare}
-use Rattle.luo_model.specs.Scopes.{stands, inside, factors, component}
+use Rattle.luo_model.specs.Scopes.Stands.{stands, inside, factors, component}
 use Rattle.luo_source.specs.declared.names.Name.{Name}
 use Rattle.luo_source.specs.declared.types.TypeExpr.TheVariants.{Atom}
 use Rattle.luo_source.specs.declared.types.TypeDef.{TypeDef}
@@ -29,7 +29,7 @@ use Rattle.luo_rules.specs.declared.setting.Variable.{Variable}
 use Rattle.luo_rules.specs.Breaches.{◌or_if_none◌, broken_at}
 use Rattle.luo_rules.specs.declared.rule.Rule.TheVariants.{Y1, Y9, Y10}
 use Rattle.luo_source.specs.declared.statements.SourceArm.{SourceArm}
-use Rattle.luo_model.specs.Scopes.{Stand}
+use Rattle.luo_model.specs.Scopes.Stands.{Stand}
 use Rattle.luo_rules.specs.inner.StatementLists.{one_arm_breaches, arm_list_breaches}
 use Rattle.luo_rules.proofs.StatementForms.{case-breaches, block-breaches, walk-breaches}
 use Rattle.luo_rules.specs.Meanings.{meaning, type_use, measure_use, procedure_use}

@@ -8,7 +8,9 @@ use Rattle.luo_model.specs.declared.program.Shape.{Shape}
 use Rattle.luo_model.specs.declared.program.Shape.TheVariants as shape
 use Rattle.luo_model.specs.Program as plain
 use Rattle.luo_model.specs.Program.{Program, Procedure}
-use Rattle.luo_model.specs.Scopes.{Stand, join_items, walk_of, body_walks, items_walks, arms_walks}
+use Rattle.luo_model.specs.Scopes.Stands.{Stand}
+use Rattle.luo_model.specs.Scopes.ValueBodies.{join_items}
+use Rattle.luo_model.specs.Scopes.Walks.{multiset_of, body_walks, items_walks, arms_walks}
 use Rattle.luo_source.specs.declared.statements.Stmt.{Stmt, Skip, Charge, Call, Block', Case', Forall', Row_of-Stmt, end_of-Stmt, more_of-Stmt, Row_of-SourceArm, end_of-SourceArm, more_of-SourceArm}
 use Rattle.luo_source.specs.declared.source.ProcBody.{ProcBody}
 use Rattle.luo_source.specs.declared.source.ProcBody.TheVariants.{Statements, Value}

@@ -40,7 +40,7 @@ use Rattle.luo_counting.proofs.Atoms.{CountsAt-atom, CountsAt-no_atom}
 use Rattle.luo_equation.specs.Series.{only_at, times}
 use Rattle.luo_equation.proofs.SeriesLemmas.{times-pos, unit-pos}
 use Rattle.luo_equation.proofs.CountLaws.{coll-pos}
-use Rattle.luo_system.specs.System.{no_part}
+use Rattle.luo_model.specs.Scopes.Stands.{no_part}
 use Rattle.luo_system.proofs.Steps.{by_size_and_step}
 use Rattle.luo_system.proofs.Values.{sums_in, products_in, shape_value}
 

@@ -11,7 +11,9 @@ use Rattle.luo_model.specs.declared.body.Bind.{Bind}
 use Rattle.luo_model.specs.declared.body.Bind.TheVariants.{Nothing, Whole, Parts}
 use Rattle.luo_model.specs.Program.{Program, Procedure, Body, Does, Items, no_items, item, Item, Call, Case, Forall, Arms, no_arms, arm, shape_of}
 use Rattle.luo_model.specs.Member.{IsWithin}
-use Rattle.luo_model.specs.Scopes.{Stand, inside, itself, stand_node, stands, factors, component, IsCollection, MayBind, bound_nodes, FitsBody, FitsItems, FitsItem, FitsArms}
+use Rattle.luo_finite.proofs.Membership.{In-map_back}
+use Rattle.luo_model.specs.Scopes.Stands.{Stand, inside, itself, stand_part, stands, factors, component, IsCollection, MayBind, bound_parts, part_at, no_part}
+use Rattle.luo_model.specs.Scopes.Fits.{FitsBody, FitsItems, FitsItem, FitsArms}
 use Rattle.luo_model.specs.Invariant.{IsProgram, IsPart, inner_parts}
 use Rattle.luo_finite.specs.Walk.{Walk}
 use Rattle.luo_model.specs.Founded.{HasZero, KeepsSize, SameSize, IsFounded}
@@ -20,7 +22,7 @@ use Rattle.luo_equation.specs.Series.{times, point}
 use Rattle.luo_equation.specs.Expr.{Expr, Exprs, Number, expr, Table, coef, sum_of_coefs, product_of_coefs}
 use Rattle.luo_equation.proofs.Local.{times-same, point-same}
 use Rattle.luo_system.specs.Plain.{product_of}
-use Rattle.luo_system.specs.System.{exprs_of, part_expr, part_at, no_part, stands_for, factors_in, bound_parts, whole_parts, others, item_var, walk_expr, body_expr, items_exprs, item_expr, arms_exprs}
+use Rattle.luo_system.specs.System.{exprs_of, part_expr, whole_parts, others, item_var, walk_expr, body_expr, items_exprs, item_expr, arms_exprs}
 use Rattle.luo_system.proofs.PlainLaws.{coef-sum, coef-product, coef-walk}
 use Rattle.luo_system.proofs.Values.{products_in, products-exprs, products-all, products-low}
 use Rattle.luo_system.proofs.Counts.{count_of, zero_or_none, solid_part, CZ}
@@ -28,11 +30,6 @@ use Rattle.luo_system.proofs.Definitions.{part_there}
 
 abbrev pub node_of : Part → ℕ
 node_of part = part.node
-
-pub get_map : {A B : Type 0} (g : A → B) (xs : List A) (i : ℕ) (y : B) → slice_get (map g xs) i ≡ Some y → (x : A) × (slice_get xs i ≡ Some x) × (g x ≡ y)
-get_map g [] i y e = absurd (none_some y e)
-get_map g (x ∷ xs) zero y e = (x, refl, some_same (g x) y e)
-get_map g (x ∷ xs) (suc i) y e = get_map g xs i y e
 
 pub at_get : (vars : List Part) (var : ℕ) (part : Part) → slice_get vars var ≡ Some part → part_at vars var ≡ part
 at_get vars var part e = get_or_from_slice_get vars var part no_part e
@@ -52,33 +49,11 @@ in_others (part ∷ parts) (suc j) other i = ⊎_elim (λ e. inl e) (λ k. inr (
 abbrev pub AreThere : Program → List Part → Type 0
 AreThere p parts = (part : Part) → In part parts → IsPart p part
 
-pub bound_map : (p : Program) (stand : Part) (S : Stand) (bind : Bind) → stand_node S ≡ stand.node → bound_nodes p S bind ≡ map node_of (bound_parts p stand bind)
-bound_map p stand S Nothing e = refl
-bound_map p stand S Whole e = ap (λ y. y ∷ []) e
-bound_map p stand S (Parts k) e = ap (λ y. factors (shape_of p y)) e ∙ by_shape (shape_of p stand.node)
-  where
-    by_shape : (s : Shape) → factors s ≡ map node_of (factors_in s)
-    by_shape (shape.Atom weight) = refl
-    by_shape (shape.Union parts) = refl
-    by_shape (shape.Product parts) = refl
-    by_shape (shape.Coll kind part low high) = refl
-
-pub factors_there : (s : Shape) (part : Part) → In part (factors_in s) → In part (inner_parts s)
+pub factors_there : (s : Shape) (part : Part) → In part (factors s) → In part (inner_parts s)
 factors_there (shape.Atom weight) part i = i
 factors_there (shape.Union parts) part i = absurd i
 factors_there (shape.Product parts) part i = i
 factors_there (shape.Coll kind q low high) part i = absurd i
-
--- the component of a collection
-abbrev pub component_part : Shape → Part
-component_part (shape.Coll kind part low high) = part
-component_part _ = no_part
-
-pub component_node : (s : Shape) → component s ≡ (component_part s).node
-component_node (shape.Atom weight) = refl
-component_node (shape.Union parts) = refl
-component_node (shape.Product parts) = refl
-component_node (shape.Coll kind c low high) = refl
 
 module _ (p : Program) (q : IsProgram p) (f : IsFounded p) where
   abbrev RestZero : List Part → ℕ → Type 0
@@ -125,15 +100,15 @@ module _ (p : Program) (q : IsProgram p) (f : IsFounded p) where
     abbrev ScopeNear : ℕ → List Part → Type 0
     ScopeNear m vars = (j : ℕ) (part : Part) → slice_get vars j ≡ Some part → AgreeFrom m part.node ⊎ RestZero vars j
 
-    item_near : (m : ℕ) (vars : List Part) (i : Item) → FitsItem p (map node_of vars) i → ScopeNear m vars → ItemNear m vars i ⊎ RestZero vars (item_var i)
+    item_near : (m : ℕ) (vars : List Part) (i : Item) → FitsItem p vars i → ScopeNear m vars → ItemNear m vars i ⊎ RestZero vars (item_var i)
     item_near m vars (Call var callee site) w s =
-        let r = get_map node_of vars var w.0.on.node w.2 in ⊎_elim (λ a. inl (a.0 callee w.0 w.1 (sym r.2))) (λ z. inr z) (s var r.0 r.1)
+        ⊎_elim (λ a. inl (a.0 callee w.0 w.2 (sym w.4))) (λ z. inr z) (s var w.1 w.3)
     item_near m vars (Case var arms site) w s =
-        let r = get_map node_of vars var w.0 w.1 in ⊎_elim (λ a. inl (subst (λ (y : Part). AgreeBehind m y.node) (sym (at_get vars var r.0 r.1)) a.1)) (λ z. inr z) (s var r.0 r.1)
+        ⊎_elim (λ a. inl (subst (λ (y : Part). AgreeBehind m y.node) (sym (at_get vars var w.0 w.1)) a.1)) (λ z. inr z) (s var w.0 w.1)
     item_near m vars (Forall var body body_site site) w s =
-        let r = get_map node_of vars var w.0 w.1 in ⊎_elim (λ a. inl (subst (λ (y : Part). AgreeBehind m y.node) (sym (at_get vars var r.0 r.1)) a.1)) (λ z. inr z) (s var r.0 r.1)
+        ⊎_elim (λ a. inl (subst (λ (y : Part). AgreeBehind m y.node) (sym (at_get vars var w.0 w.1)) a.1)) (λ z. inr z) (s var w.0 w.1)
 
-    items_near : (m : ℕ) (vars : List Part) (is : Items) → FitsItems p (map node_of vars) is → ScopeNear m vars → ItemsNear m vars is
+    items_near : (m : ℕ) (vars : List Part) (is : Items) → FitsItems p vars is → ScopeNear m vars → ItemsNear m vars is
     items_near m vars no_items w s = tt
     items_near m vars (item i is) w s = (item_near m vars i w.0 s, items_near m vars is w.1 s)
 
@@ -141,8 +116,8 @@ module _ (p : Program) (q : IsProgram p) (f : IsFounded p) where
     abbrev pub AllAgree : ℕ → Type 0
     AllAgree m = (g : ℕ) (P : Procedure) → slice_get p.procs g ≡ Some P → t.y g m ≡ v.y g m
 
-    near_below : (i : Item) (vars : List Part) → FitsItem p (map node_of vars) i → (k : ℕ) → AllAgree k → ItemNear k vars i
-    near_below (Call var callee site) vars w k a = a callee w.0 w.1
+    near_below : (i : Item) (vars : List Part) → FitsItem p vars i → (k : ℕ) → AllAgree k → ItemNear k vars i
+    near_below (Call var callee site) vars w k a = a callee w.0 w.2
     near_below (Case var arms site) vars w k a = λ j z r g P h o. a g P h
     near_below (Forall var body body_site site) vars w k a = λ j z r g P h o. a g P h
 
@@ -179,28 +154,28 @@ module _ (p : Program) (q : IsProgram p) (f : IsFounded p) where
         ∙ sym (coef-product u v (expr (Number own) es) m)
 
     -- ---- the scope of an arm
-    arm_scope : (m : ℕ) (stand : Part) (S : Stand) (bind : Bind) → stand_node S ≡ stand.node → MayBind p S bind → AgreeBehind m stand.node → (bind ≡ Whole → Agree m stand.node)
-        → ScopeNear m (bound_parts p stand bind)
-    arm_scope m stand S Nothing e w a g j part h = absurd (none_some part h)
-    arm_scope m stand S Whole e w a g zero part h = inl (subst (λ (y : Part). AgreeFrom m y.node) (some_same stand part h) (g refl, a))
-    arm_scope m stand S Whole e w a g (suc j) part h = absurd (none_some part h)
-    arm_scope m stand S (Parts k) e w a g j part h = by_shape (shape_of p stand.node) refl h
+    arm_scope : (m : ℕ) (S : Stand) (bind : Bind) → AgreeBehind m (stand_part S).node → (bind ≡ Whole → Agree m (stand_part S).node)
+        → ScopeNear m (bound_parts p S bind)
+    arm_scope m S Nothing a g j part h = absurd (none_some part h)
+    arm_scope m S Whole a g zero part h = inl (subst (λ (y : Part). AgreeFrom m y.node) (some_same (stand_part S) part h) (g refl, a))
+    arm_scope m S Whole a g (suc j) part h = absurd (none_some part h)
+    arm_scope m S (Parts k) a g j part h = by_shape (shape_of p (stand_part S).node) refl h
       where
-        by_shape : (s : Shape) → shape_of p stand.node ≡ s → slice_get (factors_in s) j ≡ Some part → AgreeFrom m part.node ⊎ RestZero (factors_in s) j
+        by_shape : (s : Shape) → shape_of p (stand_part S).node ≡ s → slice_get (factors s) j ≡ Some part → AgreeFrom m part.node ⊎ RestZero (factors s) j
         by_shape (shape.Atom weight) is h = absurd (none_some part h)
         by_shape (shape.Union parts) is h = absurd (none_some part h)
-        by_shape (shape.Product parts) is h = ⊎_elim (λ s. inl (step_on m stand.node part.node a s)) (λ z. inr z) (factor_or stand.node parts is j part h)
+        by_shape (shape.Product parts) is h = ⊎_elim (λ s. inl (step_on m (stand_part S).node part.node a s)) (λ z. inr z) (factor_or (stand_part S).node parts is j part h)
         by_shape (shape.Coll kind c low high) is h = absurd (none_some part h)
 
-    bound_there : (stand : Part) (bind : Bind) → IsPart p stand → AreThere p (bound_parts p stand bind)
+    bound_there : (stand : Stand) (bind : Bind) → IsPart p (stand_part stand) → AreThere p (bound_parts p stand bind)
     bound_there stand Nothing h part i = absurd i
     bound_there stand Whole h part i = ⊎_elim (λ e. subst (IsPart p) (sym e) h) (λ k. absurd k) i
-    bound_there stand (Parts k) h part i = (part_there p q stand.node (shape_of p stand.node) refl part (factors_there (shape_of p stand.node) part i)).0
+    bound_there stand (Parts k) h part i = (part_there p q (stand_part stand).node (shape_of p (stand_part stand).node) refl part (factors_there (shape_of p (stand_part stand).node) part i)).0
 
-    whole_there : (stand : Part) (bind : Bind) → IsPart p stand → AreThere p (whole_parts p stand bind)
+    whole_there : (stand : Stand) (bind : Bind) → IsPart p (stand_part stand) → AreThere p (whole_parts p stand bind)
     whole_there stand Nothing h part i = ⊎_elim (λ e. subst (IsPart p) (sym e) h) (λ k. absurd k) i
     whole_there stand Whole h part i = ⊎_elim (λ e. subst (IsPart p) (sym e) h) (λ k. absurd k) i
-    whole_there stand (Parts k) h part i = (part_there p q stand.node (shape_of p stand.node) refl part (factors_there (shape_of p stand.node) part i)).0
+    whole_there stand (Parts k) h part i = (part_there p q (stand_part stand).node (shape_of p (stand_part stand).node) refl part (factors_there (shape_of p (stand_part stand).node) part i)).0
 
     component_step : (x : ℕ) (kind : Kind) (part : Part) (low : ℕ) (high : Option ℕ) → shape_of p x ≡ shape.Coll kind part low high → IsWithin low high 1 → SameSize p x part.node
     component_step x kind part low high is w = subst (λ s. KeepsSize (HasZero p) s part.node) (sym is) (refl, w)
@@ -208,68 +183,50 @@ module _ (p : Program) (q : IsProgram p) (f : IsFounded p) where
     abbrev pub BodyNear : ℕ → List Part → Body → Type 0
     BodyNear m vars (Does own is) = ItemsNear m vars is
 
-    body_near : (m : ℕ) (vars : List Part) (body : Body) → FitsBody p (map node_of vars) body → ScopeNear m vars → BodyNear m vars body
+    body_near : (m : ℕ) (vars : List Part) (body : Body) → FitsBody p vars body → ScopeNear m vars → BodyNear m vars body
     body_near m vars (Does own is) w s = items_near m vars is w.1 s
 
     abbrev Below : ℕ → Type 0
     Below m = (k : ℕ) → k < m → AllAgree k
 
-    -- the arms of a case fit what they stand for
-    abbrev ArmsFit : (Part → Stand) → List Part → Arms → Type 0
-    ArmsFit mk [] arms = Unit {0}
-    ArmsFit mk (stand ∷ rest) no_arms = Unit {0}
-    ArmsFit mk (stand ∷ rest) (arm bind body arms) = MayBind p (mk stand) bind × FitsBody p (bound_nodes p (mk stand) bind) body × ArmsFit mk rest arms
+    abbrev AreStands : List Stand → Type 0
+    AreStands all = (stand : Stand) → In stand all → IsPart p (stand_part stand)
 
-    abbrev mk_for : Shape → Part → Stand
-    mk_for (shape.Product parts) part = itself part.node
-    mk_for _ part = inside part.node
-
-    mk_node : (s : Shape) (part : Part) → stand_node (mk_for s part) ≡ part.node
-    mk_node (shape.Atom weight) part = refl
-    mk_node (shape.Union parts) part = refl
-    mk_node (shape.Product parts) part = refl
-    mk_node (shape.Coll kind c low high) part = refl
-
-    arms_fit : (X : Part) (s : Shape) (arms : Arms) → FitsArms p (stands X.node s) arms → ArmsFit (mk_for s) (stands_for X s) arms
-    arms_fit X (shape.Atom weight) arms w = tt
-    arms_fit X (shape.Union parts) arms w = branches parts arms w
-      where
-        branches : (parts : List Part) (arms : Arms) → FitsArms p (map (λ (part : Part). inside part.node) parts) arms → ArmsFit (λ part. inside part.node) parts arms
-        branches [] arms w = tt
-        branches (part ∷ parts) no_arms w = tt
-        branches (part ∷ parts) (arm bind body arms) w = (w.0, w.1, branches parts arms w.2)
-    arms_fit X (shape.Product parts) no_arms w = tt
-    arms_fit X (shape.Product parts) (arm bind body arms) w = (w.0, w.1, tt)
-    arms_fit X (shape.Coll kind c low high) arms w = tt
-
-    stands_there : (X : Part) → IsPart p X → (s : Shape) → shape_of p X.node ≡ s → AreThere p (stands_for X s)
+    stands_there : (X : Part) → IsPart p X → (s : Shape) → shape_of p X.node ≡ s → AreStands (stands X s)
     stands_there X h (shape.Atom weight) is part i = absurd i
-    stands_there X h (shape.Union parts) is part i = (part_there p q X.node (shape.Union parts) is part i).0
-    stands_there X h (shape.Product parts) is part i = ⊎_elim (λ e. subst (IsPart p) (sym e) h) (λ k. absurd k) i
+    stands_there X h (shape.Union parts) is stand i =
+        let r = In-map_back inside stand parts i in
+        subst (λ (z : Stand). IsPart p (stand_part z)) (sym r.2) (part_there p q X.node (shape.Union parts) is r.0 r.1).0
+    stands_there X h (shape.Product parts) is stand i = ⊎_elim (λ e. subst (λ (z : Stand). IsPart p (stand_part z)) (sym e) h) (λ k. absurd k) i
     stands_there X h (shape.Coll kind c low high) is part i = absurd i
 
-    stands_behind : (m : ℕ) (X : Part) → AgreeBehind m X.node → (s : Shape) → shape_of p X.node ≡ s → (stand : Part) → In stand (stands_for X s) → AgreeBehind m stand.node
+    stands_behind : (m : ℕ) (X : Part) → AgreeBehind m X.node → (s : Shape) → shape_of p X.node ≡ s → (stand : Stand) → In stand (stands X s) → AgreeBehind m (stand_part stand).node
     stands_behind m X a (shape.Atom weight) is stand i = absurd i
-    stands_behind m X a (shape.Union parts) is stand i = (step_on m X.node stand.node a (subst (λ s. KeepsSize (HasZero p) s stand.node) (sym is) (stand, i, refl))).1
-    stands_behind m X a (shape.Product parts) is stand i = ⊎_elim (λ e. subst (λ (y : Part). AgreeBehind m y.node) (sym e) a) (λ k. absurd k) i
+    stands_behind m X a (shape.Union parts) is stand i =
+        let r = In-map_back inside stand parts i in
+        subst (λ (z : Stand). AgreeBehind m (stand_part z).node) (sym r.2) (step_on m X.node r.0.node a (subst (λ s. KeepsSize (HasZero p) s r.0.node) (sym is) (r.0, r.1, refl))).1
+    stands_behind m X a (shape.Product parts) is stand i = ⊎_elim (λ e. subst (λ (y : Stand). AgreeBehind m (stand_part y).node) (sym e) a) (λ k. absurd k) i
     stands_behind m X a (shape.Coll kind c low high) is stand i = absurd i
 
-    stands_agree : (m : ℕ) (X : Part) → AgreeBehind m X.node → (s : Shape) → shape_of p X.node ≡ s → (stand : Part) → In stand (stands_for X s) → MayBind p (mk_for s stand) Whole → Agree m stand.node
+    stands_agree : (m : ℕ) (X : Part) → AgreeBehind m X.node → (s : Shape) → shape_of p X.node ≡ s → (stand : Stand) → In stand (stands X s) → MayBind p stand Whole → Agree m (stand_part stand).node
     stands_agree m X a (shape.Atom weight) is stand i w = absurd i
-    stands_agree m X a (shape.Union parts) is stand i w = (step_on m X.node stand.node a (subst (λ s. KeepsSize (HasZero p) s stand.node) (sym is) (stand, i, refl))).0
-    stands_agree m X a (shape.Product parts) is stand i w = absurd w
+    stands_agree m X a (shape.Union parts) is stand i w =
+        let r = In-map_back inside stand parts i in
+        subst (λ (z : Stand). Agree m (stand_part z).node) (sym r.2) (step_on m X.node r.0.node a (subst (λ s. KeepsSize (HasZero p) s r.0.node) (sym is) (r.0, r.1, refl))).0
+    stands_agree m X a (shape.Product parts) is stand i w =
+        ⊎_elim (λ e. absurd (subst (λ (z : Stand). MayBind p z Whole) e w)) (λ k. absurd k) i
     stands_agree m X a (shape.Coll kind c low high) is stand i w = absurd i
 
     -- ---- walks
-    component_there : (x : ℕ) (s : Shape) → shape_of p x ≡ s → IsCollection s → AreThere p (component_part s ∷ [])
+    component_there : (x : ℕ) (s : Shape) → shape_of p x ≡ s → IsCollection s → AreThere p (component s ∷ [])
     component_there x (shape.Atom weight) is w part i = absurd w
     component_there x (shape.Union parts) is w part i = absurd w
     component_there x (shape.Product parts) is w part i = absurd w
     component_there x (shape.Coll kind c low high) is w part i = (part_there p q x (shape.Coll kind c low high) is part i).0
 
     walk_near : (x : ℕ) (s : Shape) → shape_of p x ≡ s → IsCollection s → (B : Part → Expr) (m : ℕ)
-        → ((k : ℕ) → k < m → coef p.universe t (B (component_part s)) k ≡ coef p.universe v (B (component_part s)) k)
-        → (SameSize p x (component_part s).node → coef p.universe t (B (component_part s)) m ≡ coef p.universe v (B (component_part s)) m)
+        → ((k : ℕ) → k < m → coef p.universe t (B (component s)) k ≡ coef p.universe v (B (component s)) k)
+        → (SameSize p x (component s).node → coef p.universe t (B (component s)) m ≡ coef p.universe v (B (component s)) m)
         → coef p.universe t (walk_expr (part_expr p) s B) m ≡ coef p.universe v (walk_expr (part_expr p) s B) m
     walk_near x (shape.Atom weight) is w B m below here = absurd w
     walk_near x (shape.Union parts) is w B m below here = absurd w
@@ -290,7 +247,7 @@ module _ (p : Program) (q : IsProgram p) (f : IsFounded p) where
 
     -- THE LAW of locality of descriptors
     mutual
-      pub body_same : (body : Body) (whole vars : List Part) → AreThere p whole → AreThere p vars → FitsBody p (map node_of vars) body → (m : ℕ) → Below m → BodyNear m vars body
+      pub body_same : (body : Body) (whole vars : List Part) → AreThere p whole → AreThere p vars → FitsBody p vars body → (m : ℕ) → Below m → BodyNear m vars body
           → coef p.universe t (body_expr p whole vars body) m ≡ coef p.universe v (body_expr p whole vars body) m
       body_same (Does own is) whole vars a b w m below near =
           let u = p.universe in
@@ -300,7 +257,7 @@ module _ (p : Program) (q : IsProgram p) (f : IsFounded p) where
           omega (arith, ints, own-same m own whole a, items_same is vars b w.1 m below near) in e)
           ∙ sym (coef-sum u v (expr O (items_exprs p vars is)) m)
 
-      items_same : (is : Items) (vars : List Part) → AreThere p vars → FitsItems p (map node_of vars) is → (m : ℕ) → Below m → ItemsNear m vars is
+      items_same : (is : Items) (vars : List Part) → AreThere p vars → FitsItems p vars is → (m : ℕ) → Below m → ItemsNear m vars is
           → sum_of_coefs p.universe t (items_exprs p vars is) m ≡ sum_of_coefs p.universe v (items_exprs p vars is) m
       items_same no_items vars b w m below near = refl
       items_same (item i is) vars b w m below near =
@@ -309,45 +266,40 @@ module _ (p : Program) (q : IsProgram p) (f : IsFounded p) where
           (⊎_elim (λ n. inl (item_same i vars b w.0 m below n)) (λ z. inr z) near.0) in
           omega (arith, ints, e, items_same is vars b w.1 m below near.1)
 
-      item_same : (i : Item) (vars : List Part) → AreThere p vars → FitsItem p (map node_of vars) i → (m : ℕ) → Below m → ItemNear m vars i → coef p.universe t
+      item_same : (i : Item) (vars : List Part) → AreThere p vars → FitsItem p vars i → (m : ℕ) → Below m → ItemNear m vars i → coef p.universe t
           (item_expr p vars i) m ≡ coef p.universe v (item_expr p vars i) m
       item_same (Call var callee site) vars b w m below near = near
       item_same (Case var arms site) vars b w m below near =
           let u = p.universe in
-          let r = get_map node_of vars var w.0 w.1 in
           let X : Part = part_at vars var in
-          let same : X ≡ r.0 = at_get vars var r.0 r.1 in
-          let h : IsPart p X = subst (IsPart p) (sym same) (b r.0 (In_get vars var r.0 r.1)) in
-          let e : X.node ≡ w.0 = ap node_of same ∙ r.2 in
+          let same : X ≡ w.0 = at_get vars var w.0 w.1 in
+          let h : IsPart p X = subst (IsPart p) (sym same) (b w.0 (In_get vars var w.0 w.1)) in
           let s : Shape = shape_of p X.node in
-          let fit : FitsArms p (stands X.node s) arms = subst (λ y. FitsArms p (stands y (shape_of p y)) arms) (sym e) w.3 in
-          coef-sum u t (arms_exprs p (stands_for X s) arms) m
-          ∙ arms_same arms (mk_for s) (mk_node s) (stands_for X s) (stands_there X h s refl) (arms_fit X s arms fit) m below (stands_behind m X near s refl) (stands_agree m X near s refl)
-          ∙ sym (coef-sum u v (arms_exprs p (stands_for X s) arms) m)
+          let fit : FitsArms p (stands X s) arms = subst (λ (y : Part). FitsArms p (stands y (shape_of p y.node)) arms) (sym same) w.3 in
+          coef-sum u t (arms_exprs p (stands X s) arms) m
+          ∙ arms_same arms (stands X s) (stands_there X h s refl) fit m below (stands_behind m X near s refl) (stands_agree m X near s refl)
+          ∙ sym (coef-sum u v (arms_exprs p (stands X s) arms) m)
       item_same (Forall var body body_site site) vars b w m below near =
-          let r = get_map node_of vars var w.0 w.1 in
           let X : Part = part_at vars var in
-          let same : X ≡ r.0 = at_get vars var r.0 r.1 in
-          let e : X.node ≡ w.0 = ap node_of same ∙ r.2 in
+          let same : X ≡ w.0 = at_get vars var w.0 w.1 in
           let s : Shape = shape_of p X.node in
-          let c : Part = component_part s in
-          let coll : IsCollection s = subst (λ y. IsCollection (shape_of p y)) (sym e) w.2 in
-          let fit : FitsBody p (c.node ∷ []) body = subst (λ y. FitsBody p (y ∷ []) body) (ap (λ y. component (shape_of p y)) (sym e) ∙ component_node s) w.3 in
+          let c : Part = component s in
+          let coll : IsCollection s = subst (λ (y : Part). IsCollection (shape_of p y.node)) (sym same) w.2 in
+          let fit : FitsBody p (c ∷ []) body = subst (λ (y : Part). FitsBody p (component (shape_of p y.node) ∷ []) body) (sym same) w.3 in
           let there : AreThere p (c ∷ []) = component_there X.node s refl coll in
           walk_near X.node s refl coll (λ part. body_expr p (part ∷ []) (part ∷ []) body) m
           (λ k l. body_same body (c ∷ []) (c ∷ []) there there fit k (λ j h. below j (omega arith)) (body_near k (c ∷ []) body fit (all_near k (c ∷ []) (below k l))))
           (λ o. body_same body (c ∷ []) (c ∷ []) there there fit m below (body_near m (c ∷ []) body fit (alone_scope m c (step_on m X.node c.node near o))))
 
-      arms_same : (arms : Arms) (mk : Part → Stand) → ((part : Part) → stand_node (mk part) ≡ part.node) → (stands : List Part) → AreThere p stands → ArmsFit mk stands arms → (m : ℕ) → Below m
-          → ((stand : Part) → In stand stands → AgreeBehind m stand.node) → ((stand : Part) → In stand stands → MayBind p (mk stand) Whole → Agree m stand.node)
+      arms_same : (arms : Arms) (stands : List Stand) → AreStands stands → FitsArms p stands arms → (m : ℕ) → Below m
+          → ((stand : Stand) → In stand stands → AgreeBehind m (stand_part stand).node) → ((stand : Stand) → In stand stands → MayBind p stand Whole → Agree m (stand_part stand).node)
           → sum_of_coefs p.universe t (arms_exprs p stands arms) m ≡ sum_of_coefs p.universe v (arms_exprs p stands arms) m
-      arms_same no_arms mk o [] b w m below near all = refl
-      arms_same no_arms mk o (stand ∷ rest) b w m below near all = refl
-      arms_same (arm bind body arms) mk o [] b w m below near all = refl
-      arms_same (arm bind body arms) mk o (stand ∷ rest) b w m below near all =
-          let h : IsPart p stand = b stand (inl refl) in
-          let fit : FitsBody p (map node_of (bound_parts p stand bind)) body = subst (λ ns. FitsBody p ns body) (bound_map p stand (mk stand) bind (o stand)) w.1 in
-          let e = body_same body (whole_parts p stand bind) (bound_parts p stand bind) (whole_there stand bind h) (bound_there stand bind h) fit m below
-          (body_near m (bound_parts p stand bind) body fit
-          (arm_scope m stand (mk stand) bind (o stand) w.0 (near stand (inl refl)) (λ g. all stand (inl refl) (subst (MayBind p (mk stand)) g w.0)))) in
-          omega (arith, ints, e, arms_same arms mk o rest (λ part i. b part (inr i)) w.2 m below (λ part i. near part (inr i)) (λ part i. all part (inr i)))
+      arms_same no_arms [] b w m below near all = refl
+      arms_same no_arms (stand ∷ rest) b w m below near all = refl
+      arms_same (arm bind body arms) [] b w m below near all = refl
+      arms_same (arm bind body arms) (stand ∷ rest) b w m below near all =
+          let h : IsPart p (stand_part stand) = b stand (inl refl) in
+          let e = body_same body (whole_parts p stand bind) (bound_parts p stand bind) (whole_there stand bind h) (bound_there stand bind h) w.1 m below
+          (body_near m (bound_parts p stand bind) body w.1
+          (arm_scope m stand bind (near stand (inl refl)) (λ g. all stand (inl refl) (subst (MayBind p stand) g w.0)))) in
+          omega (arith, ints, e, arms_same arms rest (λ part i. b part (inr i)) w.2 m below (λ part i. near part (inr i)) (λ part i. all part (inr i)))

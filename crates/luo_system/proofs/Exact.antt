@@ -21,11 +21,12 @@ use Rattle.luo_equation.specs.Series.{IsExactOf}
 use Rattle.luo_equation.specs.Expr.{Expr, Exprs, Number, Power, Series, Tau, Sum, Prod, Coll, Point, no_exprs, expr, Table, coef, IsExact, AreExact}
 use Rattle.luo_equation.proofs.CountLaws.{exact_of}
 use Rattle.luo_system.specs.Plain.{join_exprs, terms_of, all_terms, as_sum, sum_of, factors_of, all_factors, as_product, is_zero, has_zero, unless_zero, product_of, walk_of}
-use Rattle.luo_system.specs.System.{named, exprs_of, shape_expr, node_expr, part_expr, part_at, stands_for, factors_in}
-use Rattle.luo_system.specs.System.{bound_parts, whole_parts, others, item_var, walk_expr, body_expr, items_exprs, item_expr, arms_exprs}
+use Rattle.luo_system.specs.System.{named, exprs_of, shape_expr, node_expr, part_expr}
+use Rattle.luo_system.specs.System.{whole_parts, others, item_var, walk_expr, body_expr, items_exprs, item_expr, arms_exprs}
 use Rattle.luo_system.proofs.Counts.{count_of, CZ, C, solid_part, suits_program}
 use Rattle.luo_system.proofs.Definitions.{part_there, part_holds, node_holds}
-use Rattle.luo_system.proofs.Descriptors.{component_part}
+use Rattle.luo_model.specs.Scopes.Stands.{Stand, inside, itself, stand_part, stands, factors, component, bound_parts, part_at}
+use Rattle.luo_finite.proofs.Membership.{In-map_back}
 
 -- ---- plain form
 module _ (u : Universe) (t : Table) (n : ℕ) where
@@ -147,21 +148,24 @@ module _ (p : Program) (q : IsProgram p) (f : IsFounded p) (v : Table) (right : 
   lone_part : (X : Part) → IsPart p X → AreParts (X ∷ [])
   lone_part X h part i = ⊎_elim (λ e. subst (IsPart p) (sym e) h) (λ k. absurd k) i
 
-  factor_parts : (x : ℕ) (s : Shape) → shape_of p x ≡ s → AreParts (factors_in s)
+  factor_parts : (x : ℕ) (s : Shape) → shape_of p x ≡ s → AreParts (factors s)
   factor_parts x (shape.Atom weight) is part i = absurd i
   factor_parts x (shape.Union parts) is part i = absurd i
   factor_parts x (shape.Product parts) is part i = (part_there p q x (shape.Product parts) is part i).0
   factor_parts x (shape.Coll kind c low high) is part i = absurd i
 
-  bound_are : (stand : Part) (bind : Bind) → IsPart p stand → AreParts (bound_parts p stand bind)
+  bound_are : (stand : Stand) (bind : Bind) → IsPart p (stand_part stand) → AreParts (bound_parts p stand bind)
   bound_are stand Nothing h part i = absurd i
-  bound_are stand Whole h part i = lone_part stand h part i
-  bound_are stand (Parts k) h part i = factor_parts stand.node (shape_of p stand.node) refl part i
+  bound_are stand Whole h part i = lone_part (stand_part stand) h part i
+  bound_are stand (Parts k) h part i = factor_parts (stand_part stand).node (shape_of p (stand_part stand).node) refl part i
 
-  whole_are : (stand : Part) (bind : Bind) → IsPart p stand → AreParts (whole_parts p stand bind)
-  whole_are stand Nothing h = lone_part stand h
-  whole_are stand Whole h = lone_part stand h
-  whole_are stand (Parts k) h = factor_parts stand.node (shape_of p stand.node) refl
+  whole_are : (stand : Stand) (bind : Bind) → IsPart p (stand_part stand) → AreParts (whole_parts p stand bind)
+  whole_are stand Nothing h = lone_part (stand_part stand) h
+  whole_are stand Whole h = lone_part (stand_part stand) h
+  whole_are stand (Parts k) h = factor_parts (stand_part stand).node (shape_of p (stand_part stand).node) refl
+
+  lone_stand : (X : Part) → IsPart p X → (stand : Stand) → In stand (itself X ∷ []) → IsPart p (stand_part stand)
+  lone_stand X h stand i = ⊎_elim (λ e. subst (λ (z : Stand). IsPart p (stand_part z)) (sym e) h) (λ k. absurd k) i
 
   -- a variable that isn't there stands for no product
   at_is : (vars : List Part) → AreParts vars → (var : ℕ) → IsPart p (part_at vars var) ⊎ ((part_at vars var).name ≡ None)
@@ -169,12 +173,17 @@ module _ (p : Program) (q : IsProgram p) (f : IsFounded p) (v : Table) (right : 
   at_is (part ∷ vars) a zero = inl (a part (inl refl))
   at_is (part ∷ vars) a (suc var) = at_is vars (λ w i. a w (inr i)) var
 
-  stands_are : (X : Part) → IsPart p X ⊎ (X.name ≡ None) → (s : Shape) → shape_of p X.node ≡ s → AreParts (stands_for X s)
+  abbrev AreStands : List Stand → Type 0
+  AreStands stands = (stand : Stand) → In stand stands → IsPart p (stand_part stand)
+
+  stands_are : (X : Part) → IsPart p X ⊎ (X.name ≡ None) → (s : Shape) → shape_of p X.node ≡ s → AreStands (stands X s)
   stands_are X h (shape.Atom weight) is part i = absurd i
-  stands_are X h (shape.Union parts) is part i = (part_there p q X.node (shape.Union parts) is part i).0
+  stands_are X h (shape.Union parts) is stand i =
+      let r = In-map_back inside stand parts i in
+      subst (λ (z : Stand). IsPart p (stand_part z)) (sym r.2) (part_there p q X.node (shape.Union parts) is r.0 r.1).0
   stands_are X h (shape.Coll kind c low high) is part i = absurd i
-  stands_are X (inl h) (shape.Product parts) is part i = lone_part X h part i
-  stands_are X (inr e) (shape.Product parts) is part i = lone_part X (
+  stands_are X (inl h) (shape.Product parts) is stand i = lone_stand X h stand i
+  stands_are X (inr e) (shape.Product parts) is part i = lone_stand X (
     ⊎_elim (λ n. n.3) (λ o. absurd (let g : shape.Union [] ≡ shape.Product parts = sym o ∙ is in cc)) (node_at_place p X.node),
     subst (λ o. IfSome o (λ i. (d : Def) × (slice_get p.defs i ≡ Some d) × (X.node ≡ d.whole.node))) (sym e) tt,
   ) part i
@@ -184,7 +193,7 @@ module _ (p : Program) (q : IsProgram p) (f : IsFounded p) (v : Table) (right : 
   in_others (part ∷ parts) zero other i = inr i
   in_others (part ∷ parts) (suc j) other i = ⊎_elim (λ e. inl e) (λ k. inr (in_others parts j other k)) i
 
-  walk_exact : (x : ℕ) (s : Shape) → shape_of p x ≡ s → (B : Part → Expr) (n : ℕ) → IsExact p.universe v (B (component_part s)) n →
+  walk_exact : (x : ℕ) (s : Shape) → shape_of p x ≡ s → (B : Part → Expr) (n : ℕ) → IsExact p.universe v (B (component s)) n →
       ((part : Part) → IsPart p part → (m : ℕ) → coef p.universe v (part_expr p part) m ≡ CZ p q f part m) → IsExact p.universe v (walk_expr (part_expr p) s B) n
   walk_exact x (shape.Atom weight) is B n h g = tt
   walk_exact x (shape.Union parts) is B n h g = tt
@@ -193,7 +202,7 @@ module _ (p : Program) (q : IsProgram p) (f : IsFounded p) (v : Table) (right : 
       let w = (part_there p q x (shape.Coll kind c low high) is c (inl refl)).0 in
       exact-walk p.universe v n kind (part_expr p c) low high (B c) (part_exact c w n, h, λ k m o a. inner_exact x kind c low high is (part_expr p c) (g c w) k m)
 
-  component_are : (x : ℕ) (s : Shape) → shape_of p x ≡ s → AreParts (component_part s ∷ []) ⊎ ((B : Part → Expr) → walk_expr (part_expr p) s B ≡ Number 0)
+  component_are : (x : ℕ) (s : Shape) → shape_of p x ≡ s → AreParts (component s ∷ []) ⊎ ((B : Part → Expr) → walk_expr (part_expr p) s B ≡ Number 0)
   component_are x (shape.Atom weight) is = inr (λ B. refl)
   component_are x (shape.Union parts) is = inr (λ B. refl)
   component_are x (shape.Product parts) is = inr (λ B. refl)
@@ -223,17 +232,17 @@ module _ (p : Program) (q : IsProgram p) (f : IsFounded p) (v : Table) (right : 
       item_exact (Case var arms site) vars b =
           let X : Part = part_at vars var in
           let s : Shape = shape_of p X.node in
-          exact-sum p.universe v n (arms_exprs p (stands_for X s) arms) (arms_exact arms (stands_for X s) (stands_are X (at_is vars b var) s refl))
+          exact-sum p.universe v n (arms_exprs p (stands X s) arms) (arms_exact arms (stands X s) (stands_are X (at_is vars b var) s refl))
       item_exact (Forall var body body_site site) vars b =
           let X : Part = part_at vars var in
           let s : Shape = shape_of p X.node in
-          let c : Part = component_part s in
+          let c : Part = component s in
           ⊎_elim
           (λ a. walk_exact X.node s refl (λ part. body_expr p (part ∷ []) (part ∷ []) body) n (body_exact body (c ∷ []) (c ∷ []) a a) vx)
           (λ z. subst (λ E. IsExact p.universe v E n) (sym (z (λ part. body_expr p (part ∷ []) (part ∷ []) body))) tt)
           (component_are X.node s refl)
 
-      arms_exact : (arms : Arms) (stands : List Part) → AreParts stands → AreExact p.universe v (arms_exprs p stands arms) n
+      arms_exact : (arms : Arms) (stands : List Stand) → AreStands stands → AreExact p.universe v (arms_exprs p stands arms) n
       arms_exact no_arms [] b = tt
       arms_exact no_arms (stand ∷ rest) b = tt
       arms_exact (arm bind body arms) [] b = tt

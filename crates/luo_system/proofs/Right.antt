@@ -4,7 +4,7 @@ use Rattle.luo_model.specs.declared.program.Part.{Part}
 use Rattle.luo_model.specs.declared.program.Def.{Def}
 use Rattle.luo_model.specs.Program.{Program, Procedure, Body, Does, Items, no_items, item, Call, Case, Forall}
 use Rattle.luo_model.specs.Structures.{labels_from}
-use Rattle.luo_model.specs.Scopes.{FitsBody, FitsItems}
+use Rattle.luo_model.specs.Scopes.Fits.{FitsBody, FitsItems}
 use Rattle.luo_model.specs.Invariant.{IsProgram, IsPart}
 use Rattle.luo_model.specs.Founded.{SameSize, OwnCall, CallsIn, CallsAmong, IsFounded}
 use Rattle.luo_finite.proofs.Places.{some_same, none_some}
@@ -65,8 +65,8 @@ module _ (p : Program) (q : IsProgram p) (f : IsFounded p) where
     pub right_parts : (part : Part) → IsPart p part → (m : ℕ) → coef p.universe V (part_expr p part) m ≡ CZ p q f part m
     right_parts part h m = part_right p q f V m (λ i d e n l. right_series i d e n) part h m (omega arith)
 
-    lone : (P : Procedure) (var y : ℕ) → slice_get (P.on.node ∷ []) var ≡ Some y → (P.on.node ≡ y) × (slice_get (P.on ∷ []) var ≡ Some P.on)
-    lone P zero y e = (some_same P.on.node y e, refl)
+    lone : (P : Procedure) (var : ℕ) (y : Part) → slice_get (P.on ∷ []) var ≡ Some y → (P.on ≡ y) × (slice_get (P.on ∷ []) var ≡ Some P.on)
+    lone P zero y e = (some_same P.on y e, refl)
     lone P (suc var) y e = absurd (none_some y e)
 
     module _ (n x : ℕ) (known : (m y : ℕ) → m < n → RightFrom p q f V right_parts m y) (same : (y : ℕ) → SameSize p x y → RightFrom p q f V right_parts n y) where
@@ -77,14 +77,14 @@ module _ (p : Program) (q : IsProgram p) (f : IsFounded p) where
       abbrev Own : ℕ → Type 0
       Own g = (P : Procedure) → slice_get p.procs g ≡ Some P → P.on.node ≡ x → IsSum p q f x (charge_of p q f g) n (V.y g n)
 
-      own_items : (P : Procedure) → P.on.node ≡ x → ((h : ℕ) → CallsIn h P.body → Own h) → (is : Items) → ((h : ℕ) → CallsAmong h is → CallsIn h P.body) → FitsItems p (P.on.node ∷ []) is
+      own_items : (P : Procedure) → P.on.node ≡ x → ((h : ℕ) → CallsIn h P.body → Own h) → (is : Items) → ((h : ℕ) → CallsAmong h is → CallsIn h P.body) → FitsItems p (P.on ∷ []) is
           → ItemsNear p q f V right_parts n (P.on ∷ []) is
       own_items P e own no_items c w = tt
       own_items P e own (item (Call var callee site) is) c w =
           let r = w.0 in
-          let l = lone P var r.0.on.node r.2 in (
+          let l = lone P var w.0.1 w.0.3 in (
             inl (subst (λ (y : Part). IsSum p q f y.node (charge_of p q f callee) n (V.y callee n)) (sym (at_get (P.on ∷ []) var P.on l.1))
-                (subst (λ y. IsSum p q f y (charge_of p q f callee) n (V.y callee n)) (sym e) (own callee (c callee (inl refl)) r.0 r.1 (sym l.0 ∙ e)))),
+                (subst (λ y. IsSum p q f y (charge_of p q f callee) n (V.y callee n)) (sym e) (own callee (c callee (inl refl)) w.0.0 w.0.2 (sym w.0.4 ∙ ap (λ (y : Part). y.node) (sym l.0) ∙ e)))),
             own_items P e own is (λ h i. c h (inr i)) w.1,
           )
       own_items P e own (item (Case var arms site) is) c w =
@@ -100,7 +100,7 @@ module _ (p : Program) (q : IsProgram p) (f : IsFounded p) where
             own_items P e own is c w.1,
           )
 
-      own_body : (P : Procedure) → P.on.node ≡ x → (body : Body) → ((h : ℕ) → CallsIn h body → CallsIn h P.body) → ((h : ℕ) → CallsIn h P.body → Own h) → FitsBody p (P.on.node ∷ []) body
+      own_body : (P : Procedure) → P.on.node ≡ x → (body : Body) → ((h : ℕ) → CallsIn h body → CallsIn h P.body) → ((h : ℕ) → CallsIn h P.body → Own h) → FitsBody p (P.on ∷ []) body
           → BodyNear p q f V right_parts n (P.on ∷ []) body
       own_body P e (Does own is) c o w = own_items P e o is c w.1
 

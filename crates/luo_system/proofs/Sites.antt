@@ -4,10 +4,13 @@ use Rattle.std.proofs.lemmas.Option.{get_or_from_slice_get}
 use Rattle.std.proofs.lemmas.List.Concat.{flat_map-cons}
 use Rattle.luo_finite.specs.Listing.{In, NoDouble}
 use Rattle.luo_finite.proofs.Membership.{In-append_left, In-append_right}
+use Rattle.luo_model.specs.declared.program.Part.{Part}
 use Rattle.luo_model.specs.declared.program.Site.{Site}
 use Rattle.luo_model.specs.Program.{Program, Procedure, Body, Does, Items, no_items, item, Item, Call, Case, Forall, Arms, no_arms, arm, shape_of, site_node}
 use Rattle.luo_model.specs.Charges.{of_body, of_case, of_walk, works_of_body, works_of_items, works_of_item, works_of_arms, works_of_procedure}
-use Rattle.luo_model.specs.Scopes.{Stand, stands, component, bound_nodes, node_at, FitsBody, FitsItems, FitsItem, FitsArms, body_sites, items_sites, item_sites, arms_sites}
+use Rattle.luo_model.specs.Scopes.Stands.{Stand, stands, component, bound_parts, part_at, no_part}
+use Rattle.luo_model.specs.Scopes.Fits.{FitsBody, FitsItems, FitsItem, FitsArms}
+use Rattle.luo_model.specs.Scopes.Sites.{body_sites, items_sites, item_sites, arms_sites}
 use Rattle.luo_model.specs.Invariant.{IsProgram, procedure_sites, placed, sites_from, numbered_from}
 use Rattle.luo_model.specs.Laws.{SitesAreApart}
 use Rattle.luo_finite.proofs.Places.{some_same, none_some}
@@ -19,36 +22,36 @@ firsts-append : {B : Type 0} (xs ys : List (ℕ × B)) → firsts (xs ++ ys) ≡
 firsts-append [] ys = refl
 firsts-append (x ∷ xs) ys = ap (λ l. x.0 ∷ l) (firsts-append xs ys)
 
-node_at_get : (vars : List ℕ) (var x : ℕ) → slice_get vars var ≡ Some x → node_at vars var ≡ x
-node_at_get vars var x e = get_or_from_slice_get vars var x 0 e
+part_at_get : (vars : List Part) (var : ℕ) (x : Part) → slice_get vars var ≡ Some x → part_at vars var ≡ x
+part_at_get vars var x e = get_or_from_slice_get vars var x no_part e
 
 module _ (p : Program) where
   mutual
-    body_firsts : (body : Body) (vars : List ℕ) → FitsBody p vars body → firsts (works_of_body body) ≡ firsts (body_sites p vars body)
+    body_firsts : (body : Body) (vars : List Part) → FitsBody p vars body → firsts (works_of_body body) ≡ firsts (body_sites p vars body)
     body_firsts (Does own is) vars w = items_firsts is vars w.1
 
-    items_firsts : (is : Items) (vars : List ℕ) → FitsItems p vars is → firsts (works_of_items is) ≡ firsts (items_sites p vars is)
+    items_firsts : (is : Items) (vars : List Part) → FitsItems p vars is → firsts (works_of_items is) ≡ firsts (items_sites p vars is)
     items_firsts no_items vars w = refl
     items_firsts (item i is) vars w =
         firsts-append (works_of_item i) (works_of_items is)
         ∙ ap (λ l. l ++ firsts (works_of_items is)) (item_firsts i vars w.0) ∙ ap (λ l. firsts (item_sites p vars i) ++ l) (items_firsts is vars w.1)
         ∙ sym (firsts-append (item_sites p vars i) (items_sites p vars is))
 
-    item_firsts : (i : Item) (vars : List ℕ) → FitsItem p vars i → firsts (works_of_item i) ≡ firsts (item_sites p vars i)
+    item_firsts : (i : Item) (vars : List Part) → FitsItem p vars i → firsts (works_of_item i) ≡ firsts (item_sites p vars i)
     item_firsts (Call var callee site) vars w = refl
     item_firsts (Case var arms site) vars w =
-        let x : ℕ = node_at vars var in
-        let fit : FitsArms p (stands x (shape_of p x)) arms = subst (λ y. FitsArms p (stands y (shape_of p y)) arms) (sym (node_at_get vars var w.0 w.1)) w.3 in
+        let x : Part = part_at vars var in
+        let fit : FitsArms p (stands x (shape_of p x.node)) arms = subst (λ (y : Part). FitsArms p (stands y (shape_of p y.node)) arms) (sym (part_at_get vars var w.0 w.1)) w.3 in
         firsts-append (works_of_arms arms) ((site, of_case arms) ∷ [])
-        ∙ ap (λ l. l ++ site ∷ []) (arms_firsts arms (stands x (shape_of p x)) fit)
-        ∙ sym (firsts-append (arms_sites p (stands x (shape_of p x)) arms) ((site, x) ∷ []))
+        ∙ ap (λ l. l ++ site ∷ []) (arms_firsts arms (stands x (shape_of p x.node)) fit)
+        ∙ sym (firsts-append (arms_sites p (stands x (shape_of p x.node)) arms) ((site, x.node) ∷ []))
     item_firsts (Forall var body body_site site) vars w =
-        let x : ℕ = node_at vars var in
-        let c : ℕ = component (shape_of p x) in
-        let fit : FitsBody p (c ∷ []) body = subst (λ y. FitsBody p (component (shape_of p y) ∷ []) body) (sym (node_at_get vars var w.0 w.1)) w.3 in
+        let x : Part = part_at vars var in
+        let c : Part = component (shape_of p x.node) in
+        let fit : FitsBody p (c ∷ []) body = subst (λ (y : Part). FitsBody p (component (shape_of p y.node) ∷ []) body) (sym (part_at_get vars var w.0 w.1)) w.3 in
         firsts-append (works_of_body body) ((body_site, of_body body) ∷ ((site, of_walk body) ∷ []))
         ∙ ap (λ l. l ++ body_site ∷ (site ∷ [])) (body_firsts body (c ∷ []) fit)
-        ∙ sym (firsts-append (body_sites p (c ∷ []) body) ((body_site, c) ∷ ((site, x) ∷ [])))
+        ∙ sym (firsts-append (body_sites p (c ∷ []) body) ((body_site, c.node) ∷ ((site, x.node) ∷ [])))
 
     arms_firsts : (arms : Arms) (ss : List Stand) → FitsArms p ss arms → firsts (works_of_arms arms) ≡ firsts (arms_sites p ss arms)
     arms_firsts no_arms [] w = refl
@@ -56,20 +59,20 @@ module _ (p : Program) where
     arms_firsts (arm bind body arms) [] w = absurd w
     arms_firsts (arm bind body arms) (s ∷ ss) w =
         firsts-append (works_of_body body) (works_of_arms arms)
-        ∙ ap (λ l. l ++ firsts (works_of_arms arms)) (body_firsts body (bound_nodes p s bind) w.1) ∙ ap (λ l. firsts (body_sites p (bound_nodes p s bind) body) ++ l) (arms_firsts arms ss w.2)
-        ∙ sym (firsts-append (body_sites p (bound_nodes p s bind) body) (arms_sites p ss arms))
+        ∙ ap (λ l. l ++ firsts (works_of_arms arms)) (body_firsts body (bound_parts p s bind) w.1) ∙ ap (λ l. firsts (body_sites p (bound_parts p s bind) body) ++ l) (arms_firsts arms ss w.2)
+        ∙ sym (firsts-append (body_sites p (bound_parts p s bind) body) (arms_sites p ss arms))
 
-  procedure_firsts : (P : Procedure) → FitsBody p (P.on.node ∷ []) P.body → firsts (works_of_procedure P) ≡ firsts (procedure_sites p P)
+  procedure_firsts : (P : Procedure) → FitsBody p (P.on ∷ []) P.body → firsts (works_of_procedure P) ≡ firsts (procedure_sites p P)
   procedure_firsts P w =
       firsts-append (works_of_body P.body) ((P.site, of_body P.body) ∷ [])
-      ∙ ap (λ l. l ++ P.site ∷ []) (body_firsts P.body (P.on.node ∷ []) w)
-      ∙ sym (firsts-append (body_sites p (P.on.node ∷ []) P.body) ((P.site, P.on.node) ∷ []))
+      ∙ ap (λ l. l ++ P.site ∷ []) (body_firsts P.body (P.on ∷ []) w)
+      ∙ sym (firsts-append (body_sites p (P.on ∷ []) P.body) ((P.site, P.on.node) ∷ []))
 
   placed_firsts : (caller place : ℕ) (l : List (ℕ × ℕ)) → firsts (placed caller place l) ≡ firsts l
   placed_firsts caller place [] = refl
   placed_firsts caller place (x ∷ l) = ap (λ m. x.0 ∷ m) (placed_firsts caller (place + 1) l)
 
-  all_firsts : (Ps : List Procedure) (k : ℕ) → ((j : ℕ) (P : Procedure) → slice_get Ps j ≡ Some P → FitsBody p (P.on.node ∷ []) P.body) → firsts (flat_map works_of_procedure Ps) ≡ firsts
+  all_firsts : (Ps : List Procedure) (k : ℕ) → ((j : ℕ) (P : Procedure) → slice_get Ps j ≡ Some P → FitsBody p (P.on ∷ []) P.body) → firsts (flat_map works_of_procedure Ps) ≡ firsts
       (sites_from p k Ps)
   all_firsts [] k h = refl
   all_firsts (P ∷ Ps) k h =
@@ -101,7 +104,7 @@ site_in : (p : Program) (Ps : List Procedure) (k g : ℕ) (P : Procedure) → sl
 site_in p [] k g P e = absurd (none_some P e)
 site_in p (Q ∷ Ps) k zero P e =
     let same : Q ≡ P = some_same Q P e in
-    let r = placed_in k 0 (procedure_sites p Q) Q.site Q.on.node (In-append_right (Q.site, Q.on.node) (body_sites p (Q.on.node ∷ []) Q.body) ((Q.site, Q.on.node) ∷ []) (inl refl)) in
+    let r = placed_in k 0 (procedure_sites p Q) Q.site Q.on.node (In-append_right (Q.site, Q.on.node) (body_sites p (Q.on ∷ []) Q.body) ((Q.site, Q.on.node) ∷ []) (inl refl)) in
     let s : Site = record { node = Q.on.node; caller = k; place = r.0 } in (
       s,
       subst (λ (R : Procedure). In (R.site, s) (sites_from p k (Q ∷ Ps))) same (In-append_left (Q.site, s) (placed k 0 (procedure_sites p Q)) (sites_from p (k + 1) Ps) r.1),

@@ -5,7 +5,7 @@ use Rattle.luo_finite.proofs.Membership.{In-append_left, In-append_right}
 use Rattle.luo_model.specs.declared.program.Part.{Part}
 use Rattle.luo_model.specs.declared.program.Def.{Def}
 use Rattle.luo_model.specs.Program.{Program, Procedure, Body, Does, Items, no_items, item, Call, Case, Forall}
-use Rattle.luo_model.specs.Scopes.{FitsBody, FitsItems}
+use Rattle.luo_model.specs.Scopes.Fits.{FitsBody, FitsItems}
 use Rattle.luo_model.specs.Invariant.{IsProgram, IsPart}
 use Rattle.luo_model.specs.Founded.{SameSize, OwnCall, CallsIn, CallsAmong, IsFounded}
 use Rattle.luo_finite.proofs.Places.{some_same, none_some}
@@ -87,16 +87,16 @@ module _ (p : Program) (q : IsProgram p) (f : IsFounded p) where
       abbrev Own : ℕ → Type 0
       Own g = (P : Procedure) → slice_get p.procs g ≡ Some P → P.on.node ≡ x → t.y g n ≡ v.y g n
 
-      lone : (P : Procedure) (var y : ℕ) → slice_get (P.on.node ∷ []) var ≡ Some y → (P.on.node ≡ y) × (slice_get (P.on ∷ []) var ≡ Some P.on)
-      lone P zero y e = (some_same P.on.node y e, refl)
+      lone : (P : Procedure) (var : ℕ) (y : Part) → slice_get (P.on ∷ []) var ≡ Some y → (P.on ≡ y) × (slice_get (P.on ∷ []) var ≡ Some P.on)
+      lone P zero y e = (some_same P.on y e, refl)
       lone P (suc var) y e = absurd (none_some y e)
 
       own_items : (g : ℕ) (P : Procedure) → P.on.node ≡ x → ((h : ℕ) → CallsIn h P.body → Own h) → (is : Items) → ((h : ℕ) → CallsAmong h is → CallsIn h P.body) → FitsItems p
-          (P.on.node ∷ []) is → ItemsNear p q f t v tx vx n (P.on ∷ []) is
+          (P.on ∷ []) is → ItemsNear p q f t v tx vx n (P.on ∷ []) is
       own_items g P e own no_items c w = tt
       own_items g P e own (item (Call var callee site) is) c w =
           let r = w.0 in
-          (inl (own callee (c callee (inl refl)) r.0 r.1 (sym (lone P var r.0.on.node r.2).0 ∙ e)), own_items g P e own is (λ h i. c h (inr i)) w.1)
+          (inl (own callee (c callee (inl refl)) w.0.0 w.0.2 (sym w.0.4 ∙ ap (λ (y : Part). y.node) (sym (lone P var w.0.1 w.0.3).0) ∙ e)), own_items g P e own is (λ h i. c h (inr i)) w.1)
       own_items g P e own (item (Case var arms site) is) c w =
           let r = w.0 in (
             inl (subst (λ (y : Part). AgreeBehind p q f t v tx vx n y.node) (sym (at_get (P.on ∷ []) var P.on (lone P var r.0 r.1).1))
@@ -111,7 +111,7 @@ module _ (p : Program) (q : IsProgram p) (f : IsFounded p) where
           )
 
       own_body : (g : ℕ) (P : Procedure) → P.on.node ≡ x → (body : Body) → ((h : ℕ) → CallsIn h body → CallsIn h P.body) → ((h : ℕ) → CallsIn h P.body → Own h) → FitsBody p
-          (P.on.node ∷ []) body → BodyNear p q f t v tx vx n (P.on ∷ []) body
+          (P.on ∷ []) body → BodyNear p q f t v tx vx n (P.on ∷ []) body
       own_body g P e (Does own is) c o w = own_items g P e o is c w.1
 
       own_step : (g : ℕ) → ((h : ℕ) → OwnCall p g h → Own h) → Own g

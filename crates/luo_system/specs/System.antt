@@ -1,5 +1,5 @@
 -- The equations of a program.
-use Rattle.std.specs.Prelude.{ℕ, zero, suc, List, [], ◌∷◌, ◌++◌, length, Option, Some, None, slice_index_or}
+use Rattle.std.specs.Prelude.{ℕ, zero, suc, List, [], ◌∷◌, ◌++◌, length, Option, Some, None}
 use Rattle.luo_model.specs.declared.program.Part.{Part}
 use Rattle.luo_model.specs.declared.program.Shape.{Shape}
 use Rattle.luo_model.specs.declared.program.Shape.TheVariants as shape
@@ -7,6 +7,7 @@ use Rattle.luo_model.specs.declared.program.Def.{Def}
 use Rattle.luo_model.specs.declared.body.Bind.{Bind}
 use Rattle.luo_model.specs.declared.body.Bind.TheVariants.{Nothing, Whole, Parts}
 use Rattle.luo_model.specs.Program.{Program, Procedure, Body, Does, Items, no_items, item, Item, Call, Case, Forall, Arms, arm, shape_of}
+use Rattle.luo_model.specs.Scopes.Stands.{Stand, stand_part, stands, factors, bound_parts, part_at}
 use Rattle.luo_equation.specs.Expr as made
 use Rattle.luo_equation.specs.Expr.{Expr, Exprs, no_exprs, expr}
 use Rattle.luo_equation.specs.Equation.{Equation}
@@ -47,36 +48,11 @@ inside_expr p depth part = named part.name (node_expr p depth part.node)
 abbrev pub part_expr : Program → Part → Expr
 part_expr p part = inside_expr p (length p.nodes) part
 
-abbrev pub no_part : Part
-no_part = record { node = 0; name = None }
-
-abbrev pub part_at : List Part → ℕ → Part
-part_at parts i = slice_index_or parts i no_part
-
--- what the arms of a case on this part stand for: the branches of a union, or a product itself
-abbrev pub stands_for : Part → Shape → List Part
-stands_for part (shape.Union parts) = parts
-stands_for part (shape.Product parts) = part ∷ []
-stands_for part _ = []
-
-abbrev pub stands_at : Program → Part → List Part
-stands_at p part = stands_for part (shape_of p part.node)
-
-abbrev pub factors_in : Shape → List Part
-factors_in (shape.Product parts) = parts
-factors_in _ = []
-
--- the variables that an arm binds
-abbrev pub bound_parts : Program → Part → Bind → List Part
-bound_parts p stand Nothing = []
-bound_parts p stand Whole = stand ∷ []
-bound_parts p stand (Parts k) = factors_in (shape_of p stand.node)
-
 -- what stands for the whole scope of an arm
-abbrev pub whole_parts : Program → Part → Bind → List Part
-whole_parts p stand Nothing = stand ∷ []
-whole_parts p stand Whole = stand ∷ []
-whole_parts p stand (Parts k) = factors_in (shape_of p stand.node)
+abbrev pub whole_parts : Program → Stand → Bind → List Part
+whole_parts p stand Nothing = stand_part stand ∷ []
+whole_parts p stand Whole = stand_part stand ∷ []
+whole_parts p stand (Parts k) = factors (shape_of p (stand_part stand).node)
 
 -- all but the part at this place
 abbrev pub others : ℕ → List Part → List Part
@@ -116,11 +92,11 @@ module _ (p : Program) where
     -- the descriptor of a call, of a case, which is the sum of those of its arms, and of a walk
     pub item_expr : List Part → Item → Expr
     item_expr vars (Call var callee site) = made.Tau callee
-    item_expr vars (Case var arms site) = sum_of (arms_exprs (stands_at p (part_at vars var)) arms)
+    item_expr vars (Case var arms site) = sum_of (arms_exprs (stands (part_at vars var) (shape_of p (part_at vars var).node)) arms)
     item_expr vars (Forall var body body_site site) =
         walk_expr (part_expr p) (shape_of p (part_at vars var).node) (λ part. body_expr (part ∷ []) (part ∷ []) body)
 
-    pub arms_exprs : List Part → Arms → Exprs
+    pub arms_exprs : List Stand → Arms → Exprs
     arms_exprs (stand ∷ rest) (arm bind body arms) = expr (body_expr (whole_parts p stand bind) (bound_parts p stand bind) body) (arms_exprs rest arms)
     arms_exprs _ _ = no_exprs
 
@@ -128,9 +104,9 @@ module _ (p : Program) where
   term_expr vars i = beside_others vars (item_var i) (item_expr vars i)
 
   abbrev pub case_expr : Part → Arms → Expr
-  case_expr on arms = sum_of (arms_exprs (stands_at p on) arms)
+  case_expr on arms = sum_of (arms_exprs (stands on (shape_of p on.node)) arms)
 
-  abbrev pub arm_expr : Part → Bind → Body → Expr
+  abbrev pub arm_expr : Stand → Bind → Body → Expr
   arm_expr stand bind body = body_expr (whole_parts p stand bind) (bound_parts p stand bind) body
 
   abbrev pub walk_body_expr : Part → Body → Expr

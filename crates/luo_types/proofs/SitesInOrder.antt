@@ -8,7 +8,9 @@ use Rattle.luo_model.specs.declared.program.Site.{Site}
 use Rattle.luo_model.specs.Invariant.{procedure_sites, placed, sites_from}
 use Rattle.luo_model.specs.Program as plain
 use Rattle.luo_model.specs.Program.{Program, shape_of}
-use Rattle.luo_model.specs.Scopes.{Stand, stands, component, bound_nodes, node_at, body_sites, items_sites, item_sites, arms_sites, body_items, items_in, item_in, arms_in, items_walks}
+use Rattle.luo_model.specs.Scopes.Stands.{Stand, stands, component, bound_parts, part_at}
+use Rattle.luo_model.specs.Scopes.Sites.{body_sites, items_sites, item_sites, arms_sites}
+use Rattle.luo_model.specs.Scopes.Walks.{body_items, items_in, item_in, arms_in, items_walks}
 use Rattle.luo_model.specs.View.{body_of, item_list, procedure_of}
 use Rattle.luo_types.specs.inner.SitesFound.{nodes_of, IsFound, sites_at, sites_in, procedure_walks, procedure_items}
 use Rattle.luo_types.specs.declared.sites.Found.{Found}

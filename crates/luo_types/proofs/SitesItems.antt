@@ -6,7 +6,9 @@ use Rattle.luo_model.specs.declared.body.Arm.{Arm}
 use Rattle.luo_model.specs.declared.body.Body.{Body}
 use Rattle.luo_model.specs.declared.body.Item.{Item, Case, Forall}
 use Rattle.luo_model.specs.Program.{Program, shape_of}
-use Rattle.luo_model.specs.Scopes.{stands, component, node_at, body_sites, item_sites, arms_sites, body_items, item_in, arms_in, walk_of, body_walks, item_walks, arms_walks}
+use Rattle.luo_model.specs.Scopes.Stands.{stands, component, part_at}
+use Rattle.luo_model.specs.Scopes.Sites.{body_sites, item_sites, arms_sites}
+use Rattle.luo_model.specs.Scopes.Walks.{body_items, item_in, arms_in, multiset_of, body_walks, item_walks, arms_walks}
 use Rattle.luo_model.specs.View.{body_of, item_of}
 use Rattle.luo_rules.specs.inner.ValueLists.{arm_list}
 use Rattle.luo_value_types.proofs.CoreForms.{case_item}

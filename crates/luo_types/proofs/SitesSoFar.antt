@@ -8,7 +8,9 @@ use Rattle.luo_model.specs.declared.program.Shape.{Shape}
 use Rattle.luo_model.specs.declared.program.Shape.TheVariants as shape
 use Rattle.luo_model.specs.Program as plain
 use Rattle.luo_model.specs.Program.{Program, shape_of}
-use Rattle.luo_model.specs.Scopes.{Stand, stands, component, bound_nodes, node_at, body_sites, items_sites, item_sites, arms_sites, body_items, items_in, item_in, arms_in, walk_of, body_walks, items_walks, item_walks, arms_walks}
+use Rattle.luo_model.specs.Scopes.Stands.{Stand, stands, component, bound_parts, part_at}
+use Rattle.luo_model.specs.Scopes.Sites.{body_sites, items_sites, item_sites, arms_sites}
+use Rattle.luo_model.specs.Scopes.Walks.{body_items, items_in, item_in, arms_in, multiset_of, body_walks, items_walks, item_walks, arms_walks}
 use Rattle.luo_model.specs.View.{body_of, item_of, item_list}
 use Rattle.luo_rules.specs.inner.ValueLists.{arm_list}
 use Rattle.luo_types.specs.inner.SitesFound.{nodes_of, IsFound}

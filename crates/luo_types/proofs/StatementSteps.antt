@@ -7,7 +7,8 @@ use Rattle.luo_model.specs.declared.body.Body.{Body}
 use Rattle.luo_model.specs.declared.body.Item.{Item, Row_of-Item, end_of-Item, more_of-Item, Forall', items-the_row-Item, items_hidden-the_row-Item-0}
 use Rattle.luo_model.specs.declared.body.Item as done
 use Rattle.luo_model.specs.Program as plain
-use Rattle.luo_model.specs.Scopes.{stands, join_items}
+use Rattle.luo_model.specs.Scopes.Stands.{stands}
+use Rattle.luo_model.specs.Scopes.ValueBodies.{join_items}
 use Rattle.luo_model.specs.View.{body_of, item_of, item_list, items_of}
 use Rattle.luo_source.specs.declared.names.Name.{Name}
 use Rattle.luo_source.specs.declared.statements.SourceArm.{SourceArm}

@@ -4,7 +4,7 @@ use Rattle.std.proofs.lemmas.List.{drop_all}
 use Rattle.std.proofs.lemmas.List.Sums.{sum_by-cons}
 use Rattle.luo_model.specs.declared.body.Body.{Body}
 use Rattle.luo_model.specs.Program as plain
-use Rattle.luo_model.specs.Scopes.{join_items}
+use Rattle.luo_model.specs.Scopes.ValueBodies.{join_items}
 use Rattle.luo_model.specs.View.{body_of}
 use Rattle.luo_source.specs.declared.statements.Stmt.{Stmt}
 use Rattle.luo_rules.specs.declared.rule.Stop.{Stop}

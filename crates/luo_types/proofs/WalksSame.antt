@@ -2,7 +2,8 @@
 use Rattle.std.proofs.Common.{◌≡◌, ℕ, ◌+◌, List, [], ◌∷◌, sum_by, refl, sym, ◌∙◌, ap}
 use Rattle.std.proofs.lemmas.List.Sums.{sum_by-cons}
 use Rattle.luo_model.specs.Program.{Procedure, Body, Does, Items, no_items, item, Item, Call, Case, Forall, Arms, no_arms, arm, shape_of}
-use Rattle.luo_model.specs.Scopes.{Stand, stands, component, node_at, bound_nodes, walk_of, body_walks, items_walks, item_walks, arms_walks}
+use Rattle.luo_model.specs.Scopes.Stands.{Stand, stands, component, part_at, bound_parts}
+use Rattle.luo_model.specs.Scopes.Walks.{multiset_of, body_walks, items_walks, item_walks, arms_walks}
 use Rattle.luo_rules.specs.declared.setting.Setting.{Setting}
 use Rattle.luo_rules.specs.Settings.{types_of}
 use Rattle.luo_types.specs.inner.SitesFound.{procedure_walks}

@@ -1,7 +1,7 @@
 // The list of the sites of procedures, and their walks over multisets and powersets.
 ghost use Rattle.std.specs.Prelude.{◌≡◌, ◌++◌, ◌^◌, ◌≤◌, map, length, sum_by, IfOk, OnOk};
 ghost use Rattle.luo_model.specs.Invariant.{procedure_sites};
-ghost use Rattle.luo_model.specs.Scopes.{body_items};
+ghost use Rattle.luo_model.specs.Scopes.Walks.{body_items};
 ghost use Rattle.luo_model.specs.View.{body_of, procedure_of};
 ghost use Rattle.luo_rules.specs.Settings.{types_of};
 ghost use Rattle.luo_types.specs.inner.SitesFound.{nodes_of, sites_at, sites_in, procedure_walks, procedure_items};

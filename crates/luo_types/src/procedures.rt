@@ -3,7 +3,7 @@
 
 ghost use Rattle.std.specs.Prelude.{◌≡◌, [], ◌∷◌, ◌++◌, ◌+◌, ◌*◌, ◌≤◌, Some, map, flat_map, length, sum_by, IfOk, IfErr, OnOk};
 ghost use Rattle.luo_num.specs.declared.limits.TheConstants.{PROCEDURE_LIMIT, STATEMENT_LIMIT};
-ghost use Rattle.luo_model.specs.Scopes.{value_body, value_sites};
+ghost use Rattle.luo_model.specs.Scopes.ValueBodies.{value_body, value_sites};
 ghost use Rattle.luo_model.specs.View as model;
 ghost use Rattle.luo_rules.specs.Breaches.{StopsAt};
 ghost use Rattle.luo_rules.specs.Meanings.{type_use, procedure_use, procedure_of};

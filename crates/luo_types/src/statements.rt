@@ -1,7 +1,7 @@
 // The typing and core form of statements.
 ghost use Rattle.std.specs.Prelude.{◌≡◌, [], ◌∷◌, ◌++◌, ◌+◌, ◌^◌, ◌<◌, true, List, Some, length, sum_by, slice_get, IfOk, IfErr, OnOk};
 ghost use Rattle.luo_model.specs.Program.{Does, no_items};
-ghost use Rattle.luo_model.specs.Scopes.{stands};
+ghost use Rattle.luo_model.specs.Scopes.Stands.{stands};
 ghost use Rattle.luo_model.specs.View.{body_of, item_of};
 ghost use Rattle.luo_source.specs.declared.statements.Stmt as form;
 ghost use Rattle.luo_rules.specs.declared.rule.Breach.{Breach};

@@ -6,7 +6,8 @@ use Rattle.luo_source.specs.declared.names.Name.{Name}
 use Rattle.luo_source.specs.declared.values.SourceValueArm.{SourceValueArm}
 use Rattle.luo_model.specs.declared.body.Arm.{Arm}
 use Rattle.luo_model.specs.declared.value.ValueArm.{ValueArm}
-use Rattle.luo_model.specs.Scopes.{Stand, value_arms_sites, value_arm_bodies}
+use Rattle.luo_model.specs.Scopes.Stands.{Stand}
+use Rattle.luo_model.specs.Scopes.ValueBodies.{value_arms_sites, value_arm_bodies}
 use Rattle.luo_rules.specs.declared.rule.Stop.{Stop}
 use Rattle.luo_rules.specs.declared.setting.Setting.{Setting}
 use Rattle.luo_rules.specs.Breaches.{StopsAt}

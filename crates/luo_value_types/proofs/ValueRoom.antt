@@ -3,7 +3,8 @@ use Rattle.std.proofs.Common.{◌≡◌, ℕ, ◌*◌, ◌≤◌, List, [], ◌�
 use Rattle.luo_num.specs.declared.limits.TheConstants.{NUMBER_LIMIT}
 use Rattle.luo_source.specs.declared.names.Name.{Name}
 use Rattle.luo_source.specs.declared.values.SourceValue.{SourceValue, Given, Made, Atom, Tuple', Branch', Case', Row_of-SourceValue, end_of-SourceValue, more_of-SourceValue, Row_of-SourceValueArm, end_of-SourceValueArm, more_of-SourceValueArm}
-use Rattle.luo_model.specs.Scopes.{Stand, value_own, values_own, value_sites, values_sites, value_arms_sites}
+use Rattle.luo_model.specs.Scopes.Stands.{Stand}
+use Rattle.luo_model.specs.Scopes.ValueBodies.{value_own, values_own, value_sites, values_sites, value_arms_sites}
 use Rattle.luo_rules.specs.declared.names.Meaning.{Meaning}
 use Rattle.luo_rules.specs.declared.names.Meaning.TheVariants.{Definition, Measure, Procedure}
 use Rattle.luo_rules.specs.declared.setting.Setting.{Setting}

@@ -19,7 +19,8 @@ use Rattle.luo_model.specs.declared.value.Value as made
 use Rattle.luo_model.specs.declared.value.ValueArm.{ValueArm}
 use Rattle.luo_model.specs.Invariant.{inner_parts}
 use Rattle.luo_model.specs.Program as plain
-use Rattle.luo_model.specs.Scopes.{Stand, stands, factors, join_items, value_arms_sites, value_arm_bodies}
+use Rattle.luo_model.specs.Scopes.Stands.{Stand, stands, factors}
+use Rattle.luo_model.specs.Scopes.ValueBodies.{join_items, value_arms_sites, value_arm_bodies}
 use Rattle.luo_model.specs.View.{value_of, body_of, item_list, item_of}
 use Rattle.luo_rules.specs.declared.rule.Breach.{Breach}
 use Rattle.luo_rules.specs.declared.rule.Rule.TheVariants.{Y15}

@@ -5,7 +5,7 @@ use Rattle.luo_model.specs.declared.body.Body.{Body}
 use Rattle.luo_model.specs.declared.program.Part.{Part}
 use Rattle.luo_model.specs.declared.value.Value.{Value}
 use Rattle.luo_model.specs.Program as plain
-use Rattle.luo_model.specs.Scopes.{join_items, value_own, values_own, value_sites, values_sites, value_items, values_items, value_body}
+use Rattle.luo_model.specs.Scopes.ValueBodies.{join_items, value_own, values_own, value_sites, values_sites, value_items, values_items, value_body}
 use Rattle.luo_model.specs.View.{body_of}
 use Rattle.luo_rules.specs.declared.rule.Stop.{Stop}
 use Rattle.luo_rules.specs.declared.setting.Setting.{Setting}

@@ -1,6 +1,6 @@
 // Patterns: whether they fit what an arm stands for, and what they bind.
 ghost use Rattle.std.specs.Prelude.{◌≡◌, [], ◌∷◌, true, map, IfOk, IfErr, OnOk};
-ghost use Rattle.luo_model.specs.Scopes.{stand_node, factors};
+ghost use Rattle.luo_model.specs.Scopes.Stands.{stand_part, factors};
 ghost use Rattle.luo_rules.specs.Breaches.{StopsAt};
 ghost use Rattle.luo_rules.specs.Patterns as spec;
 ghost use Rattle.luo_rules.specs.Settings.{type_node, shape_at};

@@ -1,7 +1,7 @@
 // What the arms of a case stand for.
 ghost use Rattle.std.specs.Prelude.{◌≡◌, List, true, Some, nat_eq, length, slice_get, IfOk, IfErr, OnOk};
 ghost use Rattle.std.specs.Option.{option_map};
-ghost use Rattle.luo_model.specs.Scopes.{stands};
+ghost use Rattle.luo_model.specs.Scopes.Stands.{stands};
 ghost use Rattle.luo_rules.specs.Breaches.{StopsAt};
 ghost use Rattle.luo_rules.specs.Patterns.{case_breaches};
 ghost use Rattle.luo_rules.specs.Settings.{shape_at, found, case_stands};

@@ -2,7 +2,7 @@
 ghost use Rattle.std.specs.Prelude.{◌≡◌, ◌≤◌, ◌+◌, ◌*◌, List, length};
 ghost use Rattle.luo_num.specs.declared.limits.TheConstants.{NUMBER_LIMIT, STATEMENT_LIMIT};
 ghost use Rattle.luo_source.specs.declared.values.SourceValue as source;
-ghost use Rattle.luo_model.specs.Scopes.{stands};
+ghost use Rattle.luo_model.specs.Scopes.Stands.{stands};
 ghost use Rattle.luo_rules.specs.Settings.{shape_at};
 ghost use Rattle.luo_rules.specs.Statements.{value_statements};
 ghost use Rattle.luo_rules.specs.inner.ValueLists.{parts_statements, arms_statements};

@@ -71,7 +71,7 @@ pub record AreSites (p : Program) (factors : List (Option ℕ)) (s : Sites) : Ty
       → IsLinked (length p.nodes) (length p.sites) (length factors) (length s.links) r l
   pub tasks_wide : length s.tasks ≡ length p.sites
   pub tasks_are : (i : ℕ) (j : plain.Job) (t : Task) → slice_get (plain.jobs_of p) i ≡ Some j
-      → slice_get s.tasks i ≡ Some t → IsTask factors s.links (plain.recipe_of p j.node j.doing) t
+      → slice_get s.tasks i ≡ Some t → IsTask factors s.links (plain.recipe_of p j.on.node j.doing) t
 
 abbrev pub AreTotalled : Program → List ℕ → List (List ℕ) → ℕ → ℕ → Type 0
 AreTotalled p order totals n k = AreFilled (IsTotal p) (length p.sites) order totals n k

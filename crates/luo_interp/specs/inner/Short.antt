@@ -1,10 +1,12 @@
 -- Programs that run to an end, and how far calls go on one structure.
 use Rattle.std.specs.Prelude.{ℕ, ◌<◌, List}
 use Rattle.luo_finite.specs.Walk.{Walk, OnCircle}
+use Rattle.luo_model.specs.declared.program.Part.{Part}
 use Rattle.luo_model.specs.Invariant.{IsProgram}
 use Rattle.luo_model.specs.Program.{Program, Body, Items, Item, item, no_items, Arms}
 use Rattle.luo_model.specs.Founded.{CallsAmong, CallsIn, OwnCall}
-use Rattle.luo_model.specs.Scopes.{FitsBody, FitsItems, FitsItem, FitsArms, stands}
+use Rattle.luo_model.specs.Scopes.Stands.{stands}
+use Rattle.luo_model.specs.Scopes.Fits.{FitsBody, FitsItems, FitsItem, FitsArms}
 use Rattle.luo_model.specs.Program.{shape_of}
 
 -- a program in which no procedure leads back to itself on one structure
@@ -28,14 +30,14 @@ ItemIsShort p left i = AreShort p left (item i no_items)
 
 -- what stands in a scope of some variables
 abbrev pub StandsBody : Program → Body → Type 0
-StandsBody p body = (vars : List ℕ) × FitsBody p vars body
+StandsBody p body = (vars : List Part) × FitsBody p vars body
 
 abbrev pub StandItems : Program → Items → Type 0
-StandItems p items = (vars : List ℕ) × FitsItems p vars items
+StandItems p items = (vars : List Part) × FitsItems p vars items
 
 abbrev pub StandsItem : Program → Item → Type 0
-StandsItem p i = (vars : List ℕ) × FitsItem p vars i
+StandsItem p i = (vars : List Part) × FitsItem p vars i
 
--- the arms of a case on some node
+-- the arms of a case on some part
 abbrev pub StandArms : Program → Arms → Type 0
-StandArms p arms = (x : ℕ) × FitsArms p (stands x (shape_of p x)) arms
+StandArms p arms = (on : Part) × FitsArms p (stands on (shape_of p on.node)) arms

@@ -1,9 +1,11 @@
 -- Values of the code, their calls, and how far calls go on one structure.
 use Rattle.std.specs.Prelude.{◌≡◌, ◌⊎◌, ℕ, List, [], ◌∷◌}
+use Rattle.luo_model.specs.declared.program.Part.{Part}
 use Rattle.luo_model.specs.declared.value.Value as made
 use Rattle.luo_model.specs.declared.value.ValueArm.{ValueArm}
 use Rattle.luo_model.specs.Program.{Program, Value, Made, Tuple, Branch, Values, no_values, value, ValueArms, no_value_arms, value_arm, shape_of}
-use Rattle.luo_model.specs.Scopes.{FitsValue, FitsValues, FitsValueArms, stands}
+use Rattle.luo_model.specs.Scopes.Stands.{stands}
+use Rattle.luo_model.specs.Scopes.Fits.{FitsValue, FitsValues, FitsValueArms}
 use Rattle.luo_model.specs.View.{value_of}
 use Rattle.luo_interp.specs.inner.Short.{IsShort}
 
@@ -37,11 +39,11 @@ ValuesAreShort p left vs = (g : ℕ) → ValuesCall g vs → IsShort p left g
 
 -- what makes structures of some nodes in a scope of some variables
 abbrev pub StandsValue : Program → Value → Type 0
-StandsValue p v = (vars : List ℕ) × (expected : ℕ) × FitsValue p vars expected v
+StandsValue p v = (vars : List Part) × (expected : ℕ) × FitsValue p vars expected v
 
 abbrev pub StandValues : Program → Values → Type 0
-StandValues p vs = (vars : List ℕ) × (nodes : List ℕ) × FitsValues p vars nodes vs
+StandValues p vs = (vars : List Part) × (parts : List Part) × FitsValues p vars parts vs
 
--- the arms of a case on some node
+-- the arms of a case on some part
 abbrev pub StandValueArms : Program → ValueArms → Type 0
-StandValueArms p arms = (x : ℕ) × (expected : ℕ) × FitsValueArms p (stands x (shape_of p x)) expected arms
+StandValueArms p arms = (on : Part) × (expected : ℕ) × FitsValueArms p (stands on (shape_of p on.node)) expected arms

@@ -1,7 +1,7 @@
 -- Statements and arms in lists.
 use Rattle.std.specs.Prelude.{ℕ, ◌+◌, List, [], ◌∷◌, ◌++◌, flat_map, sum_by}
 use Rattle.luo_model.specs.Program as plain
-use Rattle.luo_model.specs.Scopes.{Stand}
+use Rattle.luo_model.specs.Scopes.Stands.{Stand}
 use Rattle.luo_source.specs.declared.names.Name.{Name}
 use Rattle.luo_source.specs.declared.statements.Stmt.{Stmt}
 use Rattle.luo_source.specs.declared.statements.SourceArm.{SourceArm}

@@ -8,7 +8,8 @@ use Rattle.luo_model.specs.declared.body.Body.{Body}
 use Rattle.luo_model.specs.declared.value.Value.{Value}
 use Rattle.luo_model.specs.declared.value.ValueArm.{ValueArm}
 use Rattle.luo_model.specs.Program as plain
-use Rattle.luo_model.specs.Scopes.{Stand, values_own, values_sites, values_items, value_arms_sites, value_arm_bodies}
+use Rattle.luo_model.specs.Scopes.Stands.{Stand}
+use Rattle.luo_model.specs.Scopes.ValueBodies.{values_own, values_sites, values_items, value_arms_sites, value_arm_bodies}
 use Rattle.luo_model.specs.View.{value_of, body_of}
 use Rattle.luo_rules.specs.declared.rule.Breach.{Breach}
 use Rattle.luo_rules.specs.declared.setting.Setting.{Setting}

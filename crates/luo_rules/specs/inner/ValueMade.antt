@@ -3,7 +3,7 @@ use Rattle.std.specs.Prelude.{◌≡◌, ℕ, ◌+◌, List, []}
 use Rattle.luo_model.specs.declared.body.Body.{Body}
 use Rattle.luo_model.specs.declared.value.Value.{Value}
 use Rattle.luo_model.specs.Program as plain
-use Rattle.luo_model.specs.Scopes.{join_items, value_body, value_sites}
+use Rattle.luo_model.specs.Scopes.ValueBodies.{join_items, value_body, value_sites}
 use Rattle.luo_model.specs.View.{value_of, body_of}
 use Rattle.luo_rules.specs.declared.rule.Breach.{Breach}
 

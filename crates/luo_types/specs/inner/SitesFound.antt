@@ -3,7 +3,7 @@ use Rattle.std.specs.Prelude.{◌≡◌, ℕ, ◌+◌, List, [], ◌∷◌, ◌+
 use Rattle.luo_model.specs.declared.program.Site.{Site}
 use Rattle.luo_model.specs.Invariant.{sites_from}
 use Rattle.luo_model.specs.Program.{Program, Procedure}
-use Rattle.luo_model.specs.Scopes.{body_walks, body_items}
+use Rattle.luo_model.specs.Scopes.Walks.{body_walks, body_items}
 use Rattle.luo_types.specs.declared.sites.Found.{Found}
 
 -- the nodes of sites

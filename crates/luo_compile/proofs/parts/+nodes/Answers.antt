@@ -1,7 +1,8 @@
 use Rattle.luo_model.specs.View.{plain_of}
 use Rattle.luo_equation.specs.Expr.{no_exprs}
 use Rattle.luo_system.specs.Plain.{terms_of, factors_of}
-use Rattle.luo_system.specs.System.{no_part, inside_expr}
+use Rattle.luo_model.specs.Scopes.Stands.{no_part}
+use Rattle.luo_system.specs.System.{inside_expr}
 use Rattle.luo_compile.proofs.CodeLemmas.{put_read, sum_end, product_end}
 use Rattle.luo_compile.proofs.BodyLemmas.{same_as, union_node, product_node, coll_node, no_node_there}
 use Rattle.luo_compile.proofs.parts.+nodes.Goals as goal

@@ -1,7 +1,8 @@
 use Rattle.std.proofs.Common.{sym, ap, ◌∙◌, get_or}
 use Rattle.luo_model.specs.View.{plain_of}
 use Rattle.luo_equation.specs.View.{expr_list}
-use Rattle.luo_system.specs.System.{no_part, part_expr}
+use Rattle.luo_model.specs.Scopes.Stands.{no_part}
+use Rattle.luo_system.specs.System.{part_expr}
 use Rattle.luo_compile.proofs.CodeLemmas.{join_none, read_again}
 use Rattle.luo_compile.proofs.BodyLemmas.{put_other, put_same, others_end}
 use Rattle.luo_compile.proofs.parts.add_others.Goals as goal

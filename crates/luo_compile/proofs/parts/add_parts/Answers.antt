@@ -1,7 +1,8 @@
 use Rattle.luo_model.specs.View.{plain_of}
 use Rattle.luo_equation.specs.View.{expr_list}
 use Rattle.luo_system.specs.Plain.{factors_of}
-use Rattle.luo_system.specs.System.{no_part, part_expr}
+use Rattle.luo_model.specs.Scopes.Stands.{no_part}
+use Rattle.luo_system.specs.System.{part_expr}
 use Rattle.luo_compile.proofs.CodeLemmas.{put_start, put_read, put_end}
 use Rattle.luo_compile.proofs.parts.add_parts.Goals as goal
 

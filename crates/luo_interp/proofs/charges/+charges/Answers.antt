@@ -147,7 +147,7 @@ procedure_charge-body_charge-requires t c =
     let P = procedure_of c.in-Some.procedure.now in
     let at = proc_at c.args.program.now _ c.args.callee c.in-Some.procedure.now (ap (λ (h : Held). h.procs) c.program.view_is) c.in-Some.ensures.value in (
       omega (arith, c.decreases, ap (λ ss. reach (to_list (tree_list ss))) c.from_ref.ensures.value, some_parts (tree_of c.args.s.now), some_left p c.args.left c.args.callee c.requires.short),
-      (c.requires.ends, ((P.on.node ∷ [], (c.requires.ends.program.procedures c.args.callee P at).1), call_short p c.args.left c.args.callee P at c.requires.short)),
+      (c.requires.ends, ((P.on ∷ [], (c.requires.ends.program.procedures c.args.callee P at).1), call_short p c.args.left c.args.callee P at c.requires.short)),
     )
 
 pub procedure_charge-returns-in-Some : goal.procedure_charge-returns-in-Some

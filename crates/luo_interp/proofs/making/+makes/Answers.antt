@@ -89,7 +89,7 @@ procedure_makes-value_makes-requires t c =
     let small = result_small p c.args.callee P r at has in
     let less = by_key p (reach (to_list (tree_list c.from_ref.result.now)) * 2 ^ 68 + 2 * (c.args.left - 1)) (parts_in (tree_of c.args.s.now) * 2 ^ 68 + 2 * c.args.left) (value_size r.value) 0 small
     (omega (arith, ap (λ ss. reach (to_list (tree_list ss))) c.from_ref.ensures.value, some_parts (tree_of c.args.s.now), some_left p c.args.left c.args.callee c.requires.short)) in
-    (omega (arith, c.decreases, less), (c.requires.ends, ((P.on.node ∷ [], r.on.node, fits.2), (result_short p c.args.left c.args.callee P r.value at fits.3 c.requires.short, small))))
+    (omega (arith, c.decreases, less), (c.requires.ends, ((P.on ∷ [], r.on.node, fits.2), (result_short p c.args.left c.args.callee P r.value at fits.3 c.requires.short, small))))
 
 pub procedure_makes-returns-in-Some-result : goal.procedure_makes-returns-in-Some-result
 procedure_makes-returns-in-Some-result t c =

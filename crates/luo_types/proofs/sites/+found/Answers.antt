@@ -1,6 +1,6 @@
 use Rattle.std.proofs.Common.{sym, rules}
 use Rattle.luo_model.specs.declared.body.Item.TheFolds.{the_lemmas}
-use Rattle.luo_model.specs.Scopes.{stands}
+use Rattle.luo_model.specs.Scopes.Stands.{stands}
 use Rattle.luo_rules.specs.Settings.{shape_at, types_of}
 use Rattle.luo_value_types.specs.inner.Stands.{stand_of}
 use Rattle.luo_types.proofs.SitesSoFar.{items-at, items-more, found-at, found-more, found-all, found-end}

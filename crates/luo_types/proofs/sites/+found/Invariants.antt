@@ -1,5 +1,5 @@
 use Rattle.std.proofs.Common.{drop}
-use Rattle.luo_model.specs.Scopes.{stands}
+use Rattle.luo_model.specs.Scopes.Stands.{stands}
 use Rattle.luo_rules.specs.Settings.{shape_at, types_of}
 use Rattle.luo_types.proofs.SitesSoFar.{ItemsSoFar, FoundSoFar}
 use Rattle.luo_types.proofs.sites.+found.Given as goal

@@ -1,6 +1,6 @@
 use Rattle.std.proofs.Common.{◌+◌, [], length, sym, ◌∙◌, ap, subst, refl, arith, rules}
 use Rattle.luo_model.specs.declared.body.Body.{Body}
-use Rattle.luo_model.specs.Scopes.{stands}
+use Rattle.luo_model.specs.Scopes.Stands.{stands}
 use Rattle.luo_source.specs.declared.statements.Stmt.{Skip, Charge, Call, Block, Case, Forall}
 use Rattle.luo_rules.specs.Breaches.{StopsAt}
 use Rattle.luo_rules.specs.Settings.{shape_at}

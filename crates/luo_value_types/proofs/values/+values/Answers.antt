@@ -1,7 +1,7 @@
 use Rattle.std.proofs.Common.{rules, Some, None, sym, arith}
 use Rattle.std.proofs.lemmas.List.{drop_more}
 use Rattle.luo_model.specs.declared.program.Part.{Part}
-use Rattle.luo_model.specs.Scopes.{stands}
+use Rattle.luo_model.specs.Scopes.Stands.{stands}
 use Rattle.luo_rules.specs.Settings.{shape_at}
 use Rattle.luo_value_types.specs.inner.Stands.{stand_of}
 use Rattle.luo_value_types.proofs.ArmsSoFar.{arms_stop, arms_more, arms_end, arm_stops_pattern}

@@ -1,5 +1,5 @@
 use Rattle.std.proofs.Common.{Some}
-use Rattle.luo_model.specs.Scopes.{stands}
+use Rattle.luo_model.specs.Scopes.Stands.{stands}
 use Rattle.luo_rules.specs.Settings.{shape_at}
 use Rattle.luo_value_types.proofs.ArmsSoFar.{ArmsSoFar}
 use Rattle.luo_value_types.proofs.ValuesSoFar.{PartsSoFar}
