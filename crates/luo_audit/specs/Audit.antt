@@ -16,7 +16,9 @@ use Rattle.luo_audit.specs.declared.auditing.AuditError.TheVariants.{TooMany, Ov
 module _ (p : Program) (f n : ℕ) where
   -- what procedure f charges on the structures of its parameter's node of size n, in their order
   abbrev pub AreCharges : List ℕ → Type 0
-  AreCharges charges = (P : Procedure) × (slice_get p.procs f ≡ Some P) × (l : List Tree) × IsOrderedListing p P.on.node n l × AllZip (Charges p f) l charges
+  AreCharges charges =
+      (P : Procedure) × (slice_get p.procs f ≡ Some P) × (l : List Tree)
+      × IsOrderedListing p P.on.node n l × AllZip (Charges p f) l charges
 
   -- the structures have charges, and the pieces of these have these sums
   pub record IsPieceSums (workers : ℕ) (sums : List ℕ) : Type 0 where
@@ -46,7 +48,8 @@ module _ (p : Program) (f n : ℕ) where
     pub few : a.row.count ≤ WALKED_LIMIT
     pub small : a.row.total ≤ MAX
 
-  -- too many structures, with their number; few, with a total past the last number; that memory was refused says only that they are few
+  -- too many structures, with their number; few, with a total past the last number; that memory was
+  -- refused says only that they are few
   abbrev pub Explains : AuditError → Type 0
   Explains (TooMany c) = CountIs c × (WALKED_LIMIT < c)
   Explains Over = IsOver

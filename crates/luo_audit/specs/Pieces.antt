@@ -1,7 +1,8 @@
 -- A list cut into pieces for workers, and what each piece sums to.
 use Rattle.std.specs.Prelude.{ℕ, zero, suc, ◌+◌, ◌-◌, ◌*◌, ◌/◌, ◌%◌, min, List, [], ◌∷◌, length, take, drop, sum}
 
--- the place where piece i begins, of so many elements among so many workers: the first pieces are one longer
+-- the place where piece i begins, of so many elements among so many workers: the first pieces are
+-- one longer
 abbrev pub start : ℕ → ℕ → ℕ → ℕ
 start count workers i = i * (count / workers) + min i (count % workers)
 
@@ -11,7 +12,8 @@ sum_between xs from to = sum (take (to - from) (drop from xs))
 
 -- the sum of piece i
 abbrev pub piece_sum : List ℕ → ℕ → ℕ → ℕ
-piece_sum xs workers i = sum_between xs (start (length xs) workers i) (start (length xs) workers (i + 1))
+piece_sum xs workers i =
+    sum_between xs (start (length xs) workers i) (start (length xs) workers (i + 1))
 
 -- the sums of so many pieces, from piece i on
 abbrev pub piece_sums_from : List ℕ → ℕ → ℕ → ℕ → List ℕ

@@ -130,7 +130,8 @@ fn answers<'p, R: Threads + Sync, G: Gate>(
     let sum_piece = move |piece: usize| -> Result<u128, AuditError>
         requires { (ranks.now ≡ program.now) × (counts.now.program ≡ program.now)
             × (node < length program.now.nodes)
-            × ((P : Procedure) × (slice_get (plain_of program.now).procs callee ≡ Some P) × (node ≡ P.on.node))
+            × ((P : Procedure) × (slice_get (plain_of program.now).procs callee ≡ Some P)
+            × (node ≡ P.on.node))
             × (n ≤ counts.now.last) × (n ≤ LIST_SIZE_LIMIT) × (piece < workers) }
         ensures { IsPieceSum (plain_of program.entry.now) callee n workers piece result }
     {

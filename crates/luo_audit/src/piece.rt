@@ -51,7 +51,8 @@ fn walked(
         × (cursor.node ≡ P.on.node) }
     requires order { cursor.place ≤ cursor.end }
     ensures small { IfOk result (λ s. s ≤ MAX) }
-    ensures sum { (charges : List ℕ) → AreCharges (plain_of program.now) callee cursor.entry.size charges
+    ensures sum { (charges : List ℕ)
+        → AreCharges (plain_of program.now) callee cursor.entry.size charges
         → IsSum (sum_between charges cursor.entry.place cursor.entry.end) result }
 {
     let mut cursor = cursor;

@@ -15,15 +15,25 @@ ChoicesAreCounted = (L : List ℕ) (k : ℕ) → Rises L → Counts (IsChoice L 
 
 -- a choice has one place, a place one choice, and the places are those below the number of choices
 abbrev pub PlacesAreInverse : Type 0
-PlacesAreInverse = (L : List ℕ) (k : ℕ) → ((r s : ℕ) (C : List ℕ) → IsPlace (IsChoice L k) Lexical r C → IsPlace (IsChoice L k) Lexical s C → r ≡ s)
-    × ((r : ℕ) (C D : List ℕ) → IsPlace (IsChoice L k) Lexical r C → IsPlace (IsChoice L k) Lexical r D → C ≡ D)
-    × (Rises L → (r : ℕ) (C : List ℕ) → IsPlace (IsChoice L k) Lexical r C → r < choose (length L) k)
-    × (Rises L → (r : ℕ) → r < choose (length L) k → (C : List ℕ) × IsPlace (IsChoice L k) Lexical r C)
+PlacesAreInverse =
+    (L : List ℕ) (k : ℕ)
+    → ((r s : ℕ) (C : List ℕ) → IsPlace (IsChoice L k) Lexical r C
+    → IsPlace (IsChoice L k) Lexical s C → r ≡ s)
+    × ((r : ℕ) (C D : List ℕ) → IsPlace (IsChoice L k) Lexical r C
+    → IsPlace (IsChoice L k) Lexical r D → C ≡ D)
+    × (Rises L → (r : ℕ) (C : List ℕ) → IsPlace (IsChoice L k) Lexical r C
+    → r < choose (length L) k)
+    × (Rises L → (r : ℕ) → r < choose (length L) k
+    → (C : List ℕ) × IsPlace (IsChoice L k) Lexical r C)
 
 -- C(a, j + 1) (j + 1) = C(a, j) (a - j), and as many are left out as taken
 abbrev pub BinomialsStep : Type 0
-BinomialsStep = ((m j : ℕ) → suc j * choose (m + j) (suc j) ≡ m * choose (m + j) j) × ((m j : ℕ) → choose (m + j) j ≡ choose (m + j) m)
+BinomialsStep =
+    ((m j : ℕ) → suc j * choose (m + j) (suc j) ≡ m * choose (m + j) j)
+    × ((m j : ℕ) → choose (m + j) j ≡ choose (m + j) m)
 
 -- no binomial of up to 130 things is past the last number of tables, and of 131 things there is one
 abbrev pub FewAreWithin : Type 0
-FewAreWithin = ((n k : ℕ) → n ≤ 130 → choose n k ≤ MAX) × (choose 130 65 ≡ 95067625827960698145584333020095113100) × (MAX < choose 131 65)
+FewAreWithin =
+    ((n k : ℕ) → n ≤ 130 → choose n k ≤ MAX)
+    × (choose 130 65 ≡ 95067625827960698145584333020095113100) × (MAX < choose 131 65)

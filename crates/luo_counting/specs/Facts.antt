@@ -82,8 +82,8 @@ DistinctPartitions =
     × (coll_count Unlabelled Powerset one_each 0 None 5 ≡ 3)
     × (coll_count Unlabelled Powerset one_each 0 None 6 ≡ 4)
 
--- the parts of all partitions, of all into different parts, of all compositions;
--- the blocks of all partitions of a set; the cycles of all permutations; the points of all round orders
+-- the parts of all partitions, of all into different parts, of all compositions; the blocks of all
+-- partitions of a set; the cycles of all permutations; the points of all round orders
 abbrev pub PartsOfAll : Type 0
 PartsOfAll =
     (coll_total Unlabelled Multiset one_each one_each 0 None 4 ≡ 12)
@@ -93,8 +93,8 @@ PartsOfAll =
     × (coll_total Labelled Set rounds rounds 0 None 4 ≡ 50)
     × (coll_total Labelled Cycle points points 1 None 4 ≡ 24)
 
--- the squares of the number of parts: of partitions of 4 (1 + 4 + 4 + 9 + 16), of those into different parts,
--- of compositions, and of the number of cycles of permutations of 4 points
+-- the squares of the number of parts: of partitions of 4 (1 + 4 + 4 + 9 + 16), of those into
+-- different parts, of compositions, and of the number of cycles of permutations of 4 points
 abbrev pub SquaresOfAll : Type 0
 SquaresOfAll =
     (coll_pairs Unlabelled Multiset one_each one_each one_each one_each 0 None 4 ≡ 34)

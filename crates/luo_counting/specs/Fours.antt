@@ -34,11 +34,13 @@ Four = record { Slot = Place; table = four_table; one = four 1 0 0 0 }
 abbrev pub point : {A : Type 0} → (A → ℕ) → (A → ℕ) → A → Place → ℕ
 point v w x k = four 1 (v x) (w x) (v x * w x) k
 
--- over all multisets of j of a things, the sum of (sum of v) (sum of w); v sums to s, w to t, v w to u
+-- over all multisets of j of a things, the sum of (sum of v) (sum of w); v sums to s, w to t, v w
+-- to u
 abbrev pub repeat_pairs : ℕ → ℕ → ℕ → ℕ → ℕ → ℕ
 repeat_pairs a s t u zero = 0
 repeat_pairs a s t u (suc zero) = u
-repeat_pairs a s t u (suc (suc j)) = u * repeats (suc (suc a)) (suc j) + (s * t) * repeats (suc (suc a)) j
+repeat_pairs a s t u (suc (suc j)) =
+    u * repeats (suc (suc a)) (suc j) + (s * t) * repeats (suc (suc a)) j
 
 -- and over all subsets
 abbrev pub subset_pairs : ℕ → ℕ → ℕ → ℕ → ℕ → ℕ
@@ -59,6 +61,9 @@ chosen_four kind x j left = chosen_totals kind (x plain) (x left) j
 chosen_four kind x j right = chosen_totals kind (x plain) (x right) j
 chosen_four kind x j both = chosen_pairs kind (x plain) (x left) (x right) (x both) j
 
--- the sum of (sum of v) (sum of w) over collections: of the items of size n there are a n, v sums to b n over them, w to d n, and v w to g n
-abbrev pub coll_pairs : Universe → Kind → (ℕ → ℕ) → (ℕ → ℕ) → (ℕ → ℕ) → (ℕ → ℕ) → ℕ → Option ℕ → ℕ → ℕ
-coll_pairs u kind a b d g low high n = coll_in Four chosen_four u kind (λ m. four (a m) (b m) (d m) (g m)) low high n both
+-- the sum of (sum of v) (sum of w) over collections: of the items of size n there are a n, v sums
+-- to b n over them, w to d n, and v w to g n
+abbrev pub coll_pairs : Universe → Kind → (ℕ → ℕ) → (ℕ → ℕ) → (ℕ → ℕ) → (ℕ → ℕ) → ℕ → Option ℕ → ℕ
+    → ℕ
+coll_pairs u kind a b d g low high n =
+    coll_in Four chosen_four u kind (λ m. four (a m) (b m) (d m) (g m)) low high n both

@@ -8,12 +8,15 @@ use Rattle.luo_model.specs.declared.program.Kind.TheVariants.{Sequence, Set, Cyc
 use Rattle.luo_model.specs.Collections.{Bears}
 
 -- an item of size n, on the labels L
-abbrev pub On : {A : Type 0} → Universe → (A → Type 0) → (A → ℕ) → (A → List ℕ) → List ℕ → ℕ → A → Type 0
+abbrev pub On : {A : Type 0} → Universe → (A → Type 0) → (A → ℕ) → (A → List ℕ) → List ℕ → ℕ → A
+    → Type 0
 On u M size lab L n x = M x × (size x ≡ n) × Bears u L (lab x)
 
 -- k items of size n together, on the labels L
-abbrev pub RowOn : {A : Type 0} → Universe → (A → Type 0) → (A → ℕ) → (A → List ℕ) → List ℕ → ℕ → ℕ → List A → Type 0
-RowOn u M size lab L k n xs = Each M xs × (length xs ≡ k) × (total size xs ≡ n) × Bears u L (flat_map lab xs)
+abbrev pub RowOn : {A : Type 0} → Universe → (A → Type 0) → (A → ℕ) → (A → List ℕ) → List ℕ → ℕ → ℕ
+    → List A → Type 0
+RowOn u M size lab L k n xs =
+    Each M xs × (length xs ≡ k) × (total size xs ≡ n) × Bears u L (flat_map lab xs)
 
 -- the universe has this kind, with at least so many items
 abbrev pub Suits : Universe → Kind → ℕ → Type 0

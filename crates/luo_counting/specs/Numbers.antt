@@ -1,4 +1,5 @@
--- The numbers of collections, and of charges over them. Of the items of size n there are a n, and their charges sum to b n.
+-- The numbers of collections, and of charges over them. Of the items of size n there are a n, and
+-- their charges sum to b n.
 use Rattle.std.specs.Prelude.{ℕ, zero, suc, ◌+◌, ◌*◌, ◌-◌, Option, Some, None, min}
 use Rattle.luo_finite.specs.Range.{sum_below, unit}
 use Rattle.luo_finite.specs.Binomial.{choose}
@@ -26,7 +27,9 @@ sets a (suc k) (suc n) = shares Labelled (λ i. a (suc i)) (sets a k) n
 abbrev pub set_totals : (ℕ → ℕ) → (ℕ → ℕ) → ℕ → ℕ → ℕ
 set_totals a b zero n = 0
 set_totals a b (suc k) zero = 0
-set_totals a b (suc k) (suc n) = shares Labelled (λ i. b (suc i)) (sets a k) n + shares Labelled (λ i. a (suc i)) (set_totals a b k) n
+set_totals a b (suc k) (suc n) =
+    shares Labelled (λ i. b (suc i)) (sets a k) n
+    + shares Labelled (λ i. a (suc i)) (set_totals a b k) n
 
 -- cycles of k items: the same, with a row behind the first
 abbrev pub cycles : (ℕ → ℕ) → ℕ → ℕ → ℕ
@@ -37,7 +40,9 @@ cycles a (suc k) (suc n) = shares Labelled (λ i. a (suc i)) (rows Labelled a k)
 abbrev pub cycle_totals : (ℕ → ℕ) → (ℕ → ℕ) → ℕ → ℕ → ℕ
 cycle_totals a b zero n = 0
 cycle_totals a b (suc k) zero = 0
-cycle_totals a b (suc k) (suc n) = shares Labelled (λ i. b (suc i)) (rows Labelled a k) n + shares Labelled (λ i. a (suc i)) (row_totals Labelled a b k) n
+cycle_totals a b (suc k) (suc n) =
+    shares Labelled (λ i. b (suc i)) (rows Labelled a k) n
+    + shares Labelled (λ i. a (suc i)) (row_totals Labelled a b k) n
 
 -- multisets of j of a things: C(a + j - 1, j)
 abbrev pub repeats : ℕ → ℕ → ℕ
@@ -76,12 +81,14 @@ back (suc s) f (suc n) = back s f n
 abbrev pub plane : Kind → (ℕ → ℕ) → ℕ → ℕ → ℕ → ℕ
 plane kind a zero zero n = unit n
 plane kind a zero (suc k) n = 0
-plane kind a (suc d) k n = sum_below (λ j. chosen kind (a (suc d)) j * back (j * suc d) (plane kind a d (k - j)) n) (suc k)
+plane kind a (suc d) k n =
+    sum_below (λ j. chosen kind (a (suc d)) j * back (j * suc d) (plane kind a d (k - j)) n) (suc k)
 
 abbrev pub plane_totals : Kind → (ℕ → ℕ) → (ℕ → ℕ) → ℕ → ℕ → ℕ → ℕ
 plane_totals kind a b zero k n = 0
 plane_totals kind a b (suc d) k n =
-    sum_below (λ j. chosen_totals kind (a (suc d)) (b (suc d)) j * back (j * suc d) (plane kind a d (k - j)) n
+    sum_below (λ j. chosen_totals kind (a (suc d)) (b (suc d)) j * back (j * suc d)
+    (plane kind a d (k - j)) n
     + chosen kind (a (suc d)) j * back (j * suc d) (plane_totals kind a b d (k - j)) n) (suc k)
 
 -- the collections of k items of size n
@@ -109,4 +116,5 @@ unfoldable pub coll_count : Universe → Kind → (ℕ → ℕ) → ℕ → Opti
 coll_count u kind a low high n = sum_below (λ i. of_k u kind a (low + i) n) (terms low high n)
 
 unfoldable pub coll_total : Universe → Kind → (ℕ → ℕ) → (ℕ → ℕ) → ℕ → Option ℕ → ℕ → ℕ
-coll_total u kind a b low high n = sum_below (λ i. totals_of_k u kind a b (low + i) n) (terms low high n)
+coll_total u kind a b low high n =
+    sum_below (λ i. totals_of_k u kind a b (low + i) n) (terms low high n)

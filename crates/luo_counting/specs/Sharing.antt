@@ -11,7 +11,8 @@ abbrev pub splits : List ℕ → List (List ℕ × List ℕ)
 splits [] = ([], []) ∷ []
 splits (x ∷ xs) = map (λ z. (x ∷ z.0, z.1)) (splits xs) ++ map (λ z. (z.0, x ∷ z.1)) (splits xs)
 
--- the sum of c over the sizes of the splits of n labels: each label goes to the first or to the second
+-- the sum of c over the sizes of the splits of n labels: each label goes to the first or to the
+-- second
 abbrev pub over_splits : (ℕ → ℕ → ℕ) → ℕ → ℕ
 over_splits c zero = c 0 0
 over_splits c (suc n) = over_splits (λ i j. c (suc i) j) n + over_splits (λ i j. c i (suc j)) n

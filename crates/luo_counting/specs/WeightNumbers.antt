@@ -14,7 +14,8 @@ abbrev pub at_zero : {I : Type 0} → (I → ℕ) → ℕ → I → ℕ
 at_zero f zero k = f k
 at_zero f (suc n) k = 0
 
-abbrev pub shares_in : (K : Algebra) → Universe → (ℕ → K.Slot → ℕ) → (ℕ → K.Slot → ℕ) → ℕ → K.Slot → ℕ
+abbrev pub shares_in : (K : Algebra) → Universe → (ℕ → K.Slot → ℕ) → (ℕ → K.Slot → ℕ) → ℕ → K.Slot
+    → ℕ
 shares_in K u a b n k = over_shares u (λ i j. times K.table (a i) (b j) k) n
 
 abbrev pub rows_in : (K : Algebra) → Universe → (ℕ → K.Slot → ℕ) → ℕ → ℕ → K.Slot → ℕ
@@ -36,7 +37,8 @@ abbrev pub repeats_in : (K : Algebra) → List (K.Slot → ℕ) → ℕ → K.Sl
 repeats_in K [] zero k = K.one k
 repeats_in K [] (suc j) k = 0
 repeats_in K (x ∷ l) zero k = K.one k
-repeats_in K (x ∷ l) (suc j) k = repeats_in K l (suc j) k + times K.table x (repeats_in K (x ∷ l) j) k
+repeats_in K (x ∷ l) (suc j) k =
+    repeats_in K l (suc j) k + times K.table x (repeats_in K (x ∷ l) j) k
 
 -- and over all subsets
 abbrev pub subsets_in : (K : Algebra) → List (K.Slot → ℕ) → ℕ → K.Slot → ℕ
@@ -52,15 +54,20 @@ choices_in K _ l j k = repeats_in K l j k
 abbrev pub plane_in : (K : Algebra) → (ℕ → ℕ → K.Slot → ℕ) → ℕ → ℕ → ℕ → K.Slot → ℕ
 plane_in K chosen zero zero n i = at_zero K.one n i
 plane_in K chosen zero (suc k) n i = 0
-plane_in K chosen (suc d) k n i = sum_below (λ j. times K.table (chosen (suc d) j) (λ s. back (j * suc d) (λ m. plane_in K chosen d (k - j) m s) n) i) (suc k)
+plane_in K chosen (suc d) k n i =
+    sum_below (λ j. times K.table (chosen (suc d) j)
+    (λ s. back (j * suc d) (λ m. plane_in K chosen d (k - j) m s) n) i) (suc k)
 
 -- chosen x j: the choices of j of things whose weights sum to x
-abbrev pub of_k_in : (K : Algebra) → (Kind → (K.Slot → ℕ) → ℕ → K.Slot → ℕ) → Universe → Kind → (ℕ → K.Slot → ℕ) → ℕ → ℕ → K.Slot → ℕ
+abbrev pub of_k_in : (K : Algebra) → (Kind → (K.Slot → ℕ) → ℕ → K.Slot → ℕ) → Universe → Kind
+    → (ℕ → K.Slot → ℕ) → ℕ → ℕ → K.Slot → ℕ
 of_k_in K chosen u Sequence a k n i = rows_in K u a k n i
 of_k_in K chosen u Set a k n i = sets_in K a k n i
 of_k_in K chosen u Cycle a k n i = cycles_in K a k n i
 of_k_in K chosen u Multiset a k n i = plane_in K (λ e j. chosen Multiset (a e) j) n k n i
 of_k_in K chosen u Powerset a k n i = plane_in K (λ e j. chosen Powerset (a e) j) n k n i
 
-unfoldable pub coll_in : (K : Algebra) → (Kind → (K.Slot → ℕ) → ℕ → K.Slot → ℕ) → Universe → Kind → (ℕ → K.Slot → ℕ) → ℕ → Option ℕ → ℕ → K.Slot → ℕ
-coll_in K chosen u kind a low high n i = sum_below (λ m. of_k_in K chosen u kind a (low + m) n i) (terms low high n)
+unfoldable pub coll_in : (K : Algebra) → (Kind → (K.Slot → ℕ) → ℕ → K.Slot → ℕ) → Universe → Kind
+    → (ℕ → K.Slot → ℕ) → ℕ → Option ℕ → ℕ → K.Slot → ℕ
+coll_in K chosen u kind a low high n i =
+    sum_below (λ m. of_k_in K chosen u kind a (low + m) n i) (terms low high n)

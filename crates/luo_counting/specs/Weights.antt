@@ -15,10 +15,12 @@ pub record Algebra : Type 1 where
 -- one is a unit on the left, and products may be bracketed either way
 pub record IsAlgebra (K : Algebra) : Type 0 where
   pub unit_left : (x : K.Slot → ℕ) (k : K.Slot) → times K.table K.one x k ≡ x k
-  pub joins : (x y z : K.Slot → ℕ) (k : K.Slot) → times K.table (times K.table x y) z k ≡ times K.table x (times K.table y z) k
+  pub joins : (x y z : K.Slot → ℕ) (k : K.Slot)
+      → times K.table (times K.table x y) z k ≡ times K.table x (times K.table y z) k
 
 -- the weights W of what P holds of sum to r, slot by slot
-abbrev pub Measured : (K : Algebra) → {A : Type 0} → (A → Type 0) → (A → K.Slot → ℕ) → (K.Slot → ℕ) → Type 0
+abbrev pub Measured : (K : Algebra) → {A : Type 0} → (A → Type 0) → (A → K.Slot → ℕ) → (K.Slot → ℕ)
+    → Type 0
 Measured K P W r = (k : K.Slot) → Sums P (λ x. W x k) (r k)
 
 -- the product of the weights of a list

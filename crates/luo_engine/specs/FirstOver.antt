@@ -17,7 +17,8 @@ FirstOverIsOne =
 abbrev pub NoneOrFirst : Type 0
 NoneOrFirst =
     (p : Program) → IsProgram p → IsFounded p → (last : ℕ) (fill : Fill)
-    → ((entry : Entry) (n : ℕ) → IsFirstOver p last fill entry n → ⊥) → (n : ℕ) → n ≤ last → NoneOver p fill n
+    → ((entry : Entry) (n : ℕ) → IsFirstOver p last fill entry n → ⊥) → (n : ℕ) → n ≤ last
+    → NoneOver p fill n
 
 -- where no entry of any of these sizes is past the last number, none is the first
 abbrev pub NoneIsFirst : Type 0

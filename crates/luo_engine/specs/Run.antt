@@ -3,7 +3,8 @@ use Rattle.std.specs.Prelude.{ℕ, Bool}
 use Rattle.luo_model.specs.declared.table.Fill.{Fill}
 use Rattle.luo_model.specs.View.{Held}
 
--- the program, its last size and what is filled in, how many sizes are filled, and whether an overflow was answered
+-- the program, its last size and what is filled in, how many sizes are filled, and whether an
+-- overflow was answered
 pub record Run : Type 0 where
   pub program : Held
   pub last : ℕ

@@ -81,7 +81,8 @@ impl Counter {
     ) -> Result<Counter, NoMemory>
         requires parts { IsOfParts kind }
         requires bounds { parts.AreBounds low high n_max }
-        ensures { IfOk result (λ counter. asked_of counter ≡ unasked Unlabelled kind low high n_max) }
+        ensures { IfOk result (λ counter. asked_of counter
+            ≡ unasked Unlabelled kind low high n_max) }
     {
         if is_unbounded(low, high) {
             Ok(Counter::Unbounded(Unbounded::new(alloc, kind, low, n_max)?))

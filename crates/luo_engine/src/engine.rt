@@ -58,9 +58,16 @@ impl<'p> Model for Engine<'p> {
 
     ghost coded = { Prim.hlevel (codes, done.the_row.coded, made.the_row.coded) };
 
-    ghost view = { λ e. record { program = e.plan.program; last = e.last; fill = e.fill; filled = e.filled; stopped = e.stopped } };
+    ghost view = { λ e. record {
+      program = e.plan.program;
+      last = e.last;
+      fill = e.fill;
+      filled = e.filled;
+      stopped = e.stopped;
+    } };
 
-    ghost invariant = { λ e. IsRun e.plan e.sites e.counts e.collections.items e.partials e.totals e.walks.items e.points e.last e.fill e.filled e.stopped };
+    ghost invariant = { λ e. IsRun e.plan e.sites e.counts e.collections.items e.partials e.totals
+        e.walks.items e.points e.last e.fill e.filled e.stopped };
 }
 
 // Whether totals are filled in.
@@ -88,7 +95,14 @@ impl<'p> Engine<'p> {
     ) -> Result<Engine<'p>, NoMemory>
         requires same { ranks.now ≡ program.now }
         requires small { n_max ≤ SIZE_LIMIT }
-        ensures { IfOk result (λ engine. engine ≡ record { program = program.now; last = n_max; fill = fill; filled = 0; stopped = false }) }
+        ensures { IfOk result (λ engine. engine
+            ≡ record {
+              program = program.now;
+              last = n_max;
+              fill = fill;
+              filled = 0;
+              stopped = false;
+            }) }
     {
         let plan = Plan::new(alloc, program, ranks, n_max)?;
         let sizes = n_max as usize + 1;
@@ -177,7 +191,8 @@ impl<'p> Engine<'p> {
     pub fn extend(&mut self) -> Result<(), Overflow>
         requires room { self.old.filled ≤ self.old.last }
         requires going { self.old.stopped ≡ false }
-        ensures ok { IfOk result (λ _. self.new ≡ record self.old { filled = self.old.filled + 1 }) }
+        ensures ok { IfOk result (λ _. self.new ≡ record self.old
+            { filled = self.old.filled + 1 }) }
         ensures none_over { IfOk result (λ _.
             NoneOver (plain_of self.old.program) self.old.fill self.old.filled) }
         ensures over { IfErr result (λ overflow. IsFirstOver (plain_of self.old.program)

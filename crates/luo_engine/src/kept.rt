@@ -27,7 +27,8 @@ pub fn rows_of(
     nodes: usize,
 ) -> Result<Items<Items<u128>>, NoMemory>
     requires nodes { nodes ≤ length engine.now.program.nodes }
-    ensures { IfOk result (λ rows. AreCountRows (plain_of engine.now.program) nodes engine.now.filled rows) }
+    ensures { IfOk result (λ rows. AreCountRows
+        (plain_of engine.now.program) nodes engine.now.filled rows) }
 {
     let mut rows = Items::new(alloc);
     for n in 0..engine.filled() {

@@ -35,9 +35,23 @@ impl<'p> Model for Plan<'p> {
 
     ghost coded = { Prim.hlevel (codes, done.the_row.coded, made.the_row.coded) };
 
-    ghost view = { λ p. record { program = p.program.now; ranks = p.ranks; order = p.order; starts = p.starts; factors = p.factors; reach = p.pascal } };
+    ghost view = { λ p. record {
+      program = p.program.now;
+      ranks = p.ranks;
+      order = p.order;
+      starts = p.starts;
+      factors = p.factors;
+      reach = p.pascal;
+    } };
 
-    ghost invariant = { λ p. IsPlan (record { program = p.program.now; ranks = p.ranks; order = p.order; starts = p.starts; factors = p.factors; reach = p.pascal }) };
+    ghost invariant = { λ p. IsPlan (record {
+      program = p.program.now;
+      ranks = p.ranks;
+      order = p.order;
+      starts = p.starts;
+      factors = p.factors;
+      reach = p.pascal;
+    }) };
 }
 
 impl<'p> Plan<'p> {

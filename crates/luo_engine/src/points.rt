@@ -36,7 +36,8 @@ fn inner_sum(
     requires there { (s : ℕ) → In s sites.now → s < length totals.now }
     requires reach { Reaches n totals.now }
     requires rest { n < length rest.now }
-    ensures { result ≡ capped (sum_by (λ s. inner universe (entry_of totals.now s) (slice_index rest.now) n) sites.now) }
+    ensures { result ≡ capped (sum_by
+        (λ s. inner universe (entry_of totals.now s) (slice_index rest.now) n) sites.now) }
 {
     let mut sum = 0;
     for s in sites {
@@ -51,7 +52,8 @@ fn outer_sum(totals: &Table, sites: &[usize], rest: &[u128], n: usize) -> u128
     requires reach { Reaches n totals.now }
     requires rest { n < length rest.now }
     ensures { result
-        ≡ capped (sum_by (λ s. closing 0 (entry_of totals.now s) (slice_index rest.now) n (slice_index rest.now n)) sites.now) }
+        ≡ capped (sum_by (λ s. closing 0 (entry_of totals.now s) (slice_index rest.now) n
+        (slice_index rest.now n)) sites.now) }
 {
     let mut sum = 0;
     for s in sites {
@@ -82,7 +84,8 @@ fn open_point_at(
     requires next { n < length next.now }
     ensures { result
         ≡ capped
-        (sum_by (λ s. inner universe (entry_of totals.now s) (entry_of partials.now link.now.behind) n) link.now.sites
+        (sum_by (λ s. inner universe (entry_of totals.now s)
+        (entry_of partials.now link.now.behind) n) link.now.sites
         + inner universe (entry_of counts.now link.now.node) (slice_index next.now) n) }
 {
     let sum = inner_sum(
@@ -119,7 +122,8 @@ fn point_ends_at(
     ensures { result
         ≡ capped
         (sum_by
-        (λ s. closing 0 (entry_of totals.now s) (entry_of partials.now link.now.behind) n (entry_of partials.now link.now.behind n))
+        (λ s. closing 0 (entry_of totals.now s) (entry_of partials.now link.now.behind) n
+        (entry_of partials.now link.now.behind n))
         link.now.sites
         + closing 0 (entry_of counts.now link.now.node) (slice_index next.now) n whole) }
 {
@@ -142,10 +146,12 @@ fn open_at(
 ) -> u128
     requires small { n ≤ SIZE_LIMIT }
     requires reached { n ≤ pascal.now }
-    requires below { ArePointsBelow universe counts.now totals.now factors.now partials.now links.now points.now n }
+    requires below { ArePointsBelow universe counts.now totals.now factors.now partials.now
+        links.now points.now n }
     requires row { r < length links.now }
     ensures { result
-        ≡ capped (open_point universe (entry_of counts.now) (entry_of totals.now) factors.now (drop r links.now) n) }
+        ≡ capped (open_point universe (entry_of counts.now) (entry_of totals.now) factors.now
+        (drop r links.now) n) }
 {
     match &links[r] {
         None => 0,
@@ -176,8 +182,10 @@ pub fn open_points(
 )
     requires small { n ≤ SIZE_LIMIT }
     requires reached { n ≤ pascal.now }
-    requires below { ArePointsBelow universe counts.now totals.now factors.now partials.now links.now points.old n }
-    ensures open_rows { ArePointsOpen universe counts.now totals.now factors.now partials.now links.now points.new n (length links.now) }
+    requires below { ArePointsBelow universe counts.now totals.now factors.now partials.now
+        links.now points.old n }
+    ensures open_rows { ArePointsOpen universe counts.now totals.now factors.now partials.now
+        links.now points.new n (length links.now) }
     ensures shape { SameShape points.old points.new }
 {
     for r in 0..links.len() {
@@ -201,12 +209,15 @@ fn closed_at(
     n: usize,
     whole: u128,
 ) -> u128
-    requires open_row { ArePointsOpen universe counts.now totals.now factors.now partials.now links.now points.now n (r + 1) }
+    requires open_row { ArePointsOpen universe counts.now totals.now factors.now partials.now
+        links.now points.now n (r + 1) }
     requires row { r < length links.now }
     requires whole { whole
-        ≡ capped (point_of universe (entry_of counts.now) (entry_of totals.now) factors.now (drop (r + 1) links.now) n) }
+        ≡ capped (point_of universe (entry_of counts.now) (entry_of totals.now) factors.now
+        (drop (r + 1) links.now) n) }
     ensures { result
-        ≡ capped (point_of universe (entry_of counts.now) (entry_of totals.now) factors.now (drop r links.now) n) }
+        ≡ capped (point_of universe (entry_of counts.now) (entry_of totals.now) factors.now
+        (drop r links.now) n) }
 {
     match &links[r] {
         None => 0,
@@ -228,8 +239,10 @@ pub fn close_points(
     points: &mut Table,
     n: usize,
 )
-    requires { ArePointsOpen universe counts.now totals.now factors.now partials.now links.now points.old n (length links.now) }
-    ensures closed_rows { ArePointsClosed universe counts.now totals.now factors.now partials.now links.now points.new n 0 }
+    requires { ArePointsOpen universe counts.now totals.now factors.now partials.now links.now
+        points.old n (length links.now) }
+    ensures closed_rows { ArePointsClosed universe counts.now totals.now factors.now partials.now
+        links.now points.new n 0 }
     ensures shape { SameShape points.old points.new }
 {
     let mut whole = 0;
@@ -254,11 +267,13 @@ pub fn point_at(
     arity: usize,
     n: usize,
 ) -> u128
-    requires open_rows { ArePointsOpen universe counts.now totals.now factors.now partials.now links.now points.now n (length links.now) }
+    requires open_rows { ArePointsOpen universe counts.now totals.now factors.now partials.now
+        links.now points.now n (length links.now) }
     requires room { start + arity < length links.now }
     requires end { slice_get links.now (start + arity) ≡ Some None }
     ensures { result
-        ≡ capped (point_of universe (entry_of counts.now) (entry_of totals.now) factors.now (drop start links.now) n) }
+        ≡ capped (point_of universe (entry_of counts.now) (entry_of totals.now) factors.now
+        (drop start links.now) n) }
 {
     let mut whole = 0;
     for i in (0..arity).rev() {

@@ -11,10 +11,18 @@ use Rattle.luo_equation.specs.Equation.{Equation}
 
 -- the name of a definition; one that isn't there has no name
 abbrev pub definition_name : Program → ℕ → List ℕ
-definition_name p i = (slice_index_or p.defs i (record { name = []; whole = record { node = 0; name = None } })).name
+definition_name p i =
+    (slice_index_or p.defs i (record { name = []; whole = record { node = 0; name = None } })).name
 
 abbrev pub no_procedure : Procedure
-no_procedure = record { name = []; on = record { node = 0; name = None }; body = Does 0 no_items; site = 0; result = None }
+no_procedure =
+    record {
+      name = [];
+      on = record { node = 0; name = None };
+      body = Does 0 no_items;
+      site = 0;
+      result = None;
+    }
 
 -- the name of a procedure
 abbrev pub procedure_name : Program → ℕ → List ℕ
@@ -61,7 +69,8 @@ bounds_text kind low (Some high) = between_text low high
 
 -- a collection
 abbrev pub coll_text : Kind → ℕ → Option ℕ → List ℕ → List ℕ
-coll_text kind low high inner = kind_word kind ++ codes "[" ++ inner ++ bounds_text kind low high ++ codes "]"
+coll_text kind low high inner =
+    kind_word kind ++ codes "[" ++ inner ++ bounds_text kind low high ++ codes "]"
 
 -- the body of a walk
 abbrev pub marked_text : List ℕ → List ℕ
@@ -90,7 +99,8 @@ module _ (p : Program) where
     expr_text (Sum es) = joined (codes " + ") (term_texts es)
     expr_text (Prod es) = joined (codes "*") (factor_texts es)
     expr_text (Coll kind inner low high) = coll_text kind low high (expr_text inner)
-    expr_text (Point kind inner low high body) = codes "Point[" ++ coll_text kind low high (expr_text inner) ++ marked_text (expr_text body)
+    expr_text (Point kind inner low high body) =
+        codes "Point[" ++ coll_text kind low high (expr_text inner) ++ marked_text (expr_text body)
 
     pub term_texts : Exprs → List (List ℕ)
     term_texts no_exprs = []

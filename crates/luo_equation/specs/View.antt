@@ -15,7 +15,8 @@ abbrev mutual
   expr_of (made.Sum' shape es) = plain.Sum (exprs_of es)
   expr_of (made.Prod' shape es) = plain.Prod (exprs_of es)
   expr_of (made.Coll' kind shape inner low high) = plain.Coll kind (first_expr inner) low high
-  expr_of (made.Point' kind shape inner low high other body) = plain.Point kind (first_expr inner) low high (first_expr body)
+  expr_of (made.Point' kind shape inner low high other body) =
+      plain.Point kind (first_expr inner) low high (first_expr body)
 
   pub exprs_of : {n : _} → Row_of-Expr n → plain.Exprs
   exprs_of end_of-Expr = plain.no_exprs

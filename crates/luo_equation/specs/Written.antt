@@ -25,13 +25,18 @@ rule kind a b k n = sum_z (λ j. signed kind j (substituted (suc j) b (bags kind
 
 -- k h_k is that sum over the components
 abbrev pub BagsAreByRule : Type 0
-BagsAreByRule = (kind : Kind) (a : ℕ → ℤ) (k n : ℕ) → bags kind a (suc k) n ≡ floor (rule kind a a (suc k) n) (suc k)
+BagsAreByRule =
+    (kind : Kind) (a : ℕ → ℤ) (k n : ℕ)
+    → bags kind a (suc k) n ≡ floor (rule kind a a (suc k) n) (suc k)
 
 -- and the point is the same sum over the body
 abbrev pub PointsAreByRule : Type 0
 PointsAreByRule = (a b : ℕ → ℤ) (k n : ℕ)
-    → (point_of Unlabelled Multiset a b (suc k) n ≡ rule Multiset a b (suc k) n) × (point_of Unlabelled Powerset a b (suc k) n ≡ rule Powerset a b (suc k) n)
+    → (point_of Unlabelled Multiset a b (suc k) n ≡ rule Multiset a b (suc k) n)
+    × (point_of Unlabelled Powerset a b (suc k) n ≡ rule Powerset a b (suc k) n)
 
 -- the labelled product by binomials
 abbrev pub ProductIsBinomial : Type 0
-ProductIsBinomial = (a b : ℕ → ℤ) (n : ℕ) → times Labelled a b n ≡ sum_z (λ k. pos (choose n k) *ℤ (a k *ℤ b (n - k))) (suc n)
+ProductIsBinomial =
+    (a b : ℕ → ℤ) (n : ℕ)
+    → times Labelled a b n ≡ sum_z (λ k. pos (choose n k) *ℤ (a k *ℤ b (n - k))) (suc n)

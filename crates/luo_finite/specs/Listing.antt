@@ -39,7 +39,8 @@ pub record Sums {A : Type 0} (P : A → Type 0) (w : A → ℕ) (t : ℕ) : Type
   pub exists : (l : List A) × Lists P l
   pub each : (l : List A) → Lists P l → sum_by w l ≡ t
 
--- a listing of P exists, and over each the numbers that R relates to its elements, one to each, sum to t
+-- a listing of P exists, and over each the numbers that R relates to its elements, one to each, sum
+-- to t
 pub record Totals {A : Type 0} (P : A → Type 0) (R : A → ℕ → Type 0) (t : ℕ) : Type 0 where
   pub exists : (l : List A) × Lists P l
   pub each : (l : List A) → Lists P l → (qs : List ℕ) × AllZip R l qs × (sum qs ≡ t)

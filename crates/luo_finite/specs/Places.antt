@@ -6,7 +6,8 @@ use Rattle.std.specs.Ordering.{nat_cmp}
 use Rattle.luo_finite.specs.Listing.{In, Pairwise, Sums}
 
 -- P holds of x, and of the things that P holds of r are before x
-pub record IsPlace {A : Type 0} (P : A → Type 0) (Before : A → A → Type 0) (r : ℕ) (x : A) : Type 0 where
+pub record IsPlace {A : Type 0} (P : A → Type 0) (Before : A → A → Type 0) (r : ℕ)
+    (x : A) : Type 0 where
   pub there : P x
   pub before : Sums (λ y. P y × Before y x) (λ y. 1) r
 

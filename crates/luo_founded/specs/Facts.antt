@@ -34,29 +34,39 @@ programs shapes bodies = record {
   analyses = [];
 }
 
--- leaves, or multisets of at least two hierarchies: `type h = leaf | multiset(h, card >= 2)`; and the number of leaves
+-- leaves, or multisets of at least two hierarchies: `type h = leaf | multiset(h, card >= 2)`; and
+-- the number of leaves
 abbrev pub leaves : Body
-leaves = Does 0 (item (Case 0 (arm Whole (Does 1 no_items) (arm Whole (Does 0 (item (Forall 0 (Does 0 (item (Call 0 0 0) no_items)) 0 0) no_items)) no_arms)) 0) no_items)
+leaves =
+    Does 0 (item (Case 0
+    (arm Whole (Does 1 no_items)
+    (arm Whole (Does 0 (item
+    (Forall 0 (Does 0 (item (Call 0 0 0) no_items)) 0 0) no_items)) no_arms)) 0) no_items)
 
 abbrev pub hierarchies : Program
-hierarchies = programs (Union (bare 1 ∷ (bare 2 ∷ [])) ∷ (Atom 1 ∷ (Coll Multiset (bare 0) 2 None ∷ []))) (leaves ∷ [])
+hierarchies =
+    programs (Union (bare 1 ∷ (bare 2 ∷ [])) ∷ (Atom 1 ∷ (Coll Multiset (bare 0) 2 None ∷ [])))
+    (leaves ∷ [])
 
 abbrev pub HierarchiesAreFounded : Type 0
 HierarchiesAreFounded = IsFounded hierarchies
 
 -- `type t = z | sequence(t, card .. )`
 abbrev pub nested : ℕ → Option ℕ → Program
-nested low high = programs (Union (bare 1 ∷ (bare 2 ∷ [])) ∷ (Atom 1 ∷ (Coll Sequence (bare 0) low high ∷ []))) []
+nested low high =
+    programs (Union (bare 1 ∷ (bare 2 ∷ [])) ∷ (Atom 1 ∷ (Coll Sequence (bare 0) low high ∷ []))) []
 
 -- where one component is allowed, a collection of one leads back to the union
 abbrev pub OneComponentLeadsBack : Type 0
 OneComponentLeadsBack =
-    (low : ℕ) (high : Option ℕ) → IsWithin low high 1 → IsNamedCircle (SameSize (nested low high)) 0 (0 ∷ (2 ∷ (0 ∷ [])))
+    (low : ℕ) (high : Option ℕ) → IsWithin low high 1
+    → IsNamedCircle (SameSize (nested low high)) 0 (0 ∷ (2 ∷ (0 ∷ [])))
 
 -- where one isn't allowed, as with at least two or with none, nothing leads back
 abbrev pub OtherBoundsEndThere : Type 0
 OtherBoundsEndThere =
-    (low : ℕ) (high : Option ℕ) → (IsWithin low high 1 → ⊥) → (x : ℕ) → OnCircle (SameSize (nested low high)) x → ⊥
+    (low : ℕ) (high : Option ℕ) → (IsWithin low high 1 → ⊥) → (x : ℕ)
+    → OnCircle (SameSize (nested low high)) x → ⊥
 
 -- `type t = product(z, t)`
 abbrev pub endless : Program
@@ -75,7 +85,9 @@ EmptyComponentsAreNamed = IsLeast (BreaksW2 hollow) 1
 
 -- `type t = z | product(e, t)` with e of this weight
 abbrev pub beside : ℕ → Program
-beside weight = programs (Union (bare 1 ∷ (bare 2 ∷ [])) ∷ (Atom 1 ∷ (Product (bare 3 ∷ (bare 0 ∷ [])) ∷ (Atom weight ∷ [])))) []
+beside weight =
+    programs (Union (bare 1 ∷ (bare 2 ∷ []))
+    ∷ (Atom 1 ∷ (Product (bare 3 ∷ (bare 0 ∷ [])) ∷ (Atom weight ∷ [])))) []
 
 -- beside an empty factor a product is as large as the other
 abbrev pub EmptyFactorsLeadBack : Type 0
@@ -87,4 +99,6 @@ OtherFactorsEndThere = (weight : ℕ) → (x : ℕ) → OnCircle (SameSize (besi
 
 -- a procedure that calls itself on its own parameter is named
 abbrev pub OwnCallsAreNamed : Type 0
-OwnCallsAreNamed = IsNamedCircle (OwnCall (programs (Atom 1 ∷ []) (Does 0 (item (Call 0 0 0) no_items) ∷ []))) 0 (0 ∷ (0 ∷ []))
+OwnCallsAreNamed =
+    IsNamedCircle (OwnCall (programs (Atom 1 ∷ []) (Does 0 (item (Call 0 0 0) no_items) ∷ []))) 0
+    (0 ∷ (0 ∷ []))

@@ -6,7 +6,8 @@ use Rattle.luo_model.specs.Founded.{SameSize, OwnCall, BreaksW1, BreaksW2, IsLea
 use Rattle.luo_founded.specs.declared.checking.NotFounded.{NotFounded}
 use Rattle.luo_founded.specs.declared.checking.NotFounded.TheVariants.{W1, W2, W3, W4, NoMemory}
 
--- the first rule that is broken: it and no earlier one is, and the node is its least, or the chain is the circle that is named
+-- the first rule that is broken: it and no earlier one is, and the node is its least, or the chain
+-- is the circle that is named
 abbrev pub Breaks : Program → NotFounded → Type 0
 Breaks p (W1 x) = IsLeast (BreaksW1 p) x
 Breaks p (W2 x) = ((y : ℕ) → BreaksW1 p y → ⊥) × IsLeast (BreaksW2 p) x

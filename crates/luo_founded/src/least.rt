@@ -44,7 +44,8 @@ fn least_part(parts: &[Part], table: &[u32]) -> u32
 
 fn sum_of(parts: &[Part], table: &[u32]) -> u32
     requires { IsCapped table.now }
-    ensures { result ≡ min past_last (sum_by (λ (part : Part). size_at table.now part.node) parts.now) }
+    ensures { result ≡ min past_last
+        (sum_by (λ (part : Part). size_at table.now part.node) parts.now) }
 {
     let mut sum = 0;
     for part in parts {

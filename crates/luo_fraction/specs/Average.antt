@@ -10,7 +10,8 @@ pub record IsReduced (total count p q : ℕ) : Type 0 where
   pub whole : 1 ≤ q
   pub lowest : IsGcd p q 1
 
--- the average of count numbers whose sum is total: nothing where there is no number, else the fraction in lowest terms
+-- the average of count numbers whose sum is total: nothing where there is no number, else the
+-- fraction in lowest terms
 abbrev pub IsAverage : ℕ → ℕ → Average → Type 0
 IsAverage total count Absent = count ≡ 0
 IsAverage total count (Value p q) = (0 < count) × IsReduced total count p q

@@ -9,11 +9,14 @@ use Rattle.luo_model.specs.Invariant.{IsProgram}
 use Rattle.luo_model.specs.Founded.{IsFounded}
 use Rattle.luo_interp.specs.Makes.{Makes}
 
--- of each member a procedure with a result makes exactly one structure, a member of the result's node without labels
+-- of each member a procedure with a result makes exactly one structure, a member of the result's
+-- node without labels
 abbrev pub EachMakesOne : Type 0
 EachMakesOne =
-    (p : Program) → IsProgram p → IsFounded p → (f : ℕ) (P : Procedure) (r : Result) → slice_get p.procs f ≡ Some P → P.result ≡ Some r → (s : Tree) → Member p P.on.node s
-    → (made : Tree) × Makes p f s made × Member p r.on.node made × (labels_of made ≡ []) × ((other : Tree) → Makes p f s other → other ≡ made)
+    (p : Program) → IsProgram p → IsFounded p → (f : ℕ) (P : Procedure) (r : Result)
+    → slice_get p.procs f ≡ Some P → P.result ≡ Some r → (s : Tree) → Member p P.on.node s
+    → (made : Tree) × Makes p f s made × Member p r.on.node made × (labels_of made ≡ [])
+    × ((other : Tree) → Makes p f s other → other ≡ made)
 
 -- the number of atoms
 abbrev mutual
@@ -48,5 +51,7 @@ abbrev mutual
 -- where that is so of all values of a program, a procedure charges as many as it makes atoms
 abbrev pub AtomsAreCharged : Type 0
 AtomsAreCharged =
-    (p : Program) → IsProgram p → ((g : ℕ) (Q : Procedure) (r : Result) → slice_get p.procs g ≡ Some Q → Q.result ≡ Some r → ChargesAtoms r.value)
+    (p : Program) → IsProgram p
+    → ((g : ℕ) (Q : Procedure) (r : Result) → slice_get p.procs g ≡ Some Q → Q.result ≡ Some r
+    → ChargesAtoms r.value)
     → (f : ℕ) (s made : Tree) → Makes p f s made → Charges p f s (atoms_in made)

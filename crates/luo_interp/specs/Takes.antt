@@ -10,4 +10,6 @@ Takes p f s = (P : Procedure) × (slice_get p.procs f ≡ Some P) × Member p P.
 
 -- and it has a result
 abbrev pub TakesForResult : Program → ℕ → Tree → Type 0
-TakesForResult p f s = (P : Procedure) × (r : Result) × (slice_get p.procs f ≡ Some P) × (P.result ≡ Some r) × Member p P.on.node s
+TakesForResult p f s =
+    (P : Procedure) × (r : Result) × (slice_get p.procs f ≡ Some P) × (P.result ≡ Some r)
+    × Member p P.on.node s

@@ -1,4 +1,5 @@
--- What contracts see in tables of labelled collections and of charges over them, and what their calls are given.
+-- What contracts see in tables of labelled collections and of charges over them, and what their
+-- calls are given.
 use Rattle.std.specs.Prelude.{◌≡◌, ℕ, suc, ◌≤◌, ◌<◌, Bool, false, List, [], ◌∷◌, ◌++◌, length, slice_index, Option, Some, None}
 use Rattle.luo_num.specs.declared.limits.TheConstants.{BOUND_LIMIT, SIZE_LIMIT}
 use Rattle.luo_model.specs.declared.program.Universe.TheVariants.{Labelled}
@@ -7,7 +8,8 @@ use Rattle.luo_model.specs.Member.{IsWithin}
 use Rattle.luo_counting.specs.Items.{Suits}
 use Rattle.luo_counting.specs.Numbers.{coll_count, coll_total}
 
--- what a table was made for, the numbers that its calls were given, one for each size from 0 on, and whether the last call answered Over
+-- what a table was made for, the numbers that its calls were given, one for each size from 0 on,
+-- and whether the last call answered Over
 pub record Calls : Type 0 where
   pub kind : Kind
   pub low : ℕ
@@ -36,10 +38,12 @@ start_of k l h n = record { kind = k; low = l; high = h; n_max = n; given = []; 
 abbrev pub numbers : List ℕ → ℕ → ℕ → ℕ
 numbers below here = slice_index (below ++ here ∷ [])
 
--- the numbers of the sizes below are those that were given before; the last of these counts only where one component is within the bounds
+-- the numbers of the sizes below are those that were given before; the last of these counts only
+-- where one component is within the bounds
 pub record Agrees (low : ℕ) (high : Option ℕ) (given below : List ℕ) : Type 0 where
   pub earlier : (m : ℕ) → suc m < length below → slice_index below m ≡ slice_index given m
-  pub last : (m : ℕ) → suc m ≡ length below → IsWithin low high 1 → slice_index below m ≡ slice_index given m
+  pub last : (m : ℕ) → suc m ≡ length below → IsWithin low high 1
+      → slice_index below m ≡ slice_index given m
 
 -- the numbers of a call for the next size go on from those of the calls before
 pub record GoesOn (t : Calls) (below : List ℕ) (here : ℕ) : Type 0 where
@@ -53,12 +57,14 @@ pub record GoesOn (t : Calls) (below : List ℕ) (here : ℕ) : Type 0 where
 abbrev pub number_of : Calls → List ℕ → ℕ → ℕ
 number_of t comp here = coll_count Labelled t.kind (numbers comp here) t.low t.high (length comp)
 
--- what a table of charges was given: the numbers of components, and the sums of the charges over them
+-- what a table of charges was given: the numbers of components, and the sums of the charges over
+-- them
 pub record WalkCalls : Type 0 where
   pub counts : List ℕ
   pub sums : Calls
 
--- the chain of this walk has answered for the size at hand and no later one, and both go on from the calls before
+-- the chain of this walk has answered for the size at hand and no later one, and both go on from
+-- the calls before
 pub record IsNext (chain : Calls) (walk : WalkCalls) (comp body : List ℕ) (here : ℕ) : Type 0 where
   pub same_kind : chain.kind ≡ walk.sums.kind
   pub same_low : chain.low ≡ walk.sums.low
@@ -72,4 +78,6 @@ pub record IsNext (chain : Calls) (walk : WalkCalls) (comp body : List ℕ) (her
 
 -- the sum of the charges over all collections of the next size
 abbrev pub total_of : Calls → List ℕ → ℕ → ℕ
-total_of chain body here = coll_total Labelled chain.kind (slice_index chain.given) (numbers body here) chain.low chain.high (length body)
+total_of chain body here =
+    coll_total Labelled chain.kind (slice_index chain.given)
+    (numbers body here) chain.low chain.high (length body)

@@ -8,7 +8,8 @@ use Rattle.luo_finite.specs.Places.{IsPlace}
 use Rattle.luo_struct.specs.declared.structure.Structure.{Structure}
 use Rattle.luo_struct.specs.View.{tree_of}
 
--- the program, the node and the size whose structures are walked, the next place, and the place where the walk ends
+-- the program, the node and the size whose structures are walked, the next place, and the place
+-- where the walk ends
 pub record Span : Type 0 where
   pub program : Held
   pub node : ℕ
@@ -24,10 +25,12 @@ StandsAt c r t = IsPlace (IsStructure (plain_of c.program) c.node c.size) IsBefo
 abbrev pub HasPassed : Span → Tree → Type 0
 HasPassed c t = (r : ℕ) × (r + 1 ≡ c.place) × StandsAt c r t
 
--- what a cursor answers, and what it is behind it: nothing at the end, else the structure at the next place
+-- what a cursor answers, and what it is behind it: nothing at the end, else the structure at the
+-- next place
 abbrev pub Answers : Span → Option Structure → Span → Type 0
 Answers c None d = (c.place ≡ c.end) × (d ≡ c)
-Answers c (Some s) d = (c.place < c.end) × StandsAt c c.place (tree_of s) × (d ≡ record c { place = c.place + 1 })
+Answers c (Some s) d =
+    (c.place < c.end) × StandsAt c c.place (tree_of s) × (d ≡ record c { place = c.place + 1 })
 
 -- what a cursor answers one after the other, until it answers nothing
 abbrev pub Walk : Span → List Structure → Type 0

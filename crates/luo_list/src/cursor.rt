@@ -38,7 +38,13 @@ impl<'p> Model for Cursor<'p> {
 
     ghost coded = { Prim.hlevel (codes, done.the_row.coded, made.the_row.coded) };
 
-    ghost view = { λ c. record { program = c.ranker.program; node = c.ranker.node; size = c.ranker.size; place = c.place; end = c.end } };
+    ghost view = { λ c. record {
+      program = c.ranker.program;
+      node = c.ranker.node;
+      size = c.ranker.size;
+      place = c.place;
+      end = c.end;
+    } };
 
     ghost invariant = { λ c. (c.place ≤ c.end) × (c.end ≤ c.ranker.count)
         × IsKept c.ranker.program c.ranker.node c.ranker.size c.place c.before };

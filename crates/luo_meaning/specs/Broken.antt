@@ -29,7 +29,14 @@ use Rattle.luo_meaning.specs.Scopes.{Scope, type_at, one_variable, Look, looked_
 
 -- the universe of a source, and what its names mean
 abbrev pub names_alone : Source → Setting
-names_alone source = record { universe = source.universe; names = names_of source; defs = []; nodes = []; signatures = [] }
+names_alone source =
+    record {
+      universe = source.universe;
+      names = names_of source;
+      defs = [];
+      nodes = [];
+      signatures = [];
+    }
 
 -- a rule on names and the universe is broken by this
 abbrev pub BreaksNames : Source → Asked → Breach → Type 0
@@ -52,7 +59,9 @@ NamesType source _ = Unit {0}
 
 -- the name means this procedure
 abbrev pub MeansProcedure : Source → Name → ProcDef → Type 0
-MeansProcedure source name p = (f : ℕ) × (meaning (names_of source) name.text ≡ Some (mean.Procedure f)) × (slice_get source.procs f ≡ Some p)
+MeansProcedure source name p =
+    (f : ℕ) × (meaning (names_of source) name.text ≡ Some (mean.Procedure f))
+    × (slice_get source.procs f ≡ Some p)
 
 module _ (source : Source) where
   -- a variable isn't bound by its scope
@@ -62,33 +71,45 @@ module _ (source : Source) where
   -- an argument is of another type than the parameter
   abbrev pub OtherArgument : Scope → Name → Name → Breach → Type 0
   OtherArgument scope arg callee b =
-      (a : Placed) × (p : ProcDef) × (type_at scope arg.text ≡ Some a) × MeansProcedure source callee p × MeansType source p.on
-      × (IsSameType source a (of_name p.on) → ⊥) × (b ≡ record { rule = Y9; token = arg.at; names = arg.text ∷ callee.text ∷ [] })
+      (a : Placed) × (p : ProcDef) × (type_at scope arg.text ≡ Some a)
+      × MeansProcedure source callee p × MeansType source p.on
+      × (IsSameType source a (of_name p.on) → ⊥)
+      × (b ≡ record { rule = Y9; token = arg.at; names = arg.text ∷ callee.text ∷ [] })
 
   -- a call: its callee is a procedure, its argument is bound, and of the parameter's type
   abbrev pub CallBreaks : Scope → Name → Name → Breach → Type 0
-  CallBreaks scope callee arg b = BreaksNames source (uses a_procedure callee) b ⊎ Unbound scope arg b ⊎ OtherArgument scope arg callee b
+  CallBreaks scope callee arg b =
+      BreaksNames source (uses a_procedure callee) b ⊎ Unbound scope arg b
+      ⊎ OtherArgument scope arg callee b
 
   -- a pattern doesn't fit, where the type that it names, if any, is one
   abbrev pub Misfit : Look → Name → Pattern → Breach → Type 0
   Misfit look var pattern b =
-      NamesType source pattern × (Fits source look pattern → ⊥) × (b ≡ at_token Y11 (first_token pattern) var.text)
+      NamesType source pattern × (Fits source look pattern → ⊥)
+      × (b ≡ at_token Y11 (first_token pattern) var.text)
 
   -- the pattern of an arm: the type that it names is one, it fits, and no name stands in it twice
   abbrev pub PatternBreaks : Look → Name → Pattern → Breach → Type 0
-  PatternBreaks look var pattern b = BreaksSome source (type_asked pattern) b ⊎ Misfit look var pattern b ⊎ BreaksSome source (repeats_asked [] (factor_names pattern)) b
+  PatternBreaks look var pattern b =
+      BreaksSome source (type_asked pattern) b ⊎ Misfit look var pattern b
+      ⊎ BreaksSome source (repeats_asked [] (factor_names pattern)) b
 
   -- a case has not as many arms as there is to look at
   abbrev pub OtherCount : Scope → Name → ℕ → Breach → Type 0
-  OtherCount scope var arms b = (a : Placed) × (looks : List Look) × (type_at scope var.text ≡ Some a) × AreLooks source a looks × (arms ≡ length looks → ⊥) × (b ≡ at_name Y10 var)
+  OtherCount scope var arms b =
+      (a : Placed) × (looks : List Look) × (type_at scope var.text ≡ Some a)
+      × AreLooks source a looks × (arms ≡ length looks → ⊥) × (b ≡ at_name Y10 var)
 
   -- a walk is over what is no collection
   abbrev pub NoCollection : Scope → Name → Breach → Type 0
-  NoCollection scope var b = (a : Placed) × (type_at scope var.text ≡ Some a) × ((f : Placed) → IsCollectionAt source a f → ⊥) × (b ≡ at_name Y12 var)
+  NoCollection scope var b =
+      (a : Placed) × (type_at scope var.text ≡ Some a)
+      × ((f : Placed) → IsCollectionAt source a f → ⊥) × (b ≡ at_name Y12 var)
 
   abbrev mutual
-    -- a statement breaks a rule in this scope. What is inside a case is spoken of where it has as many arms as there is to look at, what is inside
-    -- an arm where its pattern fits, and what is inside a walk where it is over a collection
+    -- a statement breaks a rule in this scope. What is inside a case is spoken of where it has as
+    -- many arms as there is to look at, what is inside an arm where its pattern fits, and what is
+    -- inside a walk where it is over a collection
     pub StmtBreaks : Scope → Stmt → Breach → Type 0
     StmtBreaks scope Skip b = ⊥
     StmtBreaks scope (Charge measure) b = BreaksNames source (uses a_measure measure) b
@@ -96,10 +117,12 @@ module _ (source : Source) where
     StmtBreaks scope (Block' size stmts) b = StmtsBreak scope stmts b
     StmtBreaks scope (Case' var size arms) b =
         Unbound scope var b ⊎ OtherCount scope var (count_arms arms) b
-        ⊎ ((a : Placed) × (looks : List Look) × (type_at scope var.text ≡ Some a) × AreLooks source a looks × (count_arms arms ≡ length looks) × ArmsBreak looks var arms b)
+        ⊎ ((a : Placed) × (looks : List Look) × (type_at scope var.text ≡ Some a)
+        × AreLooks source a looks × (count_arms arms ≡ length looks) × ArmsBreak looks var arms b)
     StmtBreaks scope (Forall' var over size body) b =
         Unbound scope over b ⊎ NoCollection scope over b
-        ⊎ ((a : Placed) × (f : Placed) × (type_at scope over.text ≡ Some a) × IsCollectionAt source a f × StmtsBreak (one_variable var f) body b)
+        ⊎ ((a : Placed) × (f : Placed) × (type_at scope over.text ≡ Some a)
+        × IsCollectionAt source a f × StmtsBreak (one_variable var f) body b)
 
     pub StmtsBreak : Scope → {n : _} → Row_of-Stmt n → Breach → Type 0
     StmtsBreak scope end_of-Stmt b = ⊥
@@ -108,7 +131,9 @@ module _ (source : Source) where
     pub ArmsBreak : List Look → Name → {n : _} → Row_of-SourceArm n → Breach → Type 0
     ArmsBreak (look ∷ looks) var (more_of-SourceArm pattern body rest) b =
         PatternBreaks look var pattern b
-        ⊎ (Fits source look pattern × ((scope : Scope) × BindsScope source pattern (looked_at look) scope × StmtBreaks scope body b))
+        ⊎ (Fits source look pattern
+        × ((scope : Scope) × BindsScope source pattern (looked_at look) scope
+        × StmtBreaks scope body b))
         ⊎ ArmsBreak looks var rest b
     ArmsBreak _ var _ b = ⊥
 
@@ -117,66 +142,88 @@ module _ (source : Source) where
   -- a variable is of another type
   abbrev pub OtherVariable : Scope → Option Placed → Name → Breach → Type 0
   OtherVariable scope wanted var b =
-      (e : Placed) × (a : Placed) × (wanted ≡ Some e) × (type_at scope var.text ≡ Some a) × (IsSameType source a e → ⊥) × (b ≡ at_name Y15 var)
+      (e : Placed) × (a : Placed) × (wanted ≡ Some e) × (type_at scope var.text ≡ Some a)
+      × (IsSameType source a e → ⊥) × (b ≡ at_name Y15 var)
 
   -- a procedure has no result, or one of another type
   abbrev pub OtherResult : Option Placed → Name → Breach → Type 0
   OtherResult wanted callee b =
       (e : Placed) × (p : ProcDef) × (wanted ≡ Some e) × MeansProcedure source callee p
-      × ((result_name p.body ≡ None) ⊎ ((r : Name) × (result_name p.body ≡ Some r) × MeansType source r × (IsSameType source (of_name r) e → ⊥))) × (b ≡ at_name Y15 callee)
+      × ((result_name p.body ≡ None)
+      ⊎ ((r : Name) × (result_name p.body ≡ Some r) × MeansType source r
+      × (IsSameType source (of_name r) e → ⊥))) × (b ≡ at_name Y15 callee)
 
   -- a construct at this token, of this text, isn't one of the type
   abbrev pub OtherConstruct : (Placed → Type 0) → Option Placed → ℕ → List ℕ → Breach → Type 0
-  OtherConstruct Is wanted at text b = (e : Placed) × (wanted ≡ Some e) × (Is e → ⊥) × (b ≡ at_token Y15 at text)
+  OtherConstruct Is wanted at text b =
+      (e : Placed) × (wanted ≡ Some e) × (Is e → ⊥) × (b ≡ at_token Y15 at text)
 
   -- e leads to a union with a branch of this number, from 1, which is of f
   abbrev pub IsBranchAt : ℕ → Placed → Placed → Type 0
-  IsBranchAt number e f = (parts : List Placed) × (i : ℕ) × IsUnionAt source e parts × (number ≡ suc i) × (slice_get parts i ≡ Some f)
+  IsBranchAt number e f =
+      (parts : List Placed) × (i : ℕ) × IsUnionAt source e parts × (number ≡ suc i)
+      × (slice_get parts i ≡ Some f)
 
   abbrev pub HasBranch : ℕ → Placed → Type 0
   HasBranch number e = (f : Placed) × IsBranchAt number e f
 
-  -- what is wanted of the parts of a tuple of k parts: the factors of a product of so many, and else nothing is known
+  -- what is wanted of the parts of a tuple of k parts: the factors of a product of so many, and
+  -- else nothing is known
   pub data WantedParts (wanted : Option Placed) (k : ℕ) : List Placed → Type 0 where
-    the_factors : (e : Placed) (parts : List Placed) → wanted ≡ Some e → IsProductAt source e parts → length parts ≡ k → WantedParts wanted k parts
-    no_factors : (e : Placed) → wanted ≡ Some e → (HasFactors source e k → ⊥) → WantedParts wanted k []
+    the_factors : (e : Placed) (parts : List Placed) → wanted ≡ Some e → IsProductAt source e parts
+        → length parts ≡ k → WantedParts wanted k parts
+    no_factors : (e : Placed) → wanted ≡ Some e → (HasFactors source e k → ⊥)
+        → WantedParts wanted k []
     nothing_known : wanted ≡ None → WantedParts wanted k []
 
   -- what is wanted inside a branch of this number
   pub data WantedInside (wanted : Option Placed) (number : ℕ) : Option Placed → Type 0 where
-    the_branch : (e f : Placed) → wanted ≡ Some e → IsBranchAt number e f → WantedInside wanted number (Some f)
-    no_branch : (e : Placed) → wanted ≡ Some e → (HasBranch number e → ⊥) → WantedInside wanted number None
+    the_branch : (e f : Placed) → wanted ≡ Some e → IsBranchAt number e f
+        → WantedInside wanted number (Some f)
+    no_branch : (e : Placed) → wanted ≡ Some e → (HasBranch number e → ⊥)
+        → WantedInside wanted number None
     none_known : wanted ≡ None → WantedInside wanted number None
 
   abbrev mutual
     pub ValueBreaks : Scope → Option Placed → SourceValue → Breach → Type 0
     ValueBreaks scope wanted (Given var) b = Unbound scope var b ⊎ OtherVariable scope wanted var b
-    ValueBreaks scope wanted (Made callee arg) b = OtherResult wanted callee b ⊎ CallBreaks scope callee arg b
-    ValueBreaks scope wanted (Atom charge at) b = BreaksSome source (charge_asked charge) b ⊎ OtherConstruct (IsAtomAt source) wanted at (codes "atom") b
+    ValueBreaks scope wanted (Made callee arg) b =
+        OtherResult wanted callee b ⊎ CallBreaks scope callee arg b
+    ValueBreaks scope wanted (Atom charge at) b =
+        BreaksSome source (charge_asked charge) b
+        ⊎ OtherConstruct (IsAtomAt source) wanted at (codes "atom") b
     ValueBreaks scope wanted (Tuple' size parts at) b =
         OtherConstruct (λ e. HasFactors source e (count_values parts)) wanted at (codes "product") b
-        ⊎ ((es : List Placed) × WantedParts wanted (count_values parts) es × ValuesBreak scope es parts b)
+        ⊎ ((es : List Placed) × WantedParts wanted (count_values parts) es
+        × ValuesBreak scope es parts b)
     ValueBreaks scope wanted (Branch' number at size inner) b =
-        OtherConstruct (HasBranch number) wanted at (decimal number) b ⊎ ((w : Option Placed) × WantedInside wanted number w × InnerBreaks scope w inner b)
+        OtherConstruct (HasBranch number) wanted at (decimal number) b
+        ⊎ ((w : Option Placed) × WantedInside wanted number w × InnerBreaks scope w inner b)
     ValueBreaks scope wanted (value.Case' var size arms) b =
         Unbound scope var b ⊎ OtherCount scope var (count_value_arms arms) b
-        ⊎ ((a : Placed) × (looks : List Look) × (type_at scope var.text ≡ Some a) × AreLooks source a looks × (count_value_arms arms ≡ length looks)
+        ⊎ ((a : Placed) × (looks : List Look) × (type_at scope var.text ≡ Some a)
+        × AreLooks source a looks × (count_value_arms arms ≡ length looks)
         × ValueArmsBreak looks wanted var arms b)
 
     -- parts of which these are wanted, and of further ones nothing is known
     pub ValuesBreak : Scope → List Placed → {n : _} → Row_of-SourceValue n → Breach → Type 0
     ValuesBreak scope es end_of-SourceValue b = ⊥
-    ValuesBreak scope [] (more_of-SourceValue v rest) b = ValueBreaks scope None v b ⊎ ValuesBreak scope [] rest b
-    ValuesBreak scope (e ∷ es) (more_of-SourceValue v rest) b = ValueBreaks scope (Some e) v b ⊎ ValuesBreak scope es rest b
+    ValuesBreak scope [] (more_of-SourceValue v rest) b =
+        ValueBreaks scope None v b ⊎ ValuesBreak scope [] rest b
+    ValuesBreak scope (e ∷ es) (more_of-SourceValue v rest) b =
+        ValueBreaks scope (Some e) v b ⊎ ValuesBreak scope es rest b
 
     pub InnerBreaks : Scope → Option Placed → {n : _} → Row_of-SourceValue n → Breach → Type 0
     InnerBreaks scope wanted end_of-SourceValue b = ⊥
     InnerBreaks scope wanted (more_of-SourceValue v rest) b = ValueBreaks scope wanted v b
 
-    pub ValueArmsBreak : List Look → Option Placed → Name → {n : _} → Row_of-SourceValueArm n → Breach → Type 0
+    pub ValueArmsBreak : List Look → Option Placed → Name → {n : _} → Row_of-SourceValueArm n
+        → Breach → Type 0
     ValueArmsBreak (look ∷ looks) wanted var (more_of-SourceValueArm pattern v rest) b =
         PatternBreaks look var pattern b
-        ⊎ (Fits source look pattern × ((scope : Scope) × BindsScope source pattern (looked_at look) scope × ValueBreaks scope wanted v b))
+        ⊎ (Fits source look pattern
+        × ((scope : Scope) × BindsScope source pattern (looked_at look) scope
+        × ValueBreaks scope wanted v b))
         ⊎ ValueArmsBreak looks wanted var rest b
     ValueArmsBreak _ wanted var _ b = ⊥
 
@@ -193,14 +240,19 @@ module _ (source : Source) where
 
   -- what is inside a body is spoken of where the parameter's type is one
   abbrev pub BodyBreaks : ProcDef → ProcBody → Breach → Type 0
-  BodyBreaks p (Statements stmts) b = MeansType source p.on × ListBreaks (one_variable p.param (of_name p.on)) stmts b
+  BodyBreaks p (Statements stmts) b =
+      MeansType source p.on × ListBreaks (one_variable p.param (of_name p.on)) stmts b
   BodyBreaks p (Value colon result v) b =
       BreaksNames source (results colon p.name) b ⊎ BreaksNames source (uses a_type result) b
-      ⊎ (MeansType source p.on × ((w : Option Placed) × WantedResult result w × ValueBreaks (one_variable p.param (of_name p.on)) w v b))
+      ⊎ (MeansType source p.on
+      × ((w : Option Placed) × WantedResult result w
+      × ValueBreaks (one_variable p.param (of_name p.on)) w v b))
 
   -- procedure f
   abbrev pub ProcBreaks : ℕ → ProcDef → Breach → Type 0
-  ProcBreaks f p b = BreaksNames source (defines p.name (mean.Procedure f)) b ⊎ BreaksNames source (uses a_type p.on) b ⊎ BodyBreaks p p.body b
+  ProcBreaks f p b =
+      BreaksNames source (defines p.name (mean.Procedure f)) b
+      ⊎ BreaksNames source (uses a_type p.on) b ⊎ BodyBreaks p p.body b
 
   abbrev pub ProcsBreak : ℕ → List ProcDef → Breach → Type 0
   ProcsBreak f [] b = ⊥
@@ -212,15 +264,18 @@ module _ (source : Source) where
 
   -- procedures or analyze lines do
   abbrev pub ProceduresBreak : Breach → Type 0
-  ProceduresBreak b = ProcsBreak 0 source.procs b ⊎ BreaksSome source (map (uses a_procedure) source.analyses) b
+  ProceduresBreak b =
+      ProcsBreak 0 source.procs b ⊎ BreaksSome source (map (uses a_procedure) source.analyses) b
 
-  -- a rule is broken: by definitions and measures, or, where they break none, by procedures and analyze lines
+  -- a rule is broken: by definitions and measures, or, where they break none, by procedures and
+  -- analyze lines
   abbrev pub IsBrokenIn : Breach → Type 0
   IsBrokenIn b = DefinitionsBreak b ⊎ (((a : Breach) → DefinitionsBreak a → ⊥) × ProceduresBreak b)
 
 -- this is broken, and nothing is broken before it
 abbrev pub IsFirstBrokenIn : Source → Breach → Type 0
-IsFirstBrokenIn source first = IsBrokenIn source first × ((b : Breach) → IsBrokenIn source b → first.token ≤ b.token)
+IsFirstBrokenIn source first =
+    IsBrokenIn source first × ((b : Breach) → IsBrokenIn source b → first.token ≤ b.token)
 
 -- no rule is broken
 abbrev pub BreaksNothingIn : Source → Type 0

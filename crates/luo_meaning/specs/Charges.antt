@@ -23,23 +23,33 @@ module _ (source : Source) (R : List ℕ → Tree → ℕ → Type 0) where
     -- `m`: the value of the measure m
     StmtCharges env (Charge measure) q = DefinesMeasure source measure.text q
     -- `p(x)`: what the procedure p charges on the structure of x
-    StmtCharges env (Call callee arg) q = (t : Tree) × (structure_of env arg.text ≡ Some t) × R callee.text t q
+    StmtCharges env (Call callee arg) q =
+        (t : Tree) × (structure_of env arg.text ≡ Some t) × R callee.text t q
     -- `begin .. end`: the sum over its statements
     StmtCharges env (Block' size stmts) q = StmtsCharge env stmts q
     -- `case x of .. end`: what the arm for the structure of x charges
-    StmtCharges env (Case' var size arms) q = (t : Tree) × (structure_of env var.text ≡ Some t) × ArmsCharge arms t q
-    -- `forall v in x do ..`: the sum over the components of x, copies included, of what the body charges with v alone bound to it
-    StmtCharges env (Forall' var over size body) q = (ts : Trees) × (structure_of env over.text ≡ Some (Coll ts)) × EachCharges (λ t. StmtsCharge ((var.text, t) ∷ []) body) ts q
+    StmtCharges env (Case' var size arms) q =
+        (t : Tree) × (structure_of env var.text ≡ Some t) × ArmsCharge arms t q
+    -- `forall v in x do ..`: the sum over the components of x, copies included, of what the body
+    -- charges with v alone bound to it
+    StmtCharges env (Forall' var over size body) q =
+        (ts : Trees) × (structure_of env over.text ≡ Some (Coll ts))
+        × EachCharges (λ t. StmtsCharge ((var.text, t) ∷ []) body) ts q
 
     pub StmtsCharge : Environment → {n : _} → Row_of-Stmt n → ℕ → Type 0
     StmtsCharge env end_of-Stmt q = q ≡ 0
-    StmtsCharge env (more_of-Stmt stmt rest) q = (a : ℕ) × (b : ℕ) × StmtCharges env stmt a × StmtsCharge env rest b × (q ≡ a + b)
+    StmtsCharge env (more_of-Stmt stmt rest) q =
+        (a : ℕ) × (b : ℕ) × StmtCharges env stmt a × StmtsCharge env rest b × (q ≡ a + b)
 
-    -- on a structure of branch i the arm in place i, from 1, and on a tuple the one arm; its scope has what its pattern binds, and nothing else
+    -- on a structure of branch i the arm in place i, from 1, and on a tuple the one arm; its scope
+    -- has what its pattern binds, and nothing else
     pub ArmsCharge : {n : _} → Row_of-SourceArm n → Tree → ℕ → Type 0
-    ArmsCharge (more_of-SourceArm pattern body rest) (Inj (suc zero) t) q = StmtCharges (binds pattern t) body q
-    ArmsCharge (more_of-SourceArm pattern body rest) (Inj (suc (suc i)) t) q = ArmsCharge rest (Inj (suc i) t) q
-    ArmsCharge (more_of-SourceArm pattern body end_of-SourceArm) (Tup ts) q = StmtCharges (binds pattern (Tup ts)) body q
+    ArmsCharge (more_of-SourceArm pattern body rest) (Inj (suc zero) t) q =
+        StmtCharges (binds pattern t) body q
+    ArmsCharge (more_of-SourceArm pattern body rest) (Inj (suc (suc i)) t) q =
+        ArmsCharge rest (Inj (suc i) t) q
+    ArmsCharge (more_of-SourceArm pattern body end_of-SourceArm) (Tup ts) q =
+        StmtCharges (binds pattern (Tup ts)) body q
     ArmsCharge _ _ q = ⊥
 
   abbrev mutual
@@ -47,7 +57,8 @@ module _ (source : Source) (R : List ℕ → Tree → ℕ → Type 0) where
     -- `x`: nothing
     ValueCharges env (Given name) q = q ≡ 0
     -- `p(x)`: what the procedure p charges on the structure of x
-    ValueCharges env (Made callee arg) q = (t : Tree) × (structure_of env arg.text ≡ Some t) × R callee.text t q
+    ValueCharges env (Made callee arg) q =
+        (t : Tree) × (structure_of env arg.text ≡ Some t) × R callee.text t q
     -- `atom`: nothing; `m atom`: the value of the measure m
     ValueCharges env (Atom None at) q = q ≡ 0
     ValueCharges env (Atom (Some measure) at) q = DefinesMeasure source measure.text q
@@ -56,11 +67,13 @@ module _ (source : Source) (R : List ℕ → Tree → ℕ → Type 0) where
     -- `i : v`: what v does
     ValueCharges env (Branch' number at size inner) q = InnerCharges env inner q
     -- `case x of .. end`: what the arm for the structure of x charges
-    ValueCharges env (value.Case' var size arms) q = (t : Tree) × (structure_of env var.text ≡ Some t) × ValueArmsCharge arms t q
+    ValueCharges env (value.Case' var size arms) q =
+        (t : Tree) × (structure_of env var.text ≡ Some t) × ValueArmsCharge arms t q
 
     pub ValuesCharge : Environment → {n : _} → Row_of-SourceValue n → ℕ → Type 0
     ValuesCharge env end_of-SourceValue q = q ≡ 0
-    ValuesCharge env (more_of-SourceValue v rest) q = (a : ℕ) × (b : ℕ) × ValueCharges env v a × ValuesCharge env rest b × (q ≡ a + b)
+    ValuesCharge env (more_of-SourceValue v rest) q =
+        (a : ℕ) × (b : ℕ) × ValueCharges env v a × ValuesCharge env rest b × (q ≡ a + b)
 
     -- the one value inside a branch
     pub InnerCharges : Environment → {n : _} → Row_of-SourceValue n → ℕ → Type 0
@@ -69,14 +82,18 @@ module _ (source : Source) (R : List ℕ → Tree → ℕ → Type 0) where
 
     -- arms with values: as those with statements
     pub ValueArmsCharge : {n : _} → Row_of-SourceValueArm n → Tree → ℕ → Type 0
-    ValueArmsCharge (more_of-SourceValueArm pattern body rest) (Inj (suc zero) t) q = ValueCharges (binds pattern t) body q
-    ValueArmsCharge (more_of-SourceValueArm pattern body rest) (Inj (suc (suc i)) t) q = ValueArmsCharge rest (Inj (suc i) t) q
-    ValueArmsCharge (more_of-SourceValueArm pattern body end_of-SourceValueArm) (Tup ts) q = ValueCharges (binds pattern (Tup ts)) body q
+    ValueArmsCharge (more_of-SourceValueArm pattern body rest) (Inj (suc zero) t) q =
+        ValueCharges (binds pattern t) body q
+    ValueArmsCharge (more_of-SourceValueArm pattern body rest) (Inj (suc (suc i)) t) q =
+        ValueArmsCharge rest (Inj (suc i) t) q
+    ValueArmsCharge (more_of-SourceValueArm pattern body end_of-SourceValueArm) (Tup ts) q =
+        ValueCharges (binds pattern (Tup ts)) body q
     ValueArmsCharge _ _ q = ⊥
 
   abbrev pub ListCharges : Environment → List Stmt → ℕ → Type 0
   ListCharges env [] q = q ≡ 0
-  ListCharges env (stmt ∷ stmts) q = (a : ℕ) × (b : ℕ) × StmtCharges env stmt a × ListCharges env stmts b × (q ≡ a + b)
+  ListCharges env (stmt ∷ stmts) q =
+      (a : ℕ) × (b : ℕ) × StmtCharges env stmt a × ListCharges env stmts b × (q ≡ a + b)
 
   -- the body of a procedure: statements, or the value of its result
   abbrev pub BodyCharges : Environment → ProcBody → ℕ → Type 0
@@ -86,7 +103,9 @@ module _ (source : Source) (R : List ℕ → Tree → ℕ → Type 0) where
 -- the procedure of this name charges q on t, where calls go at most so deep
 abbrev pub ProcChargesWithin : Source → ℕ → List ℕ → Tree → ℕ → Type 0
 ProcChargesWithin source zero text t q = ⊥
-ProcChargesWithin source (suc depth) text t q = (p : ProcDef) × DefinesProcedure source text p × BodyCharges source (ProcChargesWithin source depth) ((p.param.text, t) ∷ []) p.body q
+ProcChargesWithin source (suc depth) text t q =
+    (p : ProcDef) × DefinesProcedure source text p
+    × BodyCharges source (ProcChargesWithin source depth) ((p.param.text, t) ∷ []) p.body q
 
 -- the procedure of this name charges q on t: what its body charges with its parameter bound to t
 abbrev pub ProcCharges : Source → List ℕ → Tree → ℕ → Type 0

@@ -10,9 +10,12 @@ use Rattle.luo_meaning.specs.Structures.{exprs_in}
 -- e is the type expression, or stands somewhere inside it
 pub data IsIn (e : TypeExpr) : TypeExpr → Type 0 where
   itself : IsIn e e
-  in_union : {size : _} {parts : _} (i : ℕ) (f : TypeExpr) → slice_get (exprs_in parts) i ≡ Some f → IsIn e f → IsIn e (Union' size parts)
-  in_product : {size : _} {parts : _} {at : ℕ} (i : ℕ) (f : TypeExpr) → slice_get (exprs_in parts) i ≡ Some f → IsIn e f → IsIn e (Product' size parts at)
-  in_collection : {kind : Kind} {size : _} {part : _} {bound : Option Bound} {at : ℕ} (f : TypeExpr) → exprs_in part ≡ f ∷ [] → IsIn e f → IsIn e (Coll' kind size part bound at)
+  in_union : {size : _} {parts : _} (i : ℕ) (f : TypeExpr) → slice_get (exprs_in parts) i ≡ Some f
+      → IsIn e f → IsIn e (Union' size parts)
+  in_product : {size : _} {parts : _} {at : ℕ} (i : ℕ) (f : TypeExpr)
+      → slice_get (exprs_in parts) i ≡ Some f → IsIn e f → IsIn e (Product' size parts at)
+  in_collection : {kind : Kind} {size : _} {part : _} {bound : Option Bound} {at : ℕ} (f : TypeExpr)
+      → exprs_in part ≡ f ∷ [] → IsIn e f → IsIn e (Coll' kind size part bound at)
 
 -- it is no name
 abbrev pub IsConstruct : TypeExpr → Type 0
@@ -21,4 +24,6 @@ IsConstruct _ = Unit {0}
 
 -- e is no name, and stands in a right side of the source
 abbrev pub IsConstructOf : Source → TypeExpr → Type 0
-IsConstructOf source e = (text : List ℕ) × (right : TypeExpr) × DefinesType source text right × IsIn e right × IsConstruct e
+IsConstructOf source e =
+    (text : List ℕ) × (right : TypeExpr) × DefinesType source text right × IsIn e right
+    × IsConstruct e

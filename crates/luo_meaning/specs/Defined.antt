@@ -14,11 +14,13 @@ IsNamedIn text names = (name : Name) × In name names × (name.text ≡ text)
 
 -- `type .., text, .. = right;` stands in the source
 abbrev pub DefinesType : Source → List ℕ → TypeExpr → Type 0
-DefinesType source text right = (d : TypeDef) × In d source.types × IsNamedIn text d.names × (d.body ≡ right)
+DefinesType source text right =
+    (d : TypeDef) × In d source.types × IsNamedIn text d.names × (d.body ≡ right)
 
 -- `measure .., text, .. : value;` stands in the source
 abbrev pub DefinesMeasure : Source → List ℕ → ℕ → Type 0
-DefinesMeasure source text value = (m : MeasureDef) × In m source.measures × IsNamedIn text m.names × (m.value ≡ value)
+DefinesMeasure source text value =
+    (m : MeasureDef) × In m source.measures × IsNamedIn text m.names × (m.value ≡ value)
 
 -- `procedure text ..` stands in the source, and is p
 abbrev pub DefinesProcedure : Source → List ℕ → ProcDef → Type 0

@@ -1,4 +1,5 @@
--- The counts and totals of a source one by one: what they are called, their order, and the first one that is too large.
+-- The counts and totals of a source one by one: what they are called, their order, and the first
+-- one that is too large.
 use Rattle.std.specs.Prelude.{◌≡◌, ◌⊎◌, ℕ, zero, suc, ◌+◌, ◌<◌, ◌≤◌, ◌++◌, List, [], ◌∷◌, flat_map, codes, decimal, Some, slice_get}
 use Rattle.luo_num.specs.declared.TheConstants.{MAX}
 use Rattle.luo_model.specs.declared.table.Entry.{Entry}
@@ -19,12 +20,14 @@ use Rattle.luo_meaning.specs.Sites.{sites_in, SomeSiteOf}
 -- type expressions at these places, one behind the other
 abbrev pub placed : List ℕ → ℕ → List TypeExpr → List Placed
 placed text place [] = []
-placed text place (e ∷ es) = record { name = text; place = place; form = e } ∷ placed text (suc place) es
+placed text place (e ∷ es) =
+    record { name = text; place = place; form = e } ∷ placed text (suc place) es
 
 abbrev pub constructs_of : Definition → List Placed
 constructs_of d = placed d.name.text 0 (constructs_in d.right)
 
--- the constructs of a source in the order of the names that it defines, each name with a copy of its right side
+-- the constructs of a source in the order of the names that it defines, each name with a copy of
+-- its right side
 abbrev pub constructs : Source → List Placed
 constructs source = flat_map constructs_of (definitions source)
 
@@ -49,18 +52,26 @@ place_text name place = name ++ codes "." ++ decimal place
 
 -- what an entry is called: `count of t.0`, `total of p.1`
 abbrev pub IsEntryText : Source → Entry → List ℕ → Type 0
-IsEntryText source (Count x) text = (c : Placed) × (slice_get (constructs source) x ≡ Some c) × (text ≡ codes "count of " ++ place_text c.name c.place)
-IsEntryText source (Total i) text = (s : List ℕ × ℕ) × (slice_get (site_places source) i ≡ Some s) × (text ≡ codes "total of " ++ place_text s.0 s.1)
+IsEntryText source (Count x) text =
+    (c : Placed) × (slice_get (constructs source) x ≡ Some c)
+    × (text ≡ codes "count of " ++ place_text c.name c.place)
+IsEntryText source (Total i) text =
+    (s : List ℕ × ℕ) × (slice_get (site_places source) i ≡ Some s)
+    × (text ≡ codes "total of " ++ place_text s.0 s.1)
 
 -- the number of an entry at size n
 abbrev pub IsNumberOf : Source → Entry → ℕ → ℕ → Type 0
-IsNumberOf source (Count x) n v = (c : Placed) × (slice_get (constructs source) x ≡ Some c) × IsCountOf source c.form n v
-IsNumberOf source (Total i) n v = SomeSiteOf source (λ number e charges level. (number ≡ i) × IsTotalOf source e charges n v)
+IsNumberOf source (Count x) n v =
+    (c : Placed) × (slice_get (constructs source) x ≡ Some c) × IsCountOf source c.form n v
+IsNumberOf source (Total i) n v =
+    SomeSiteOf source (λ number e charges level. (number ≡ i) × IsTotalOf source e charges n v)
 
 -- the rank of a construct, and of the type of a site's variable
 abbrev pub HasRank : Source → Entry → ℕ → Type 0
-HasRank source (Count x) r = (c : Placed) × (slice_get (constructs source) x ≡ Some c) × IsRankOf source c.form r
-HasRank source (Total i) r = SomeSiteOf source (λ number e charges level. (number ≡ i) × IsRankOf source e r)
+HasRank source (Count x) r =
+    (c : Placed) × (slice_get (constructs source) x ≡ Some c) × IsRankOf source c.form r
+HasRank source (Total i) r =
+    SomeSiteOf source (λ number e charges level. (number ≡ i) × IsRankOf source e r)
 
 -- the level of a site
 abbrev pub HasLevel : Source → ℕ → ℕ → Type 0
@@ -72,13 +83,16 @@ HasLevel source i l = SomeSiteOf source (λ number e charges level. (number ≡ 
 abbrev pub LessOr : ℕ → ℕ → Type 0 → Type 0
 LessOr a b rest = (a < b) ⊎ ((a ≡ b) × rest)
 
--- at one size all counts come first, by rank and then as they stand; then all totals, by rank, then by level, and then as they stand
+-- at one size all counts come first, by rank and then as they stand; then all totals, by rank, then
+-- by level, and then as they stand
 abbrev pub Precedes : Source → Entry → Entry → Type 0
-Precedes source (Count x) (Count y) = (r : ℕ) × (q : ℕ) × HasRank source (Count x) r × HasRank source (Count y) q × LessOr r q (x < y)
+Precedes source (Count x) (Count y) =
+    (r : ℕ) × (q : ℕ) × HasRank source (Count x) r × HasRank source (Count y) q × LessOr r q (x < y)
 Precedes source (Count x) (Total j) = Unit {0}
 Precedes source (Total i) (Count y) = ⊥
 Precedes source (Total i) (Total j) =
-    (r : ℕ) × (q : ℕ) × (l : ℕ) × (m : ℕ) × HasRank source (Total i) r × HasRank source (Total j) q × HasLevel source i l × HasLevel source j m
+    (r : ℕ) × (q : ℕ) × (l : ℕ) × (m : ℕ) × HasRank source (Total i) r × HasRank source (Total j) q
+    × HasLevel source i l × HasLevel source j m
     × LessOr r q (LessOr l m (i < j))
 
 -- entries come by size, and those of one size in that order
@@ -90,9 +104,12 @@ abbrev pub Has : Fill → Entry → Type 0
 Has fill (Count x) = Unit {0}
 Has fill (Total i) = fill ≡ All
 
--- of the entries of the sizes up to the last, this one at size n is the first whose number is past the last number of tables
-pub record IsFirstOver (source : Source) (last : ℕ) (fill : Fill) (entry : Entry) (n : ℕ) : Type 0 where
+-- of the entries of the sizes up to the last, this one at size n is the first whose number is past
+-- the last number of tables
+pub record IsFirstOver (source : Source) (last : ℕ) (fill : Fill) (entry : Entry)
+    (n : ℕ) : Type 0 where
   pub had : Has fill entry
   pub within : n ≤ last
   pub over : (v : ℕ) × IsNumberOf source entry n v × (MAX < v)
-  pub earlier : (other : Entry) (m v : ℕ) → Has fill other → IsEarlier source other m entry n → IsNumberOf source other m v → v ≤ MAX
+  pub earlier : (other : Entry) (m v : ℕ) → Has fill other → IsEarlier source other m entry n
+      → IsNumberOf source other m v → v ≤ MAX

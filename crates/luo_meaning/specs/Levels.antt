@@ -16,7 +16,8 @@ module _ (R : List ℕ → ℕ → Type 0) where
   CallLevel callee n = (m : ℕ) × R callee m × (n ≡ suc m)
 
   abbrev mutual
-    -- a call is one above its own level, a case and a walk are at 1, and what has none of them is at 0; of more the greatest counts
+    -- a call is one above its own level, a case and a walk are at 1, and what has none of them is
+    -- at 0; of more the greatest counts
     pub StmtLevel : Stmt → ℕ → Type 0
     StmtLevel (Call callee arg) n = (m : ℕ) × CallLevel callee.text m × (n ≡ suc m)
     StmtLevel (Block' size stmts) n = StmtsLevel stmts n
@@ -26,7 +27,8 @@ module _ (R : List ℕ → ℕ → Type 0) where
 
     pub StmtsLevel : {n : _} → Row_of-Stmt n → ℕ → Type 0
     StmtsLevel end_of-Stmt n = n ≡ 0
-    StmtsLevel (more_of-Stmt stmt rest) n = (a : ℕ) × (b : ℕ) × StmtLevel stmt a × StmtsLevel rest b × (n ≡ max a b)
+    StmtsLevel (more_of-Stmt stmt rest) n =
+        (a : ℕ) × (b : ℕ) × StmtLevel stmt a × StmtsLevel rest b × (n ≡ max a b)
 
   abbrev mutual
     -- values alike
@@ -39,7 +41,8 @@ module _ (R : List ℕ → ℕ → Type 0) where
 
     pub ValuesLevel : {n : _} → Row_of-SourceValue n → ℕ → Type 0
     ValuesLevel end_of-SourceValue n = n ≡ 0
-    ValuesLevel (more_of-SourceValue v rest) n = (a : ℕ) × (b : ℕ) × ValueLevel v a × ValuesLevel rest b × (n ≡ max a b)
+    ValuesLevel (more_of-SourceValue v rest) n =
+        (a : ℕ) × (b : ℕ) × ValueLevel v a × ValuesLevel rest b × (n ≡ max a b)
 
     pub InnerLevel : {n : _} → Row_of-SourceValue n → ℕ → Type 0
     InnerLevel end_of-SourceValue n = n ≡ 0
@@ -47,7 +50,8 @@ module _ (R : List ℕ → ℕ → Type 0) where
 
   abbrev pub ListLevel : List Stmt → ℕ → Type 0
   ListLevel [] n = n ≡ 0
-  ListLevel (stmt ∷ stmts) n = (a : ℕ) × (b : ℕ) × StmtLevel stmt a × ListLevel stmts b × (n ≡ max a b)
+  ListLevel (stmt ∷ stmts) n =
+      (a : ℕ) × (b : ℕ) × StmtLevel stmt a × ListLevel stmts b × (n ≡ max a b)
 
   abbrev pub BodyLevel : ProcBody → ℕ → Type 0
   BodyLevel (Statements stmts) n = ListLevel stmts n
@@ -56,7 +60,9 @@ module _ (R : List ℕ → ℕ → Type 0) where
 -- the level of the procedure of this name, where calls go at most so deep
 abbrev pub ProcLevelWithin : Source → ℕ → List ℕ → ℕ → Type 0
 ProcLevelWithin source zero text n = ⊥
-ProcLevelWithin source (suc depth) text n = (p : ProcDef) × DefinesProcedure source text p × BodyLevel (ProcLevelWithin source depth) p.body n
+ProcLevelWithin source (suc depth) text n =
+    (p : ProcDef) × DefinesProcedure source text p
+    × BodyLevel (ProcLevelWithin source depth) p.body n
 
 -- the level of the procedure of this name: that of its body
 abbrev pub ProcLevel : Source → List ℕ → ℕ → Type 0

@@ -24,22 +24,30 @@ module _ (source : Source) (R : List ℕ → Tree → Tree → Type 0) where
     -- `x`: the structure of x itself
     ValueMakes e env (Given name) r = structure_of env name.text ≡ Some r
     -- `p(x)`: what the procedure p makes of the structure of x
-    ValueMakes e env (Made callee arg) r = (t : Tree) × (structure_of env arg.text ≡ Some t) × R callee.text t r
+    ValueMakes e env (Made callee arg) r =
+        (t : Tree) × (structure_of env arg.text ≡ Some t) × R callee.text t r
     -- `atom`, `m atom`: the atom without label that is of e
-    ValueMakes e env (Atom charge at) r = (weight : ℕ) × (r ≡ tree.Atom weight 0) × IsOf source e (tree.Atom weight 0)
-    -- `product(..)`, where e leads to a product: a tuple of what its parts make, each for its factor
-    ValueMakes e env (Tuple' size parts at) r = (es : List TypeExpr) × (ts : Trees) × IsProductOf source e es × ValuesMake es env parts ts × (r ≡ Tup ts)
+    ValueMakes e env (Atom charge at) r =
+        (weight : ℕ) × (r ≡ tree.Atom weight 0) × IsOf source e (tree.Atom weight 0)
+    -- `product(..)`, where e leads to a product: a tuple of what its parts make, each for its
+    -- factor
+    ValueMakes e env (Tuple' size parts at) r =
+        (es : List TypeExpr) × (ts : Trees) × IsProductOf source e es × ValuesMake es env parts ts
+        × (r ≡ Tup ts)
     -- `i : v`, where e leads to a union: what v makes for branch i, under this number
     ValueMakes e env (Branch' number at size inner) r =
-        (es : List TypeExpr) × (i : ℕ) × (f : TypeExpr) × (t : Tree) × IsUnionOf source e es × (number ≡ suc i)
+        (es : List TypeExpr) × (i : ℕ) × (f : TypeExpr) × (t : Tree) × IsUnionOf source e es
+        × (number ≡ suc i)
         × (slice_get es i ≡ Some f) × InnerMakes f env inner t × (r ≡ Inj number t)
     -- `case x of .. end`: what the arm for the structure of x makes
-    ValueMakes e env (Case' var size arms) r = (t : Tree) × (structure_of env var.text ≡ Some t) × ArmsMake e arms t r
+    ValueMakes e env (Case' var size arms) r =
+        (t : Tree) × (structure_of env var.text ≡ Some t) × ArmsMake e arms t r
 
     -- as many parts as factors and trees, each part makes its tree
     pub ValuesMake : List TypeExpr → Environment → {n : _} → Row_of-SourceValue n → Trees → Type 0
     ValuesMake [] env end_of-SourceValue none = Unit {0}
-    ValuesMake (e ∷ es) env (more_of-SourceValue v rest) (more t ts) = ValueMakes e env v t × ValuesMake es env rest ts
+    ValuesMake (e ∷ es) env (more_of-SourceValue v rest) (more t ts) =
+        ValueMakes e env v t × ValuesMake es env rest ts
     ValuesMake _ env _ _ = ⊥
 
     -- the one value inside a branch
@@ -49,9 +57,12 @@ module _ (source : Source) (R : List ℕ → Tree → Tree → Type 0) where
 
     -- arms by their places, as where they charge
     pub ArmsMake : TypeExpr → {n : _} → Row_of-SourceValueArm n → Tree → Tree → Type 0
-    ArmsMake e (more_of-SourceValueArm pattern v rest) (Inj (suc zero) t) r = ValueMakes e (binds pattern t) v r
-    ArmsMake e (more_of-SourceValueArm pattern v rest) (Inj (suc (suc i)) t) r = ArmsMake e rest (Inj (suc i) t) r
-    ArmsMake e (more_of-SourceValueArm pattern v end_of-SourceValueArm) (Tup ts) r = ValueMakes e (binds pattern (Tup ts)) v r
+    ArmsMake e (more_of-SourceValueArm pattern v rest) (Inj (suc zero) t) r =
+        ValueMakes e (binds pattern t) v r
+    ArmsMake e (more_of-SourceValueArm pattern v rest) (Inj (suc (suc i)) t) r =
+        ArmsMake e rest (Inj (suc i) t) r
+    ArmsMake e (more_of-SourceValueArm pattern v end_of-SourceValueArm) (Tup ts) r =
+        ValueMakes e (binds pattern (Tup ts)) v r
     ArmsMake e _ _ r = ⊥
 
   -- statements make nothing
@@ -62,7 +73,9 @@ module _ (source : Source) (R : List ℕ → Tree → Tree → Type 0) where
 -- the procedure of this name makes r of t, where calls go at most so deep
 abbrev pub ProcMakesWithin : Source → ℕ → List ℕ → Tree → Tree → Type 0
 ProcMakesWithin source zero text t r = ⊥
-ProcMakesWithin source (suc depth) text t r = (p : ProcDef) × DefinesProcedure source text p × BodyMakes source (ProcMakesWithin source depth) ((p.param.text, t) ∷ []) p.body r
+ProcMakesWithin source (suc depth) text t r =
+    (p : ProcDef) × DefinesProcedure source text p
+    × BodyMakes source (ProcMakesWithin source depth) ((p.param.text, t) ∷ []) p.body r
 
 -- the procedure of this name makes r of t: what its value makes with its parameter bound to t
 abbrev pub ProcMakes : Source → List ℕ → Tree → Tree → Type 0

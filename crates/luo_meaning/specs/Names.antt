@@ -32,4 +32,5 @@ entries source =
 -- a name means what the first entry of this name says, and nothing where there is none
 abbrev pub NamesMeanFirstEntries : Type 0
 NamesMeanFirstEntries =
-    (source : Source) (text : List ℕ) → meaning (names_of source) text ≡ meaning (entries source) text
+    (source : Source) (text : List ℕ)
+    → meaning (names_of source) text ≡ meaning (entries source) text

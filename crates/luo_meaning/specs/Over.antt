@@ -16,4 +16,5 @@ HasTotal source n t = SomeSiteOf source (λ number e charges level. IsTotalOf so
 
 -- some count or total of a size up to `last` is above `most`
 abbrev pub HasOver : Source → ℕ → ℕ → Type 0
-HasOver source most last = (n : ℕ) × (v : ℕ) × (n ≤ last) × (most < v) × (HasCount source n v ⊎ HasTotal source n v)
+HasOver source most last =
+    (n : ℕ) × (v : ℕ) × (n ≤ last) × (most < v) × (HasCount source n v ⊎ HasTotal source n v)

@@ -16,13 +16,15 @@ abbrev mutual
   constructs_in (type.Atom weight weight_at at) = type.Atom weight weight_at at ∷ []
   constructs_in (Union' size parts) = Union' size parts ∷ constructs_among parts
   constructs_in (Product' size parts at) = Product' size parts at ∷ constructs_among parts
-  constructs_in (Coll' kind size part bound at) = Coll' kind size part bound at ∷ constructs_among part
+  constructs_in (Coll' kind size part bound at) =
+      Coll' kind size part bound at ∷ constructs_among part
 
   pub constructs_among : {n : _} → Row_of-TypeExpr n → List TypeExpr
   constructs_among end_of-TypeExpr = []
   constructs_among (more_of-TypeExpr e rest) = constructs_in e ++ constructs_among rest
 
--- a type expression with the name of the definition in whose right side it stands, and the number of constructs before it there
+-- a type expression with the name of the definition in whose right side it stands, and the number
+-- of constructs before it there
 pub record Placed : Type 0 where
   pub name : List ℕ
   pub place : ℕ
@@ -39,13 +41,17 @@ right_of d = record { name = d.name.text; place = 0; form = d.right }
 -- type expressions of a row, the first behind so many constructs
 abbrev pub parts_from : List ℕ → ℕ → {n : _} → Row_of-TypeExpr n → List Placed
 parts_from text place end_of-TypeExpr = []
-parts_from text place (more_of-TypeExpr e rest) = record { name = text; place = place; form = e } ∷ parts_from text (place + length (constructs_in e)) rest
+parts_from text place (more_of-TypeExpr e rest) =
+    record { name = text; place = place; form = e }
+    ∷ parts_from text (place + length (constructs_in e)) rest
 
 -- from one type expression one comes to another by going from names to what they stand for
 pub data LeadsAt (source : Source) (c : Placed) : Placed → Type 0 where
   itself : LeadsAt source c c
-  by_name : {text : List ℕ} {place : ℕ} {name : Name} (d : Definition) → In d (definitions source) → d.name.text ≡ name.text
-      → LeadsAt source c (right_of d) → LeadsAt source c (record { name = text; place = place; form = Named name })
+  by_name : {text : List ℕ} {place : ℕ} {name : Name} (d : Definition) → In d (definitions source)
+      → d.name.text ≡ name.text
+      → LeadsAt source c (right_of d)
+      → LeadsAt source c (record { name = text; place = place; form = Named name })
 
 -- the same type: both lead to constructs, and these stand in one place
 pub record IsSameType (source : Source) (a b : Placed) : Type 0 where
@@ -58,20 +64,31 @@ pub record IsSameType (source : Source) (a b : Placed) : Type 0 where
   pub name : c.name ≡ d.name
   pub place : c.place ≡ d.place
 
--- it leads to a union of these branches, a product of these factors, or a collection of this component, each in its place
+-- it leads to a union of these branches, a product of these factors, or a collection of this
+-- component, each in its place
 pub data IsUnionAt (source : Source) (a : Placed) : List Placed → Type 0 where
-  union_at : {text : List ℕ} {place : ℕ} {size : _} {parts : _} → LeadsAt source (record { name = text; place = place; form = Union' size parts }) a
+  union_at : {text : List ℕ} {place : ℕ} {size : _} {parts : _}
+      → LeadsAt source (record { name = text; place = place; form = Union' size parts }) a
       → IsUnionAt source a (parts_from text (suc place) parts)
 
 pub data IsProductAt (source : Source) (a : Placed) : List Placed → Type 0 where
-  product_at : {text : List ℕ} {place : ℕ} {size : _} {parts : _} {at : ℕ} → LeadsAt source (record { name = text; place = place; form = Product' size parts at }) a
+  product_at : {text : List ℕ} {place : ℕ} {size : _} {parts : _} {at : ℕ}
+      → LeadsAt source (record { name = text; place = place; form = Product' size parts at }) a
       → IsProductAt source a (parts_from text (suc place) parts)
 
 pub data IsCollectionAt (source : Source) (a : Placed) : Placed → Type 0 where
-  collection_at : {text : List ℕ} {place : ℕ} {kind : _} {size : _} {part : _} {bound : _} {at : ℕ} (f : Placed) → parts_from text (suc place) part ≡ f ∷ []
-      → LeadsAt source (record { name = text; place = place; form = Coll' kind size part bound at }) a → IsCollectionAt source a f
+  collection_at : {text : List ℕ} {place : ℕ} {kind : _} {size : _} {part : _} {bound : _} {at : ℕ}
+      (f : Placed) → parts_from text (suc place) part ≡ f ∷ []
+      → LeadsAt source
+      (record { name = text; place = place; form = Coll' kind size part bound at }) a
+      → IsCollectionAt source a f
 
 -- it leads to an atom or `epsilon`
 pub data IsAtomAt (source : Source) (a : Placed) : Type 0 where
-  atom_at : {text : List ℕ} {place : ℕ} {weight weight_at at : ℕ} → LeadsAt source (record { name = text; place = place; form = type.Atom weight weight_at at }) a → IsAtomAt source a
-  epsilon_at : {text : List ℕ} {place : ℕ} {at : ℕ} → LeadsAt source (record { name = text; place = place; form = Epsilon at }) a → IsAtomAt source a
+  atom_at : {text : List ℕ} {place : ℕ} {weight weight_at at : ℕ}
+      → LeadsAt source
+      (record { name = text; place = place; form = type.Atom weight weight_at at }) a
+      → IsAtomAt source a
+  epsilon_at : {text : List ℕ} {place : ℕ} {at : ℕ}
+      → LeadsAt source (record { name = text; place = place; form = Epsilon at }) a
+      → IsAtomAt source a

@@ -13,7 +13,8 @@ use Rattle.luo_source.specs.declared.types.TypeExpr.{TypeExpr, Named, Epsilon, U
 use Rattle.luo_source.specs.declared.source.Source.{Source}
 use Rattle.luo_meaning.specs.Defined.{DefinesType}
 
--- the type expressions of a row, from the left: branches, factors, or the one component of a collection
+-- the type expressions of a row, from the left: branches, factors, or the one component of a
+-- collection
 abbrev pub exprs_in : {n : _} → Row_of-TypeExpr n → List TypeExpr
 exprs_in end_of-TypeExpr = []
 exprs_in (more_of-TypeExpr e rest) = e ∷ exprs_in rest
@@ -23,7 +24,8 @@ abbrev pub least_count : Kind → ℕ
 least_count Cycle = 1
 least_count _ = 0
 
--- `card = n`, `card <= n`, `card >= n` or `low <= card <= high` allows k components; what sets no lower bound leaves the kind's own
+-- `card = n`, `card <= n`, `card >= n` or `low <= card <= high` allows k components; what sets no
+-- lower bound leaves the kind's own
 abbrev pub IsInRange : Kind → Range → ℕ → Type 0
 IsInRange kind (Exactly n) k = k ≡ n
 IsInRange kind (AtMost n) k = (least_count kind ≤ k) × (k ≤ n)
@@ -39,26 +41,35 @@ mutual
   -- the tree is a structure of the type expression: one rule for each form
   pub data IsOf (source : Source) : TypeExpr → Tree → Type 0 where
     -- `name`: what is of the right side that the name stands for
-    by_name : {name : Name} {t : Tree} (right : TypeExpr) → DefinesType source name.text right → IsOf source right t → IsOf source (Named name) t
+    by_name : {name : Name} {t : Tree} (right : TypeExpr) → DefinesType source name.text right
+        → IsOf source right t → IsOf source (Named name) t
     -- `epsilon`: the atom of weight 0, without label
     empty : {at : ℕ} → IsOf source (Epsilon at) (Atom 0 0)
     -- `atom(w)`: an atom of weight w, labelled where the universe is and w is 1
-    atom : {weight weight_at at label : ℕ} → IsLabel source.universe weight label → IsOf source (type.Atom weight weight_at at) (Atom weight label)
+    atom : {weight weight_at at label : ℕ} → IsLabel source.universe weight label
+        → IsOf source (type.Atom weight weight_at at) (Atom weight label)
     -- `e0 | e1 | ..`: a structure of one of the branches, under the number of that branch, from 1
-    branch : {size : _} {parts : _} {t : Tree} (i : ℕ) (e : TypeExpr) → slice_get (exprs_in parts) i ≡ Some e → IsOf source e t → IsOf source (Union' size parts) (Inj (suc i) t)
+    branch : {size : _} {parts : _} {t : Tree} (i : ℕ) (e : TypeExpr)
+        → slice_get (exprs_in parts) i ≡ Some e → IsOf source e t
+        → IsOf source (Union' size parts) (Inj (suc i) t)
     -- `product(e0, e1, ..)`: a tuple with a structure of each factor, in order
-    tuple : {size : _} {parts : _} {at : ℕ} {ts : Trees} → AreOf source (exprs_in parts) ts → IsOf source (Product' size parts at) (Tup ts)
-    -- `sequence(e, bound)`, `set`, `cycle`, `multiset`, `powerset`: structures of e, of a number that is allowed, standing as the kind says
-    collection : {kind : Kind} {size : _} {part : _} {bound : Option Bound} {at : ℕ} {ts : Trees} (e : TypeExpr)
+    tuple : {size : _} {parts : _} {at : ℕ} {ts : Trees} → AreOf source (exprs_in parts) ts
+        → IsOf source (Product' size parts at) (Tup ts)
+    -- `sequence(e, bound)`, `set`, `cycle`, `multiset`, `powerset`: structures of e, of a number
+    -- that is allowed, standing as the kind says
+    collection : {kind : Kind} {size : _} {part : _} {bound : Option Bound} {at : ℕ} {ts : Trees}
+        (e : TypeExpr)
         → exprs_in part ≡ e ∷ [] → AllowsCount kind bound (length (to_list ts)) → EachOf source e ts
         → ComponentsStand kind (to_list ts) → IsOf source (Coll' kind size part bound at) (Coll ts)
 
   -- as many trees as type expressions, each of its own
   pub data AreOf (source : Source) : List TypeExpr → Trees → Type 0 where
     no_parts : AreOf source [] none
-    more_parts : {e : TypeExpr} {es : List TypeExpr} {t : Tree} {ts : Trees} → IsOf source e t → AreOf source es ts → AreOf source (e ∷ es) (more t ts)
+    more_parts : {e : TypeExpr} {es : List TypeExpr} {t : Tree} {ts : Trees} → IsOf source e t
+        → AreOf source es ts → AreOf source (e ∷ es) (more t ts)
 
   -- trees, all of the same type expression
   pub data EachOf (source : Source) : TypeExpr → Trees → Type 0 where
     no_components : {e : TypeExpr} → EachOf source e none
-    more_components : {e : TypeExpr} {t : Tree} {ts : Trees} → IsOf source e t → EachOf source e ts → EachOf source e (more t ts)
+    more_components : {e : TypeExpr} {t : Tree} {ts : Trees} → IsOf source e t → EachOf source e ts
+        → EachOf source e (more t ts)

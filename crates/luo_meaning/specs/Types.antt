@@ -15,19 +15,23 @@ use Rattle.luo_meaning.specs.Structures.{exprs_in}
 -- from a type expression one comes to c by going from names to what they stand for
 pub data LeadsTo (source : Source) (c : TypeExpr) : TypeExpr → Type 0 where
   itself : LeadsTo source c c
-  by_name : {name : Name} (right : TypeExpr) → DefinesType source name.text right → LeadsTo source c right → LeadsTo source c (type.Named name)
+  by_name : {name : Name} (right : TypeExpr) → DefinesType source name.text right
+      → LeadsTo source c right → LeadsTo source c (type.Named name)
 
 -- it leads to a union of these branches
 pub data IsUnionOf (source : Source) (e : TypeExpr) : List TypeExpr → Type 0 where
-  union_of : {size : _} {parts : _} → LeadsTo source (Union' size parts) e → IsUnionOf source e (exprs_in parts)
+  union_of : {size : _} {parts : _} → LeadsTo source (Union' size parts) e
+      → IsUnionOf source e (exprs_in parts)
 
 -- it leads to a product of these factors
 pub data IsProductOf (source : Source) (e : TypeExpr) : List TypeExpr → Type 0 where
-  product_of : {size : _} {parts : _} {at : ℕ} → LeadsTo source (Product' size parts at) e → IsProductOf source e (exprs_in parts)
+  product_of : {size : _} {parts : _} {at : ℕ} → LeadsTo source (Product' size parts at) e
+      → IsProductOf source e (exprs_in parts)
 
 -- it leads to a collection of this component
 pub data IsCollectionOf (source : Source) (e : TypeExpr) : TypeExpr → Type 0 where
-  collection_of : {kind : Kind} {size : _} {part : _} {bound : Option Bound} {at : ℕ} (f : TypeExpr) → exprs_in part ≡ f ∷ []
+  collection_of : {kind : Kind} {size : _} {part : _} {bound : Option Bound} {at : ℕ} (f : TypeExpr)
+      → exprs_in part ≡ f ∷ []
       → LeadsTo source (Coll' kind size part bound at) e → IsCollectionOf source e f
 
 -- the variables of a scope: names with types
@@ -48,11 +52,15 @@ typed _ _ = []
 abbrev pub BindsTypes : Source → Pattern → TypeExpr → Types → Type 0
 BindsTypes source (Named name) e types = types ≡ []
 BindsTypes source (NamedWhole name var) e types = types ≡ (var.text, e) ∷ []
-BindsTypes source (NamedParts name names) e types = (es : List TypeExpr) × IsProductOf source e es × (types ≡ typed names es)
-BindsTypes source (Parts names at) e types = (es : List TypeExpr) × IsProductOf source e es × (types ≡ typed names es)
+BindsTypes source (NamedParts name names) e types =
+    (es : List TypeExpr) × IsProductOf source e es × (types ≡ typed names es)
+BindsTypes source (Parts names at) e types =
+    (es : List TypeExpr) × IsProductOf source e es × (types ≡ typed names es)
 BindsTypes source (Any at) e types = types ≡ []
 BindsTypes source (AnyWhole var at) e types = types ≡ (var.text, e) ∷ []
 
--- what the arms of a case on e look at, in order: structures of each branch of a union, or those of a product themselves
+-- what the arms of a case on e look at, in order: structures of each branch of a union, or those of
+-- a product themselves
 abbrev pub AreStands : Source → TypeExpr → List TypeExpr → Type 0
-AreStands source e stands = IsUnionOf source e stands ⊎ ((es : List TypeExpr) × IsProductOf source e es × (stands ≡ e ∷ []))
+AreStands source e stands =
+    IsUnionOf source e stands ⊎ ((es : List TypeExpr) × IsProductOf source e es × (stands ≡ e ∷ []))

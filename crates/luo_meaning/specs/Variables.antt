@@ -21,7 +21,8 @@ abbrev pub paired : List Name → List Tree → Environment
 paired (name ∷ names) (t ∷ ts) = (name.text, t) ∷ paired names ts
 paired _ _ = []
 
--- what a pattern binds of what its arm looks at, the structure inside a branch or a tuple itself: `x` after `as` names it, `(a, b)` its parts
+-- what a pattern binds of what its arm looks at, the structure inside a branch or a tuple itself:
+-- `x` after `as` names it, `(a, b)` its parts
 abbrev pub binds : Pattern → Tree → Environment
 binds (Named type) t = []
 binds (NamedWhole type name) t = (name.text, t) ∷ []

@@ -13,9 +13,11 @@ use Rattle.luo_rules.specs.Counted.{multiset_of}
 use Rattle.luo_meaning.specs.Structures.{exprs_in}
 use Rattle.luo_meaning.specs.Types.{LeadsTo, Types, type_of, BindsTypes, AreStands}
 
--- a walk over e has components of f, and counts 1 where e leads to a multiset or a powerset, and else 0
+-- a walk over e has components of f, and counts 1 where e leads to a multiset or a powerset, and
+-- else 0
 pub data IsWalkOver (source : Source) (e f : TypeExpr) : ℕ → Type 0 where
-  walk_over : {kind : Kind} {size : _} {part : _} {bound : Option Bound} {at : ℕ} → exprs_in part ≡ f ∷ []
+  walk_over : {kind : Kind} {size : _} {part : _} {bound : Option Bound} {at : ℕ}
+      → exprs_in part ≡ f ∷ []
       → LeadsTo source (Coll' kind size part bound at) e → IsWalkOver source e f (multiset_of kind)
 
 module _ (source : Source) where
@@ -23,24 +25,30 @@ module _ (source : Source) where
     -- the walks in a statement, whose scope has variables of these types
     pub StmtWalks : Types → Stmt → ℕ → Type 0
     StmtWalks types (Block' size stmts) n = StmtsWalk types stmts n
-    StmtWalks types (Case' var size arms) n = (e : TypeExpr) × (stands : List TypeExpr) × (type_of types var.text ≡ Some e) × AreStands source e stands × ArmsWalk stands arms n
+    StmtWalks types (Case' var size arms) n =
+        (e : TypeExpr) × (stands : List TypeExpr) × (type_of types var.text ≡ Some e)
+        × AreStands source e stands × ArmsWalk stands arms n
     StmtWalks types (Forall' var over size body) n =
-        (e : TypeExpr) × (f : TypeExpr) × (a : ℕ) × (b : ℕ) × (type_of types over.text ≡ Some e) × IsWalkOver source e f a × StmtsWalk ((var.text, f) ∷ []) body b × (n ≡ a + b)
+        (e : TypeExpr) × (f : TypeExpr) × (a : ℕ) × (b : ℕ) × (type_of types over.text ≡ Some e)
+        × IsWalkOver source e f a × StmtsWalk ((var.text, f) ∷ []) body b × (n ≡ a + b)
     StmtWalks types _ n = n ≡ 0
 
     pub StmtsWalk : Types → {n : _} → Row_of-Stmt n → ℕ → Type 0
     StmtsWalk types end_of-Stmt n = n ≡ 0
-    StmtsWalk types (more_of-Stmt stmt rest) n = (a : ℕ) × (b : ℕ) × StmtWalks types stmt a × StmtsWalk types rest b × (n ≡ a + b)
+    StmtsWalk types (more_of-Stmt stmt rest) n =
+        (a : ℕ) × (b : ℕ) × StmtWalks types stmt a × StmtsWalk types rest b × (n ≡ a + b)
 
     pub ArmsWalk : List TypeExpr → {n : _} → Row_of-SourceArm n → ℕ → Type 0
     ArmsWalk stands end_of-SourceArm n = n ≡ 0
     ArmsWalk [] (more_of-SourceArm pattern body rest) n = ⊥
     ArmsWalk (e ∷ stands) (more_of-SourceArm pattern body rest) n =
-        (types : Types) × (a : ℕ) × (b : ℕ) × BindsTypes source pattern e types × StmtWalks types body a × ArmsWalk stands rest b × (n ≡ a + b)
+        (types : Types) × (a : ℕ) × (b : ℕ) × BindsTypes source pattern e types
+        × StmtWalks types body a × ArmsWalk stands rest b × (n ≡ a + b)
 
   abbrev pub ListWalks : Types → List Stmt → ℕ → Type 0
   ListWalks types [] n = n ≡ 0
-  ListWalks types (stmt ∷ stmts) n = (a : ℕ) × (b : ℕ) × StmtWalks types stmt a × ListWalks types stmts b × (n ≡ a + b)
+  ListWalks types (stmt ∷ stmts) n =
+      (a : ℕ) × (b : ℕ) × StmtWalks types stmt a × ListWalks types stmts b × (n ≡ a + b)
 
   -- values have no walks
   abbrev pub BodyWalks : Types → ProcBody → ℕ → Type 0
@@ -50,4 +58,6 @@ module _ (source : Source) where
   -- the walks in procedures
   abbrev pub ProcsWalk : List ProcDef → ℕ → Type 0
   ProcsWalk [] n = n ≡ 0
-  ProcsWalk (p ∷ ps) n = (a : ℕ) × (b : ℕ) × BodyWalks ((p.param.text, type.Named p.on) ∷ []) p.body a × ProcsWalk ps b × (n ≡ a + b)
+  ProcsWalk (p ∷ ps) n =
+      (a : ℕ) × (b : ℕ) × BodyWalks ((p.param.text, type.Named p.on) ∷ []) p.body a × ProcsWalk ps b
+      × (n ≡ a + b)

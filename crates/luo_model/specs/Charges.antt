@@ -31,13 +31,19 @@ module _ (R : ℕ → Tree → ℕ → Type 0) where
 
     pub ItemsCharge : Items → List Tree → ℕ → Type 0
     ItemsCharge no_items vars q = q ≡ 0
-    ItemsCharge (item i is) vars q = (a : ℕ) × (b : ℕ) × ItemCharges i vars a × ItemsCharge is vars b × (q ≡ a + b)
+    ItemsCharge (item i is) vars q =
+        (a : ℕ) × (b : ℕ) × ItemCharges i vars a × ItemsCharge is vars b × (q ≡ a + b)
 
-    -- a call charges what its procedure does on the variable, a case what the arm does, a walk what its body does on each component, copies included
+    -- a call charges what its procedure does on the variable, a case what the arm does, a walk what
+    -- its body does on each component, copies included
     pub ItemCharges : Item → List Tree → ℕ → Type 0
-    ItemCharges (Call var callee site) vars q = (t : Tree) × (slice_get vars var ≡ Some t) × R callee t q
-    ItemCharges (Case var arms site) vars q = (t : Tree) × (slice_get vars var ≡ Some t) × CaseCharges arms t q
-    ItemCharges (Forall var body body_site site) vars q = (ts : Trees) × (slice_get vars var ≡ Some (Coll ts)) × EachCharges (λ t. BodyCharges body (t ∷ [])) ts q
+    ItemCharges (Call var callee site) vars q =
+        (t : Tree) × (slice_get vars var ≡ Some t) × R callee t q
+    ItemCharges (Case var arms site) vars q =
+        (t : Tree) × (slice_get vars var ≡ Some t) × CaseCharges arms t q
+    ItemCharges (Forall var body body_site site) vars q =
+        (ts : Trees) × (slice_get vars var ≡ Some (Coll ts))
+        × EachCharges (λ t. BodyCharges body (t ∷ [])) ts q
 
     -- a structure of branch i charges what arm i does, and a tuple what the one arm does
     pub CaseCharges : Arms → Tree → ℕ → Type 0
@@ -49,7 +55,9 @@ module _ (R : ℕ → Tree → ℕ → Type 0) where
 -- what a procedure charges on a structure, by calls that are at most so many deep
 abbrev pub ChargesWithin : List Procedure → ℕ → ℕ → Tree → ℕ → Type 0
 ChargesWithin procs zero f s q = ⊥
-ChargesWithin procs (suc depth) f s q = (P : Procedure) × (slice_get procs f ≡ Some P) × BodyCharges (ChargesWithin procs depth) P.body (s ∷ []) q
+ChargesWithin procs (suc depth) f s q =
+    (P : Procedure) × (slice_get procs f ≡ Some P)
+    × BodyCharges (ChargesWithin procs depth) P.body (s ∷ []) q
 
 -- procedure f charges q on s
 abbrev pub Charges : Program → ℕ → Tree → ℕ → Type 0
@@ -63,7 +71,8 @@ pub data Work : Type 0 where
   of_case : Arms → Work
   of_walk : Body → Work
 
--- the sites with what is done there: each item behind all that stands inside it, and a walk's body directly before the walk
+-- the sites with what is done there: each item behind all that stands inside it, and a walk's body
+-- directly before the walk
 abbrev mutual
   pub works_of_body : Body → List (ℕ × Work)
   works_of_body (Does own items) = works_of_items items
@@ -75,7 +84,8 @@ abbrev mutual
   pub works_of_item : Item → List (ℕ × Work)
   works_of_item (Call var callee site) = (site, of_call callee) ∷ []
   works_of_item (Case var arms site) = works_of_arms arms ++ (site, of_case arms) ∷ []
-  works_of_item (Forall var body body_site site) = works_of_body body ++ (body_site, of_body body) ∷ ((site, of_walk body) ∷ [])
+  works_of_item (Forall var body body_site site) =
+      works_of_body body ++ (body_site, of_body body) ∷ ((site, of_walk body) ∷ [])
 
   pub works_of_arms : Arms → List (ℕ × Work)
   works_of_arms no_arms = []
@@ -92,7 +102,8 @@ abbrev pub WorkCharges : Program → Work → Tree → ℕ → Type 0
 WorkCharges p (of_body body) s q = BodyCharges (Charges p) body (s ∷ []) q
 WorkCharges p (of_call callee) s q = Charges p callee s q
 WorkCharges p (of_case arms) s q = CaseCharges (Charges p) arms s q
-WorkCharges p (of_walk body) s q = (ts : Trees) × (s ≡ Coll ts) × EachCharges (λ t. BodyCharges (Charges p) body (t ∷ [])) ts q
+WorkCharges p (of_walk body) s q =
+    (ts : Trees) × (s ≡ Coll ts) × EachCharges (λ t. BodyCharges (Charges p) body (t ∷ [])) ts q
 
 -- site i charges q on s
 abbrev pub SiteCharges : Program → ℕ → Tree → ℕ → Type 0

@@ -14,7 +14,10 @@ abbrev pub Bears : Universe → List ℕ → List ℕ → Type 0
 Bears Unlabelled L labels = Unit {0}
 Bears Labelled L labels = Holds L labels
 
--- a collection of size n on the labels L: items of M, as many as the bounds allow, that stand as the kind wants them
-abbrev pub IsCollectionOf : {A : Type 0} → Universe → (A → Type 0) → (A → ℕ) → (A → List ℕ) → (A → A → Type 0) → Kind → ℕ → Option ℕ → List ℕ → ℕ → List A → Type 0
+-- a collection of size n on the labels L: items of M, as many as the bounds allow, that stand as
+-- the kind wants them
+abbrev pub IsCollectionOf : {A : Type 0} → Universe → (A → Type 0) → (A → ℕ) → (A → List ℕ)
+    → (A → A → Type 0) → Kind → ℕ → Option ℕ → List ℕ → ℕ → List A → Type 0
 IsCollectionOf u M size labels Before kind low high L n xs =
-    IsWithin low high (length xs) × Each M xs × StandAs (λ x. least_of (labels x)) Before kind xs × (total size xs ≡ n) × Bears u L (flat_map labels xs)
+    IsWithin low high (length xs) × Each M xs × StandAs (λ x. least_of (labels x)) Before kind xs
+    × (total size xs ≡ n) × Bears u L (flat_map labels xs)

@@ -22,7 +22,15 @@ node s = record { shape = s; owner = 0; place = 0 }
 
 -- the program of these nodes and procedures
 abbrev pub program : Universe → List Node → List Procedure → Program
-program universe nodes procs = record { universe = universe; defs = []; nodes = nodes; procs = procs; sites = []; analyses = [] }
+program universe nodes procs =
+    record {
+      universe = universe;
+      defs = [];
+      nodes = nodes;
+      procs = procs;
+      sites = [];
+      analyses = [];
+    }
 
 -- a procedure on node x with this body, whose whole has this site
 abbrev pub procedure : ℕ → Body → ℕ → Procedure
@@ -39,15 +47,24 @@ three s t u = more s (two t u)
 
 -- e = epsilon; z = atom(1); node 2 is product(e, z)
 abbrev pub beside_nothing : Program
-beside_nothing = program Unlabelled (node (shape.Atom 0) ∷ (node (shape.Atom 1) ∷ (node (shape.Product (part 0 ∷ (part 1 ∷ []))) ∷ []))) []
+beside_nothing =
+    program Unlabelled
+    (node (shape.Atom 0)
+    ∷ (node (shape.Atom 1) ∷ (node (shape.Product (part 0 ∷ (part 1 ∷ []))) ∷ []))) []
 
 -- an atom of weight 1, node 1 the collection of this kind of such atoms, with these bounds
 abbrev pub collection : Universe → Kind → ℕ → Option ℕ → Program
-collection universe kind low high = program universe (node (shape.Atom 1) ∷ (node (shape.Coll kind (part 0) low high) ∷ [])) []
+collection universe kind low high =
+    program universe (node (shape.Atom 1) ∷ (node (shape.Coll kind (part 0) low high) ∷ [])) []
 
 -- atoms of weights 1 and 2, node 2 either of them, node 3 the multiset of such
 abbrev pub multisets_of_two_sizes : Program
-multisets_of_two_sizes = program Unlabelled (node (shape.Atom 1) ∷ (node (shape.Atom 2) ∷ (node (shape.Union (part 0 ∷ (part 1 ∷ []))) ∷ (node (shape.Coll Multiset (part 2) 0 None) ∷ [])))) []
+multisets_of_two_sizes =
+    program Unlabelled
+    (node (shape.Atom 1)
+    ∷ (node (shape.Atom 2)
+    ∷ (node (shape.Union (part 0 ∷ (part 1 ∷ [])))
+    ∷ (node (shape.Coll Multiset (part 2) 0 None) ∷ [])))) []
 
 abbrev pub small : Tree
 small = Inj 1 (Atom 1 0)
@@ -78,32 +95,50 @@ each_row (labels ∷ lists) = more (row labels) (each_row lists)
 abbrev pub rows : List (List ℕ) → Tree
 rows lists = Coll (each_row lists)
 
--- z = atom(1); node 1 is z | z, and a procedure on it charges 3 in the first branch and 5 in the second; site 0 is its case, and site 1 its whole
+-- z = atom(1); node 1 is z | z, and a procedure on it charges 3 in the first branch and 5 in the
+-- second; site 0 is its case, and site 1 its whole
 abbrev pub choosing : Program
-choosing = record (program Unlabelled (node (shape.Atom 1) ∷ (node (shape.Union (part 0 ∷ (part 0 ∷ []))) ∷ []))
-    (procedure 1 (Does 0 (item (Case 0 (arm Nothing (Does 3 no_items) (arm Nothing (Does 5 no_items) no_arms)) 0) no_items)) 1 ∷ []))
-    { sites = record { node = 1; caller = 0; place = 0 } ∷ (record { node = 1; caller = 0; place = 1 } ∷ []) }
+choosing =
+    record (program Unlabelled
+    (node (shape.Atom 1) ∷ (node (shape.Union (part 0 ∷ (part 0 ∷ []))) ∷ []))
+    (procedure 1
+    (Does 0 (item (Case 0
+    (arm Nothing (Does 3 no_items) (arm Nothing (Does 5 no_items) no_arms)) 0) no_items)) 1 ∷ [])) {
+      sites = record { node = 1; caller = 0; place = 0 }
+          ∷ (record { node = 1; caller = 0; place = 1 } ∷ []);
+    }
 
 -- multisets of atoms of weight 1, and a walk that charges 1 at each component
 abbrev pub walking : Program
-walking = program Unlabelled (node (shape.Atom 1) ∷ (node (shape.Coll Multiset (part 0) 0 None) ∷ []))
+walking =
+    program Unlabelled (node (shape.Atom 1) ∷ (node (shape.Coll Multiset (part 0) 0 None) ∷ []))
     (procedure 1 (Does 0 (item (Forall 0 (Does 1 no_items) 0 1) no_items)) 2 ∷ [])
 
 -- an atom, and a procedure that charges 1 and calls itself on it
 abbrev pub looping : Program
-looping = program Unlabelled (node (shape.Atom 1) ∷ []) (procedure 0 (Does 1 (item (Call 0 0 0) no_items)) 1 ∷ [])
+looping =
+    program Unlabelled (node (shape.Atom 1) ∷ [])
+    (procedure 0 (Does 1 (item (Call 0 0 0) no_items)) 1 ∷ [])
 
--- node 0 is z = atom(1), and node 1 is z | z, of which node 2 is a collection of this kind and these bounds
+-- node 0 is z = atom(1), and node 1 is z | z, of which node 2 is a collection of this kind and
+-- these bounds
 abbrev pub of_two : Kind → ℕ → Option ℕ → Program
 of_two kind low high = program Unlabelled
-    (node (shape.Atom 1) ∷ (node (shape.Union (part 0 ∷ (part 0 ∷ []))) ∷ (node (shape.Coll kind (part 1) low high) ∷ []))) []
+    (node (shape.Atom 1)
+    ∷ (node (shape.Union (part 0 ∷ (part 0 ∷ [])))
+    ∷ (node (shape.Coll kind (part 1) low high) ∷ []))) []
 
 -- labelled points; node 1 are sets of them, and node 2 pairs of such sets
 abbrev pub pairs_of_sets : Program
 pairs_of_sets = program Labelled
-    (node (shape.Atom 1) ∷ (node (shape.Coll Set (part 0) 0 None) ∷ (node (shape.Product (part 1 ∷ (part 1 ∷ []))) ∷ []))) []
+    (node (shape.Atom 1)
+    ∷ (node (shape.Coll Set (part 0) 0 None)
+    ∷ (node (shape.Product (part 1 ∷ (part 1 ∷ []))) ∷ []))) []
 
--- labelled points; node 1 are sequences of them, and node 2 collections of this kind of such sequences
+-- labelled points; node 1 are sequences of them, and node 2 collections of this kind of such
+-- sequences
 abbrev pub of_sequences : Kind → Program
 of_sequences kind = program Labelled
-    (node (shape.Atom 1) ∷ (node (shape.Coll Sequence (part 0) 0 None) ∷ (node (shape.Coll kind (part 1) 1 None) ∷ []))) []
+    (node (shape.Atom 1)
+    ∷ (node (shape.Coll Sequence (part 0) 0 None) ∷ (node (shape.Coll kind (part 1) 1 None) ∷ [])))
+    []

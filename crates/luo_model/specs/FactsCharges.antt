@@ -11,7 +11,8 @@ ChargesOnly p f s q = Charges p f s q × ((other : ℕ) → Charges p f s other 
 
 -- a case charges what the arm of the branch does, and not what another does
 abbrev pub CasesTakeTheirArm : Type 0
-CasesTakeTheirArm = ChargesOnly choosing 0 (Inj 1 (point 0)) 3 × ChargesOnly choosing 0 (Inj 2 (point 0)) 5
+CasesTakeTheirArm =
+    ChargesOnly choosing 0 (Inj 1 (point 0)) 3 × ChargesOnly choosing 0 (Inj 2 (point 0)) 5
 
 -- a walk over two equal components charges each of them
 abbrev pub CopiesAreChargedEach : Type 0

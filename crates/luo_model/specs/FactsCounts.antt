@@ -33,11 +33,16 @@ LabelledPointsAreCounted =
 
 -- sets of cycles are counted as permutations, and pairs of sets as the subsets of their labels
 abbrev pub LabelledProductsAreCounted : Type 0
-LabelledProductsAreCounted = HasCounts permutations 2 0 (1 ∷ 1 ∷ 2 ∷ 6 ∷ []) × HasCounts pairs_of_sets 2 0 (1 ∷ 2 ∷ 4 ∷ 8 ∷ [])
+LabelledProductsAreCounted =
+    HasCounts permutations 2 0 (1 ∷ 1 ∷ 2 ∷ 6 ∷ [])
+    × HasCounts pairs_of_sets 2 0 (1 ∷ 2 ∷ 4 ∷ 8 ∷ [])
 
--- of two kinds of points there are n + 1 multisets of n, and sets without copies as the subsets of the two
+-- of two kinds of points there are n + 1 multisets of n, and sets without copies as the subsets of
+-- the two
 abbrev pub CopiesAreCounted : Type 0
-CopiesAreCounted = HasCounts (of_two Multiset 0 None) 2 0 (1 ∷ 2 ∷ 3 ∷ 4 ∷ []) × HasCounts (of_two Powerset 0 None) 2 0 (1 ∷ 2 ∷ 1 ∷ 0 ∷ [])
+CopiesAreCounted =
+    HasCounts (of_two Multiset 0 None) 2 0 (1 ∷ 2 ∷ 3 ∷ 4 ∷ [])
+    × HasCounts (of_two Powerset 0 None) 2 0 (1 ∷ 2 ∷ 1 ∷ 0 ∷ [])
 
 -- integers have as many partitions as multisets of parts
 abbrev pub PartitionsAreCounted : Type 0

@@ -51,7 +51,8 @@ BoundsAreReached =
     IsStructure (collection Unlabelled Sequence 0 (Some 2)) 1 2 (row (0 ∷ 0 ∷ []))
     × (Member (collection Unlabelled Sequence 0 (Some 2)) 1 (row (0 ∷ 0 ∷ 0 ∷ [])) → ⊥)
 
--- the labels of a structure of size 2 are 1 and 2 in some order; with 1 and 3 it is a member, and no structure of any size, and with 1 twice neither
+-- the labels of a structure of size 2 are 1 and 2 in some order; with 1 and 3 it is a member, and
+-- no structure of any size, and with 1 twice neither
 abbrev pub NoLabelIsSkipped : Type 0
 NoLabelIsSkipped =
     IsStructure (collection Labelled Sequence 0 None) 1 2 (row (2 ∷ 1 ∷ []))
@@ -59,15 +60,18 @@ NoLabelIsSkipped =
     × ((n : ℕ) → IsStructure (collection Labelled Sequence 0 None) 1 n (row (1 ∷ 3 ∷ [])) → ⊥)
     × ((n : ℕ) → IsStructure (collection Labelled Sequence 0 None) 1 n (row (1 ∷ 1 ∷ [])) → ⊥)
 
--- a structure on other labels carries these: one on the first labels is none, and neither is one that leaves a label out or has one twice
+-- a structure on other labels carries these: one on the first labels is none, and neither is one
+-- that leaves a label out or has one twice
 abbrev pub OtherLabelsAreCarried : Type 0
 OtherLabelsAreCarried =
     IsStructureOn (collection Labelled Sequence 0 None) 1 (2 ∷ 5 ∷ []) 2 (row (5 ∷ 2 ∷ []))
     × (IsStructureOn (collection Labelled Sequence 0 None) 1 (2 ∷ 5 ∷ []) 2 (row (2 ∷ 1 ∷ [])) → ⊥)
-    × (IsStructureOn (collection Labelled Sequence 0 None) 1 (2 ∷ 5 ∷ 7 ∷ []) 2 (row (5 ∷ 2 ∷ [])) → ⊥)
+    × (IsStructureOn (collection Labelled Sequence 0 None) 1 (2 ∷ 5 ∷ 7 ∷ []) 2 (row (5 ∷ 2 ∷ []))
+    → ⊥)
     × (IsStructureOn (collection Labelled Sequence 0 None) 1 (2 ∷ []) 2 (row (2 ∷ 2 ∷ [])) → ⊥)
 
--- an atom has the weight that is written, and a label exactly where the universe is labelled and the weight is 1
+-- an atom has the weight that is written, and a label exactly where the universe is labelled and
+-- the weight is 1
 abbrev pub AtomsAreExact : Type 0
 AtomsAreExact =
     IsStructure (atoms Unlabelled 1) 0 1 (Atom 1 0)

@@ -8,14 +8,16 @@ use Rattle.luo_model.specs.Programs.{binary, permutations, partitions, hierarchi
 -- procedure f has these counts and totals, at the sizes from n on
 abbrev pub HasRows : Program → ℕ → ℕ → List (ℕ × ℕ) → Type 0
 HasRows p f n [] = Unit {0}
-HasRows p f n (row ∷ rows) = IsRow p f (record { n = n; count = row.0; total = row.1 }) × HasRows p f (suc n) rows
+HasRows p f n (row ∷ rows) =
+    IsRow p f (record { n = n; count = row.0; total = row.1 }) × HasRows p f (suc n) rows
 
 -- the sites from i on have these totals at size n
 abbrev pub HasTotals : Program → ℕ → ℕ → List ℕ → Type 0
 HasTotals p n i [] = Unit {0}
 HasTotals p n i (t ∷ ts) = IsTotal p i n t × HasTotals p n (suc i) ts
 
--- a procedure that charges 3 on one of the two structures of size 1 and 5 on the other has the row 1, 2, 8
+-- a procedure that charges 3 on one of the two structures of size 1 and 5 on the other has the row
+-- 1, 2, 8
 abbrev pub RowsSumCharges : Type 0
 RowsSumCharges = IsRow choosing 0 (record { n = 1; count = 2; total = 8 })
 
@@ -37,9 +39,10 @@ LeavesAreTotalled = HasRows hierarchies 0 0 ((0, 0) ∷ (1, 1) ∷ (1, 2) ∷ (2
 abbrev pub NodesAreTotalled : Type 0
 NodesAreTotalled = HasRows rooted 0 0 ((0, 0) ∷ (1, 1) ∷ (2, 4) ∷ (9, 27) ∷ [])
 
--- the sites inside at size 2: of path on binary trees its calls of size and of path, its case and its whole;
--- of the cycles of permutations the body of the walk, the walk and the whole; and of the leaves of hierarchies and the nodes
--- of rooted trees the call, the body of the walk, the walk, the case and the whole
+-- the sites inside at size 2: of path on binary trees its calls of size and of path, its case and
+-- its whole; of the cycles of permutations the body of the walk, the walk and the whole; and of the
+-- leaves of hierarchies and the nodes of rooted trees the call, the body of the walk, the walk, the
+-- case and the whole
 abbrev pub InnerSitesAreTotalled : Type 0
 InnerSitesAreTotalled =
     HasTotals binary 2 4 (4 ∷ 4 ∷ 2 ∷ 2 ∷ 2 ∷ 2 ∷ [])

@@ -23,7 +23,8 @@ BuiltWithin From p (suc rounds) x = IsBuilt From (BuiltWithin From p rounds) (sh
 abbrev pub Built : (ℕ → Type 0) → Program → ℕ → Type 0
 Built From p x = (rounds : ℕ) × BuiltWithin From p rounds x
 
--- an atom is inhabited; a union is where one branch is; a product is where all factors are; a collection is where low is 0 or its component is
+-- an atom is inhabited; a union is where one branch is; a product is where all factors are; a
+-- collection is where low is 0 or its component is
 abbrev pub IsInhabited : Program → ℕ → Type 0
 IsInhabited p x = Built (λ weight. Unit {0}) p x
 
@@ -31,12 +32,14 @@ IsInhabited p x = Built (λ weight. Unit {0}) p x
 abbrev pub HasZero : Program → ℕ → Type 0
 HasZero p x = Built (λ weight. weight ≡ 0) p x
 
--- a structure of this construct may have the size of a part that is node y, where Z says which parts may have size 0: of a product, where each other factor may
+-- a structure of this construct may have the size of a part that is node y, where Z says which
+-- parts may have size 0: of a product, where each other factor may
 abbrev pub KeepsSize : (ℕ → Type 0) → Shape → ℕ → Type 0
 KeepsSize Z (shape.Atom weight) y = ⊥
 KeepsSize Z (shape.Union parts) y = (part : Part) × In part parts × (part.node ≡ y)
 KeepsSize Z (shape.Product parts) y =
-    (i : ℕ) × (part : Part) × (slice_get parts i ≡ Some part) × (part.node ≡ y) × ((k : ℕ) (other : Part) → slice_get parts k ≡ Some other → (k ≡ i → ⊥) → Z other.node)
+    (i : ℕ) × (part : Part) × (slice_get parts i ≡ Some part) × (part.node ≡ y)
+    × ((k : ℕ) (other : Part) → slice_get parts k ≡ Some other → (k ≡ i → ⊥) → Z other.node)
 KeepsSize Z (shape.Coll kind part low high) y = (part.node ≡ y) × IsWithin low high 1
 
 -- a same-size step

@@ -33,7 +33,8 @@ module _ (R : ℕ → ℕ → Type 0) where
 -- the level of a procedure's whole, by calls that are at most so many deep
 abbrev pub LevelWithin : List Procedure → ℕ → ℕ → ℕ → Type 0
 LevelWithin procs zero f n = ⊥
-LevelWithin procs (suc depth) f n = (P : Procedure) × (slice_get procs f ≡ Some P) × BodyLevel (LevelWithin procs depth) P.body n
+LevelWithin procs (suc depth) f n =
+    (P : Procedure) × (slice_get procs f ≡ Some P) × BodyLevel (LevelWithin procs depth) P.body n
 
 abbrev pub WholeLevel : Program → ℕ → ℕ → Type 0
 WholeLevel p f n = (depth : ℕ) × LevelWithin p.procs depth f n
@@ -50,8 +51,11 @@ IsLevel p site n = (work : Work) × In (site, work) (works_of p) × WorkLevel p 
 
 -- n is the least size of a structure of node x
 abbrev pub IsLeastSize : Program → ℕ → ℕ → Type 0
-IsLeastSize p x n = ((s : Tree) × IsStructure p x n s) × ((m : ℕ) (s : Tree) → IsStructure p x m s → n ≤ m)
+IsLeastSize p x n =
+    ((s : Tree) × IsStructure p x n s) × ((m : ℕ) (s : Tree) → IsStructure p x m s → n ≤ m)
 
 -- the same up to a last size, and 1 more than that where all are larger
 abbrev pub IsLeastSizeUpTo : Program → ℕ → ℕ → ℕ → Type 0
-IsLeastSizeUpTo p last x n = (IsLeastSize p x n × (n ≤ last)) ⊎ ((n ≡ last + 1) × ((m : ℕ) (s : Tree) → IsStructure p x m s → last < m))
+IsLeastSizeUpTo p last x n =
+    (IsLeastSize p x n × (n ≤ last))
+    ⊎ ((n ≡ last + 1) × ((m : ℕ) (s : Tree) → IsStructure p x m s → last < m))

@@ -1,5 +1,6 @@
--- Numbered collections, whose items are no more than a size, a number and, in the labelled universe, labels. Their number and the sum of
--- their items' charges say what a table of collections has to hold, with no program in sight.
+-- Numbered collections, whose items are no more than a size, a number and, in the labelled
+-- universe, labels. Their number and the sum of their items' charges say what a table of
+-- collections has to hold, with no program in sight.
 use Rattle.std.specs.Prelude.{◌≡◌, ℕ, ◌<◌, List, [], Option, length}
 use Rattle.std.specs.declared.cmp.Ordering.{Ordering}
 use Rattle.std.specs.declared.cmp.Ordering.TheVariants.{Less}
@@ -38,14 +39,19 @@ IsNumbered u a v = (v.number < a v.size) × IsLabelledAs u v
 
 -- by size, then by labels, then by number
 abbrev pub numbered_cmp : Numbered → Numbered → Ordering
-numbered_cmp = then_cmp (on size_in nat_cmp) (then_cmp (on labels_in (slice_cmp nat_cmp)) (on number_in nat_cmp))
+numbered_cmp =
+    then_cmp (on size_in nat_cmp)
+    (then_cmp (on labels_in (slice_cmp nat_cmp)) (on number_in nat_cmp))
 
 abbrev pub IsEarlier : Numbered → Numbered → Type 0
 IsEarlier v w = numbered_cmp v w ≡ Less
 
 -- a numbered collection of size n, in the labelled universe on the labels 1 to n
-abbrev pub NumberedCollection : Universe → Kind → ℕ → Option ℕ → (ℕ → ℕ) → ℕ → List Numbered → Type 0
-NumberedCollection u kind low high a n xs = IsCollectionOf u (IsNumbered u a) size_in labels_in IsEarlier kind low high (labels_from 1 n) n xs
+abbrev pub NumberedCollection : Universe → Kind → ℕ → Option ℕ → (ℕ → ℕ) → ℕ → List Numbered
+    → Type 0
+NumberedCollection u kind low high a n xs =
+    IsCollectionOf u (IsNumbered u a) size_in labels_in IsEarlier kind low high
+    (labels_from 1 n) n xs
 
 -- what the items of a collection charge together, where item i of size j charges q j i
 abbrev pub charged : (ℕ → ℕ → ℕ) → List Numbered → ℕ
@@ -56,5 +62,7 @@ abbrev pub IsCollectionCount : Universe → Kind → ℕ → Option ℕ → (ℕ
 IsCollectionCount u kind low high a n c = Counts (NumberedCollection u kind low high a n) c
 
 -- over all of them the charges of their items sum to t
-abbrev pub IsCollectionTotal : Universe → Kind → ℕ → Option ℕ → (ℕ → ℕ) → (ℕ → ℕ → ℕ) → ℕ → ℕ → Type 0
-IsCollectionTotal u kind low high a q n t = Sums (NumberedCollection u kind low high a n) (charged q) t
+abbrev pub IsCollectionTotal : Universe → Kind → ℕ → Option ℕ → (ℕ → ℕ) → (ℕ → ℕ → ℕ) → ℕ → ℕ
+    → Type 0
+IsCollectionTotal u kind low high a q n t =
+    Sums (NumberedCollection u kind low high a n) (charged q) t

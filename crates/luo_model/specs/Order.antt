@@ -32,13 +32,16 @@ form_of (Coll ts) = 3
 -- two structures by their sizes, and then by their labels
 abbrev pub by_size_and_labels : Tree → Tree → Ordering
 by_size_and_labels s t =
-    then_by (nat_cmp (size_of s) (size_of t)) (slice_cmp nat_cmp (sorted (labels_of s)) (sorted (labels_of t)))
+    then_by (nat_cmp (size_of s) (size_of t))
+    (slice_cmp nat_cmp (sorted (labels_of s)) (sorted (labels_of t)))
 
 abbrev mutual
-  -- two structures by form: atoms by weight and label, structures of branches by branch and what is inside, lists part by part
+  -- two structures by form: atoms by weight and label, structures of branches by branch and what is
+  -- inside, lists part by part
   pub by_form : Tree → Tree → Ordering
   by_form (Atom w l) (Atom v k) = then_by (nat_cmp w v) (nat_cmp l k)
-  by_form (Inj i s) (Inj j t) = then_by (nat_cmp i j) (then_by (by_size_and_labels s t) (by_form s t))
+  by_form (Inj i s) (Inj j t) =
+      then_by (nat_cmp i j) (then_by (by_size_and_labels s t) (by_form s t))
   by_form (Tup ss) (Tup ts) = by_parts ss ts
   by_form (Coll ss) (Coll ts) = by_parts ss ts
   by_form s t = nat_cmp (form_of s) (form_of t)
@@ -48,7 +51,8 @@ abbrev mutual
   by_parts none none = Equal
   by_parts none (more t ts) = Less
   by_parts (more s ss) none = Greater
-  by_parts (more s ss) (more t ts) = then_by (then_by (by_size_and_labels s t) (by_form s t)) (by_parts ss ts)
+  by_parts (more s ss) (more t ts) =
+      then_by (then_by (by_size_and_labels s t) (by_form s t)) (by_parts ss ts)
 
 -- the order of two structures
 unfoldable pub order_of : Tree → Tree → Ordering

@@ -18,7 +18,8 @@ mutual
     no_items : Items
     item : Item → Items → Items
 
-  -- a call of a procedure, a case and a walk, each on a variable of the scope and with its site; a walk has a site for its body as well
+  -- a call of a procedure, a case and a walk, each on a variable of the scope and with its site; a
+  -- walk has a site for its body as well
   pub data Item : Type 0 where
     Call : (var callee site : ℕ) → Item
     Case : (var : ℕ) → Arms → (site : ℕ) → Item
@@ -52,7 +53,8 @@ pub record Result : Type 0 where
   pub on : Part
   pub value : Value
 
--- a procedure: its name, its parameter's type, what it does, the site of its whole, and its result, if any
+-- a procedure: its name, its parameter's type, what it does, the site of its whole, and its result,
+-- if any
 pub record Procedure : Type 0 where
   pub name : List ℕ
   pub on : Part

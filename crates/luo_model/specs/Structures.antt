@@ -14,7 +14,8 @@ Rising numbers = Pairwise (λ x y. x < y) numbers
 
 -- these labels are those of L, each once
 abbrev pub Holds : List ℕ → List ℕ → Type 0
-Holds L labels = NoDouble labels × ((x : ℕ) → In x labels → In x L) × ((x : ℕ) → In x L → In x labels)
+Holds L labels =
+    NoDouble labels × ((x : ℕ) → In x labels → In x L) × ((x : ℕ) → In x L → In x labels)
 
 -- so many labels from a first one on
 abbrev pub labels_from : ℕ → ℕ → List ℕ
@@ -30,7 +31,8 @@ Carries Labelled L s = Holds L (labels_of s)
 abbrev pub IsStructureOn : Program → ℕ → List ℕ → ℕ → Tree → Type 0
 IsStructureOn p x L n s = Member p x s × (size_of s ≡ n) × Carries p.universe L s
 
--- s is a structure of node x of size n: a member of this size, which in the labelled universe carries the labels 1 to n, each once
+-- s is a structure of node x of size n: a member of this size, which in the labelled universe
+-- carries the labels 1 to n, each once
 abbrev pub IsStructure : Program → ℕ → ℕ → Tree → Type 0
 IsStructure p x n s = IsStructureOn p x (labels_from 1 n) n s
 

@@ -10,10 +10,13 @@ use Rattle.luo_model.specs.Charges.{SiteCharges}
 abbrev pub IsCount : Program → ℕ → ℕ → ℕ → Type 0
 IsCount p x n c = Counts (IsStructure p x n) c
 
--- the total of site i at size n: a listing of its node exists, and over each the charges of the site sum to t
+-- the total of site i at size n: a listing of its node exists, and over each the charges of the
+-- site sum to t
 abbrev pub IsTotal : Program → ℕ → ℕ → ℕ → Type 0
 IsTotal p i n t = Totals (IsStructure p (site_node p i) n) (SiteCharges p i) t
 
 -- the row of procedure f: a size, the count of its parameter's node, and the total of its whole
 abbrev pub IsRow : Program → ℕ → Row → Type 0
-IsRow p f row = (P : Procedure) × (slice_get p.procs f ≡ Some P) × IsCount p P.on.node row.n row.count × IsTotal p P.site row.n row.total
+IsRow p f row =
+    (P : Procedure) × (slice_get p.procs f ≡ Some P) × IsCount p P.on.node row.n row.count
+    × IsTotal p P.site row.n row.total

@@ -2,7 +2,8 @@
 use Rattle.std.specs.Prelude.{ℕ, zero, suc, ◌+◌, List, [], ◌∷◌, ◌++◌, min}
 
 mutual
-  -- an atom of a weight with a label, where 0 is no label; a structure of a branch, from 1; a tuple of the parts of a product; a collection of components
+  -- an atom of a weight with a label, where 0 is no label; a structure of a branch, from 1; a tuple
+  -- of the parts of a product; a collection of components
   pub data Tree : Type 0 where
     Atom : ℕ → ℕ → Tree
     Inj : ℕ → Tree → Tree

@@ -17,7 +17,8 @@ abbrev mutual
   pub item_of : Item → plain.Item
   item_of (Call var callee site) = plain.Call var callee site
   item_of (Case' var shape arms site) = plain.Case var (arms_of arms) site
-  item_of (Forall' var own shape items body_site site) = plain.Forall var (plain.Does own (items_of items)) body_site site
+  item_of (Forall' var own shape items body_site site) =
+      plain.Forall var (plain.Does own (items_of items)) body_site site
 
   pub items_of : {n : _} → Row_of-Item n → plain.Items
   items_of end_of-Item = plain.no_items
@@ -25,7 +26,8 @@ abbrev mutual
 
   pub arms_of : {n : _} → Row_of-Arm n → plain.Arms
   arms_of end_of-Arm = plain.no_arms
-  arms_of (more_of-Arm bind own shape items rest) = plain.arm bind (plain.Does own (items_of items)) (arms_of rest)
+  arms_of (more_of-Arm bind own shape items rest) =
+      plain.arm bind (plain.Does own (items_of items)) (arms_of rest)
 
 abbrev pub item_list : List Item → plain.Items
 item_list [] = plain.no_items
@@ -54,13 +56,21 @@ abbrev mutual
 
   pub value_arms_of : {n : _} → Row_of-ValueArm n → plain.ValueArms
   value_arms_of end_of-ValueArm = plain.no_value_arms
-  value_arms_of (more_of-ValueArm bind v rest) = plain.value_arm bind (value_of v) (value_arms_of rest)
+  value_arms_of (more_of-ValueArm bind v rest) =
+      plain.value_arm bind (value_of v) (value_arms_of rest)
 
 abbrev pub result_of : Made → plain.Result
 result_of m = record { on = m.on; value = value_of m.value }
 
 abbrev pub procedure_of : Proc → plain.Procedure
-procedure_of P = record { name = P.name; on = P.on; body = body_of P.body; site = P.site; result = option_map result_of P.result }
+procedure_of P =
+    record {
+      name = P.name;
+      on = P.on;
+      body = body_of P.body;
+      site = P.site;
+      result = option_map result_of P.result;
+    }
 
 -- a program as the code holds it
 pub record Held : Type 0 where
@@ -73,4 +83,12 @@ pub record Held : Type 0 where
 
 -- the program as plain data
 abbrev pub plain_of : Held → plain.Program
-plain_of p = record { universe = p.universe; defs = p.defs; nodes = p.nodes; procs = map procedure_of p.procs; sites = p.sites; analyses = p.analyses }
+plain_of p =
+    record {
+      universe = p.universe;
+      defs = p.defs;
+      nodes = p.nodes;
+      procs = map procedure_of p.procs;
+      sites = p.sites;
+      analyses = p.analyses;
+    }

@@ -107,7 +107,22 @@ impl Model for Program {
 
     ghost coded = { Prim.hlevel (codes, done.the_row.coded, made.the_row.coded) };
 
-    ghost view = { λ p. record { universe = p.universe; defs = p.defs; nodes = p.nodes; procs = p.procs; sites = p.sites; analyses = p.analyses } };
+    ghost view = { λ p. record {
+      universe = p.universe;
+      defs = p.defs;
+      nodes = p.nodes;
+      procs = p.procs;
+      sites = p.sites;
+      analyses = p.analyses;
+    } };
 
-    ghost invariant = { λ p. IsProgram (plain_of (record { universe = p.universe; defs = p.defs; nodes = p.nodes; procs = p.procs; sites = p.sites; analyses = p.analyses })) };
+    ghost invariant = { λ p. IsProgram (plain_of
+        (record {
+          universe = p.universe;
+          defs = p.defs;
+          nodes = p.nodes;
+          procs = p.procs;
+          sites = p.sites;
+          analyses = p.analyses;
+        })) };
 }

@@ -10,8 +10,10 @@ pub record AreComponents (comp : List ℕ) : Type 0 where
   pub none_empty : slice_index comp 0 ≡ 0
   pub small : (m : ℕ) → slice_index comp m ≤ MAX
 
--- the calls for the first n sizes were given these numbers; that of the last size counts only where one component is within the bounds
-pub record AreGiven (low : ℕ) (high : Option ℕ) (comp : List ℕ) (n : ℕ) (given : List ℕ) : Type 0 where
+-- the calls for the first n sizes were given these numbers; that of the last size counts only where
+-- one component is within the bounds
+pub record AreGiven (low : ℕ) (high : Option ℕ) (comp : List ℕ) (n : ℕ)
+    (given : List ℕ) : Type 0 where
   pub sizes : length given ≡ n
   pub earlier : (m : ℕ) → suc m < n → slice_index given m ≡ slice_index comp m
   pub last : (m : ℕ) → suc m ≡ n → IsWithin low high 1 → slice_index given m ≡ slice_index comp m

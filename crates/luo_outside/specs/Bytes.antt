@@ -5,4 +5,5 @@ use Rattle.std.specs.Io.KnownBytes.{Appends}
 
 -- a sink took a front of these bytes and nothing else
 abbrev pub TookFront : Option (List ℕ) → Option (List ℕ) → List ℕ → Type 0
-TookFront old new bytes = (front : List ℕ) × (rest : List ℕ) × (bytes ≡ front ++ rest) × Appends old new front
+TookFront old new bytes =
+    (front : List ℕ) × (rest : List ℕ) × (bytes ≡ front ++ rest) × Appends old new front

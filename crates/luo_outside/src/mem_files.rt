@@ -39,7 +39,8 @@ impl MemFiles {
         ensures fresh { IsFresh files piece fails result }
         ensures faults { (name : List ℕ) → ⟦<MemFiles as Files>⟧.faults result name ≡ 0 }
         ensures found { (name : List ℕ) → ⟦<MemFiles as Files>⟧.found result name → ⊥ }
-        ensures named { (name : List ℕ) → ⟦<MemFiles as Files>⟧.named result name ≡ content_of files name }
+        ensures named { (name : List ℕ)
+            → ⟦<MemFiles as Files>⟧.named result name ≡ content_of files name }
     {
         MemFiles {
             files,
@@ -69,12 +70,15 @@ impl Files for MemFiles {
     fn find(&mut self, name: &str) -> Result<(), Failed>
         ensures named { (n : List ℕ) → content_of self.new.files n ≡ content_of self.old.files n }
         ensures found { OnOk result (name_at self.new.files self.new.place ≡ Some name.now) }
-        ensures left { OnOk result (left_at self.new.files self.new.place self.new.done ≡ content_of self.old.files name.now) }
+        ensures left { OnOk result (left_at self.new.files self.new.place self.new.done
+            ≡ content_of self.old.files name.now) }
         ensures faults { NoneFell (λ n. self.old.faults) (λ n. self.new.faults) }
         ensures cause { OnErr result (Rose self.old.faults self.new.faults) }
 
         // It fails in these cases alone, and only then is a fault counted.
-        ensures fails { IsErr result ↔ (Contains self.old.fails self.old.calls ⊎ (content_of self.old.files name.now ≡ None)) }
+        ensures fails { IsErr result
+            ↔ (Contains self.old.fails self.old.calls
+            ⊎ (content_of self.old.files name.now ≡ None)) }
         ensures fault { OnErr result (self.new.faults ≡ one_more self.old.faults) }
         ensures no_fault { OnOk result (self.new.faults ≡ self.old.faults) }
         ensures calls { self.new.calls ≡ one_more self.old.calls }
@@ -103,11 +107,16 @@ impl Files for MemFiles {
         requires room { 0 < length buf.old }
         requires open { (n : List ℕ) × (name_at self.old.files self.old.place ≡ Some n) }
         ensures bound { ReadsAtMost result buf.new }
-        ensures bytes { ReadConsumes (left_at self.old.files self.old.place self.old.done) (left_at self.new.files self.new.place self.new.done) result buf.new }
+        ensures bytes { ReadConsumes (left_at self.old.files self.old.place self.old.done)
+            (left_at self.new.files self.new.place self.new.done) result buf.new }
         ensures named { (n : List ℕ) → content_of self.new.files n ≡ content_of self.old.files n }
-        ensures found { (n : List ℕ) → ((name_at self.new.files self.new.place ≡ Some n) ↔ (name_at self.old.files self.old.place ≡ Some n)) }
+        ensures found { (n : List ℕ)
+            → ((name_at self.new.files self.new.place ≡ Some n)
+            ↔ (name_at self.old.files self.old.place ≡ Some n)) }
         ensures faults { NoneFell (λ n. self.old.faults) (λ n. self.new.faults) }
-        ensures cause { OnErr result ((n : List ℕ) → name_at self.old.files self.old.place ≡ Some n → Rose self.old.faults self.new.faults) }
+        ensures cause { OnErr result
+            ((n : List ℕ) → name_at self.old.files self.old.place ≡ Some n
+            → Rose self.old.faults self.new.faults) }
 
         // It fails in these cases alone, and only then is a fault counted.
         ensures fails { IsErr result ↔ Contains self.old.fails self.old.calls }

@@ -74,16 +74,19 @@ impl Sink for MemSink {
         requires { 0 < length piece.now }
         ensures bound { WritesAtMost result piece.now }
         ensures some { IfOk result (λ n. 0 < n) }
-        ensures bytes { WriteAppends (Some self.old.taken.items) (Some self.new.taken.items) result piece.now }
+        ensures bytes { WriteAppends (Some self.old.taken.items)
+            (Some self.new.taken.items) result piece.now }
         ensures faults { self.old.faults ≤ self.new.faults }
         ensures cause { OnErr result (Rose self.old.faults self.new.faults) }
 
         // It fails in these cases alone, and only then is a fault counted.
-        ensures fails { IsErr result ↔ (Contains self.old.fails self.old.calls ⊎ (self.old.room ≤ vec_len self.old.taken)) }
+        ensures fails { IsErr result
+            ↔ (Contains self.old.fails self.old.calls ⊎ (self.old.room ≤ vec_len self.old.taken)) }
         ensures fault { OnErr result (self.new.faults ≡ one_more self.old.faults) }
         ensures no_fault { OnOk result (self.new.faults ≡ self.old.faults) }
         ensures calls { self.new.calls ≡ one_more self.old.calls }
-        ensures count { IfOk result (λ n. n ≡ min (min (length piece.now) self.old.most) (self.old.room - vec_len self.old.taken)) }
+        ensures count { IfOk result (λ n. n ≡ min (min (length piece.now) self.old.most)
+            (self.old.room - vec_len self.old.taken)) }
         ensures given { SameGiven self.old self.new }
     {
         let call = self.calls;

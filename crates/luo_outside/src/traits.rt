@@ -40,7 +40,8 @@ pub trait Files {
         ensures named { (n : List ℕ) → named self.new n ≡ named self.old n }
         ensures found { (n : List ℕ) → (found self.new n ↔ found self.old n) }
         ensures faults { NoneFell (faults self.old) (faults self.new) }
-        ensures cause { OnErr result ((n : List ℕ) → found self.old n → Rose (faults self.old n) (faults self.new n)) };
+        ensures cause { OnErr result
+            ((n : List ℕ) → found self.old n → Rose (faults self.old n) (faults self.new n)) };
 
     /// No count is past the last value.
     ghost bounded: { (files : Self) (name : List ℕ) → faults files name ≤ last_count };

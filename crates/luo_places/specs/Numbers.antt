@@ -21,11 +21,14 @@ abbrev pub led_ways : ℕ → ℕ → ℕ
 led_ways n zero = 0
 led_ways n (suc k) = choose (n - 1) k
 
--- the place of a pair: the first has size i, labels with place q, and place r, and the second has place s; w k ways to choose k labels
+-- the place of a pair: the first has size i, labels with place q, and place r, and the second has
+-- place s; w k ways to choose k labels
 unfoldable pub pair_place : (ℕ → ℕ) → (ℕ → ℕ) → (ℕ → ℕ) → ℕ → ℕ → ℕ → ℕ → ℕ → ℕ
-pair_place w a b n i q r s = sum_below (λ k. (a k * b (n - k)) * w k) i + ((a i * b (n - i)) * q + (r * b (n - i) + s))
+pair_place w a b n i q r s =
+    sum_below (λ k. (a k * b (n - k)) * w k) i + ((a i * b (n - i)) * q + (r * b (n - i) + s))
 
--- S are the labels of the first, with place q among the choices of i of L, and T those of the second
+-- S are the labels of the first, with place q among the choices of i of L, and T those of the
+-- second
 abbrev pub IsPart : Universe → List ℕ → ℕ → ℕ → List ℕ → List ℕ → Type 0
 IsPart Unlabelled L i q S T = q ≡ 0
 IsPart Labelled L i q S T = In (S, T) (splits L) × IsPlace (IsChoice L i) Lexical q S

@@ -1,4 +1,5 @@
--- What is left to choose of a structure: the factors of a product from one on, or the components of a collection behind some.
+-- What is left to choose of a structure: the factors of a product from one on, or the components of
+-- a collection behind some.
 use Rattle.std.specs.Prelude.{◌≡◌, ℕ, zero, suc, ◌-◌, ◌≤◌, ◌<◌, List, [], ◌∷◌, Option, map}
 use Rattle.luo_finite.specs.Listing.{In}
 use Rattle.luo_finite.specs.Places.{IsPlace, IsChoice, Lexical}
@@ -56,8 +57,10 @@ first_node (items kind y low high) = y
 
 -- the trees that can stand there, of size n together, on the labels L
 abbrev pub TailOn : Program → Tail → List ℕ → ℕ → Trees → Type 0
-TailOn p (factors parts) L n ts = FitAll p parts ts × (sizes_of ts ≡ n) × Bears p.universe L (all_labels_of ts)
-TailOn p (items kind y low high) L n ts = IsCollectionOf p.universe (Member p y) size_of labels_of IsBefore kind low high L n (to_list ts)
+TailOn p (factors parts) L n ts =
+    FitAll p parts ts × (sizes_of ts ≡ n) × Bears p.universe L (all_labels_of ts)
+TailOn p (items kind y low high) L n ts =
+    IsCollectionOf p.universe (Member p y) size_of labels_of IsBefore kind low high L n (to_list ts)
 
 -- how many there are, where a x n is the count of node x at size n
 abbrev pub tail_count : Universe → (ℕ → ℕ → ℕ) → Tail → ℕ → ℕ
@@ -70,13 +73,16 @@ head_ways Labelled (items Set y low high) n k = led_ways n k
 head_ways Labelled (items Cycle y low high) n k = led_ways n k
 head_ways u tail n k = ways u n k
 
--- S are labels of the first, of which the least of L is one, with place q among the choices of the others, and T those of the rest
+-- S are labels of the first, of which the least of L is one, with place q among the choices of the
+-- others, and T those of the rest
 abbrev pub IsLedPart : List ℕ → ℕ → ℕ → List ℕ → List ℕ → Type 0
 IsLedPart [] i q S T = ⊥
 IsLedPart (l ∷ L) zero q S T = ⊥
-IsLedPart (l ∷ L) (suc i) q S T = (C : List ℕ) × (S ≡ l ∷ C) × In (C, T) (splits L) × IsPlace (IsChoice L i) Lexical q C
+IsLedPart (l ∷ L) (suc i) q S T =
+    (C : List ℕ) × (S ≡ l ∷ C) × In (C, T) (splits L) × IsPlace (IsChoice L i) Lexical q C
 
--- S are the labels of the first, with place q among those that a first of size i can have, and T those of the rest
+-- S are the labels of the first, with place q among those that a first of size i can have, and T
+-- those of the rest
 abbrev pub IsHead : Universe → Tail → List ℕ → ℕ → ℕ → List ℕ → List ℕ → Type 0
 IsHead Labelled (items Set y low high) L i q S T = IsLedPart L i q S T
 IsHead Labelled (items Cycle y low high) L i q S T = IsLedPart L i q S T
@@ -90,7 +96,8 @@ pub record AreNumbers (p : Program) (nodes last : ℕ) (a : ℕ → ℕ → ℕ)
 -- the nodes are there, and no component has size 0
 abbrev pub IsThere : Program → ℕ → Tail → Type 0
 IsThere p nodes (factors parts) = (part : Part) → In part parts → part.node < nodes
-IsThere p nodes (items kind y low high) = (y < nodes) × Suits p.universe kind low × ((t : Tree) → Member p y t → size_of t ≡ 0 → ⊥)
+IsThere p nodes (items kind y low high) =
+    (y < nodes) × Suits p.universe kind low × ((t : Tree) → Member p y t → size_of t ≡ 0 → ⊥)
 
 -- the components don't stand by the order, but by their labels or as they come
 abbrev pub IsSpread : Tail → Type 0
@@ -110,14 +117,19 @@ Ends (factors []) n = Unit {0}
 Ends (factors (part ∷ parts)) n = ⊥
 Ends (items kind y low high) n = n ≡ 0
 
--- of a tail of size n, at place `rank` the first has this size, labels with place q, and this place, and the rest has place `back`
-pub record IsFirst (p : Program) (a : ℕ → ℕ → ℕ) (tail : Tail) (n rank size q place back : ℕ) : Type 0 where
+-- of a tail of size n, at place `rank` the first has this size, labels with place q, and this
+-- place, and the rest has place `back`
+pub record IsFirst (p : Program) (a : ℕ → ℕ → ℕ) (tail : Tail)
+    (n rank size q place back : ℕ) : Type 0 where
   pub sizes : size ≤ n
   pub ways : q < head_ways p.universe tail n size
   pub first : place < a (first_node tail) size
   pub second : back < tail_count p.universe a (behind_first tail) (n - size)
-  pub step : (L S T : List ℕ) → IsRoom p.universe L n → IsHead p.universe tail L size q S T → (t : Tree) (ts : Trees) → IsPlace (IsStructureOn p (first_node tail) S size) IsBefore place t
-      → IsPlace (TailOn p (behind_first tail) T (n - size)) PartsBefore back ts → IsPlace (TailOn p tail L n) PartsBefore rank (more t ts)
+  pub step : (L S T : List ℕ) → IsRoom p.universe L n → IsHead p.universe tail L size q S T
+      → (t : Tree) (ts : Trees)
+      → IsPlace (IsStructureOn p (first_node tail) S size) IsBefore place t
+      → IsPlace (TailOn p (behind_first tail) T (n - size)) PartsBefore back ts
+      → IsPlace (TailOn p tail L n) PartsBefore rank (more t ts)
 
 -- the components stand by the order
 abbrev pub IsBag : Kind → Type 0

@@ -19,14 +19,20 @@ universe_line Unlabelled = codes "unlabelled;\n"
 -- what stands behind the `)` of a procedure: the rest of that line, and its block or value
 abbrev pub body_text : ProcBody → List ℕ
 body_text (Statements stmts) = codes ";\n" ++ block_of 0 (map (stmt_text 2) stmts)
-body_text (Value colon result value) = codes " : " ++ result.text ++ codes ";\n" ++ value_text 0 value
+body_text (Value colon result value) =
+    codes " : " ++ result.text ++ codes ";\n" ++ value_text 0 value
 
 abbrev pub proc_text : ProcDef → List ℕ
-proc_text def = codes "procedure " ++ def.name.text ++ codes "(" ++ def.param.text ++ codes " : " ++ def.on.text ++ codes ")" ++ body_text def.body ++ codes ";\n"
+proc_text def =
+    codes "procedure " ++ def.name.text ++ codes "(" ++ def.param.text ++ codes " : " ++ def.on.text
+    ++ codes ")" ++ body_text def.body ++ codes ";\n"
 
 abbrev pub analyze_line : Name → List ℕ
 analyze_line name = codes "analyze " ++ name.text ++ codes ";\n"
 
 -- the universe, then the definitions, the measures, the procedures and the analyze lines
 abbrev pub canonical : Source → List ℕ
-canonical source = universe_line source.universe ++ flat_map type_def_line source.types ++ flat_map measure_line source.measures ++ flat_map proc_text source.procs ++ flat_map analyze_line source.analyses
+canonical source =
+    universe_line source.universe ++ flat_map type_def_line source.types
+    ++ flat_map measure_line source.measures ++ flat_map proc_text source.procs
+    ++ flat_map analyze_line source.analyses

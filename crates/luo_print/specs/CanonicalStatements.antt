@@ -25,7 +25,8 @@ block_of n stmts = codes "begin" ++ lines (n + 2) stmts ++ new_line n ++ codes "
 
 -- arms between `case` and `end`, where `case` stands in a line of this indentation
 abbrev pub case_of : ℕ → Name → List (List ℕ) → List ℕ
-case_of n var arms = codes "case " ++ var.text ++ codes " of" ++ lines (n + 2) arms ++ new_line n ++ codes "end"
+case_of n var arms =
+    codes "case " ++ var.text ++ codes " of" ++ lines (n + 2) arms ++ new_line n ++ codes "end"
 
 abbrev mutual
   -- a statement in a line of this indentation
@@ -35,7 +36,9 @@ abbrev mutual
   stmt_text n (Call callee arg) = call_text callee arg
   stmt_text n (Block' shape stmts) = block_of n (stmt_texts (n + 2) stmts)
   stmt_text n (Case' var shape arms) = case_of n var (arm_texts (n + 2) arms)
-  stmt_text n (Forall' var source shape body) = codes "forall " ++ var.text ++ codes " in " ++ source.text ++ codes " do " ++ boxed_stmt_text n body
+  stmt_text n (Forall' var source shape body) =
+      codes "forall " ++ var.text ++ codes " in " ++ source.text ++ codes " do "
+      ++ boxed_stmt_text n body
 
   -- the texts of a list
   pub stmt_texts : ℕ → {n : _} → Row_of-Stmt n → List (List ℕ)
@@ -50,7 +53,8 @@ abbrev mutual
   -- the texts of arms
   pub arm_texts : ℕ → {n : _} → Row_of-SourceArm n → List (List ℕ)
   arm_texts n end_of-SourceArm = []
-  arm_texts n (more_of-SourceArm pattern body rest) = (pattern_text pattern ++ codes " : " ++ stmt_text n body) ∷ arm_texts n rest
+  arm_texts n (more_of-SourceArm pattern body rest) =
+      (pattern_text pattern ++ codes " : " ++ stmt_text n body) ∷ arm_texts n rest
 
 -- an arm in a line of this indentation
 abbrev pub arm_text : ℕ → SourceArm → List ℕ

@@ -34,8 +34,10 @@ abbrev mutual
   expr_text (Epsilon at) = codes "epsilon"
   expr_text (Atom weight weight_at at) = codes "atom(" ++ decimal weight ++ codes ")"
   expr_text (Union' shape parts) = joined (codes " | ") (expr_texts parts)
-  expr_text (Product' shape parts at) = codes "product(" ++ joined (codes ", ") (expr_texts parts) ++ codes ")"
-  expr_text (Coll' kind shape part bound at) = kind_text kind ++ codes "(" ++ boxed_expr_text part ++ bound_text bound ++ codes ")"
+  expr_text (Product' shape parts at) =
+      codes "product(" ++ joined (codes ", ") (expr_texts parts) ++ codes ")"
+  expr_text (Coll' kind shape part bound at) =
+      kind_text kind ++ codes "(" ++ boxed_expr_text part ++ bound_text bound ++ codes ")"
 
   -- the texts of a list
   pub expr_texts : {n : _} → Row_of-TypeExpr n → List (List ℕ)
@@ -49,8 +51,10 @@ abbrev mutual
 
 -- the line of a definition
 abbrev pub type_def_line : TypeDef → List ℕ
-type_def_line def = codes "type " ++ name_list def.names ++ codes " = " ++ expr_text def.body ++ codes ";\n"
+type_def_line def =
+    codes "type " ++ name_list def.names ++ codes " = " ++ expr_text def.body ++ codes ";\n"
 
 -- the line of measures
 abbrev pub measure_line : MeasureDef → List ℕ
-measure_line def = codes "measure " ++ name_list def.names ++ codes " : " ++ decimal def.value ++ codes ";\n"
+measure_line def =
+    codes "measure " ++ name_list def.names ++ codes " : " ++ decimal def.value ++ codes ";\n"

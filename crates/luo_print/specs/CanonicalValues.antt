@@ -27,8 +27,10 @@ abbrev mutual
   value_text n (Given name) = name.text
   value_text n (Made callee arg) = call_text callee arg
   value_text n (Atom charge at) = charge_text charge ++ codes "atom"
-  value_text n (Tuple' shape parts at) = codes "product(" ++ joined (codes ", ") (value_texts n parts) ++ codes ")"
-  value_text n (Branch' number at shape inner) = decimal number ++ codes " : " ++ boxed_value_text n inner
+  value_text n (Tuple' shape parts at) =
+      codes "product(" ++ joined (codes ", ") (value_texts n parts) ++ codes ")"
+  value_text n (Branch' number at shape inner) =
+      decimal number ++ codes " : " ++ boxed_value_text n inner
   value_text n (Case' var shape arms) = case_of n var (value_arm_texts (n + 2) arms)
 
   -- the texts of a list
@@ -44,7 +46,8 @@ abbrev mutual
   -- the texts of arms
   pub value_arm_texts : ℕ → {n : _} → Row_of-SourceValueArm n → List (List ℕ)
   value_arm_texts n end_of-SourceValueArm = []
-  value_arm_texts n (more_of-SourceValueArm pattern body rest) = (pattern_text pattern ++ codes " : " ++ value_text n body) ∷ value_arm_texts n rest
+  value_arm_texts n (more_of-SourceValueArm pattern body rest) =
+      (pattern_text pattern ++ codes " : " ++ value_text n body) ∷ value_arm_texts n rest
 
 -- an arm in a line of this indentation
 abbrev pub value_arm_text : ℕ → SourceValueArm → List ℕ

@@ -9,8 +9,11 @@ use Rattle.luo_print.specs.Same.{SameSource}
 
 -- where a text has a source, the tokens of its canonical text derive the same source but for places
 abbrev pub ReadsBack : Type 0
-ReadsBack = (text : List ℕ) (tokens : List Token) (source : Source) → Tokens text tokens → Derives text tokens source
-    → (again : List Token) × (read : Source) × Tokens (canonical source) again × Derives (canonical source) again read × SameSource source read
+ReadsBack =
+    (text : List ℕ) (tokens : List Token) (source : Source) → Tokens text tokens
+    → Derives text tokens source
+    → (again : List Token) × (read : Source) × Tokens (canonical source) again
+    × Derives (canonical source) again read × SameSource source read
 
 -- sources that differ at most in their places have one canonical text
 abbrev pub SameText : Type 0
@@ -18,5 +21,8 @@ SameText = (s t : Source) → SameSource s t → canonical s ≡ canonical t
 
 -- where a text has a source, the canonical text has a source too, and its canonical text is itself
 abbrev pub FormatsOnce : Type 0
-FormatsOnce = (text : List ℕ) (tokens : List Token) (source : Source) → Tokens text tokens → Derives text tokens source
-    → (again : List Token) × (read : Source) × Tokens (canonical source) again × Derives (canonical source) again read × (canonical read ≡ canonical source)
+FormatsOnce =
+    (text : List ℕ) (tokens : List Token) (source : Source) → Tokens text tokens
+    → Derives text tokens source
+    → (again : List Token) × (read : Source) × Tokens (canonical source) again
+    × Derives (canonical source) again read × (canonical read ≡ canonical source)

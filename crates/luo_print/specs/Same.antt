@@ -38,13 +38,17 @@ mutual
     same_named : {m n : Name} → SameName m n → SameExpr (expr.Named m) (expr.Named n)
     same_epsilon : {k l : ℕ} → SameExpr (expr.Epsilon k) (expr.Epsilon l)
     same_atom : {weight i j k l : ℕ} → SameExpr (expr.Atom weight i j) (expr.Atom weight k l)
-    same_union : {ts us : List TypeExpr} → SameExprs ts us → SameExpr (expr.Union ts) (expr.Union us)
-    same_product : {ts us : List TypeExpr} {k l : ℕ} → SameExprs ts us → SameExpr (expr.Product ts k) (expr.Product us l)
-    same_collection : {kind : Kind} {t u : TypeExpr} {b c : Option Bound} {k l : ℕ} → SameExpr t u → SameBound b c → SameExpr (expr.Coll kind t b k) (expr.Coll kind u c l)
+    same_union : {ts us : List TypeExpr} → SameExprs ts us
+        → SameExpr (expr.Union ts) (expr.Union us)
+    same_product : {ts us : List TypeExpr} {k l : ℕ} → SameExprs ts us
+        → SameExpr (expr.Product ts k) (expr.Product us l)
+    same_collection : {kind : Kind} {t u : TypeExpr} {b c : Option Bound} {k l : ℕ} → SameExpr t u
+        → SameBound b c → SameExpr (expr.Coll kind t b k) (expr.Coll kind u c l)
 
   pub data SameExprs : List TypeExpr → List TypeExpr → Type 0 where
     no_exprs : SameExprs [] []
-    more_exprs : {t u : TypeExpr} {ts us : List TypeExpr} → SameExpr t u → SameExprs ts us → SameExprs (t ∷ ts) (u ∷ us)
+    more_exprs : {t u : TypeExpr} {ts us : List TypeExpr} → SameExpr t u → SameExprs ts us
+        → SameExprs (t ∷ ts) (u ∷ us)
 
 abbrev pub SameTypeDef : TypeDef → TypeDef → Type 0
 SameTypeDef d e = SameNames d.names e.names × SameExpr d.body e.body
@@ -65,18 +69,25 @@ mutual
   pub data SameStmt : Stmt → Stmt → Type 0 where
     same_skip : SameStmt stmt.Skip stmt.Skip
     same_charge : {m n : Name} → SameName m n → SameStmt (stmt.Charge m) (stmt.Charge n)
-    same_call : {f g a b : Name} → SameName f g → SameName a b → SameStmt (stmt.Call f a) (stmt.Call g b)
+    same_call : {f g a b : Name} → SameName f g → SameName a b
+        → SameStmt (stmt.Call f a) (stmt.Call g b)
     same_block : {ss ts : List Stmt} → SameStmts ss ts → SameStmt (stmt.Block ss) (stmt.Block ts)
-    same_case : {x y : Name} {arms others : List SourceArm} → SameName x y → SameArms arms others → SameStmt (stmt.Case x arms) (stmt.Case y others)
-    same_forall : {x y c d : Name} {s t : Stmt} → SameName x y → SameName c d → SameStmt s t → SameStmt (stmt.Forall x c s) (stmt.Forall y d t)
+    same_case : {x y : Name} {arms others : List SourceArm} → SameName x y → SameArms arms others
+        → SameStmt (stmt.Case x arms) (stmt.Case y others)
+    same_forall : {x y c d : Name} {s t : Stmt} → SameName x y → SameName c d → SameStmt s t
+        → SameStmt (stmt.Forall x c s) (stmt.Forall y d t)
 
   pub data SameStmts : List Stmt → List Stmt → Type 0 where
     no_stmts : SameStmts [] []
-    more_stmts : {s t : Stmt} {ss ts : List Stmt} → SameStmt s t → SameStmts ss ts → SameStmts (s ∷ ss) (t ∷ ts)
+    more_stmts : {s t : Stmt} {ss ts : List Stmt} → SameStmt s t → SameStmts ss ts
+        → SameStmts (s ∷ ss) (t ∷ ts)
 
   pub data SameArms : List SourceArm → List SourceArm → Type 0 where
     no_arms : SameArms [] []
-    more_arms : {p q : Pattern} {s t : Stmt} {arms others : List SourceArm} → SamePattern p q → SameStmt s t → SameArms arms others → SameArms (record { pattern = p; body = s } ∷ arms) (record { pattern = q; body = t } ∷ others)
+    more_arms : {p q : Pattern} {s t : Stmt} {arms others : List SourceArm} → SamePattern p q
+        → SameStmt s t → SameArms arms others
+        → SameArms (record { pattern = p; body = s } ∷ arms)
+        (record { pattern = q; body = t } ∷ others)
 
 -- both are left out, or both are there
 abbrev pub SameCharge : Option Name → Option Name → Type 0
@@ -87,19 +98,28 @@ SameCharge _ _ = ⊥
 mutual
   pub data SameValue : SourceValue → SourceValue → Type 0 where
     same_given : {m n : Name} → SameName m n → SameValue (value.Given m) (value.Given n)
-    same_made : {f g a b : Name} → SameName f g → SameName a b → SameValue (value.Made f a) (value.Made g b)
-    same_atom_value : {m n : Option Name} {k l : ℕ} → SameCharge m n → SameValue (value.Atom m k) (value.Atom n l)
-    same_tuple : {vs ws : List SourceValue} {k l : ℕ} → SameValues vs ws → SameValue (value.Tuple vs k) (value.Tuple ws l)
-    same_branch : {number k l : ℕ} {v w : SourceValue} → SameValue v w → SameValue (value.Branch number k v) (value.Branch number l w)
-    same_chosen : {x y : Name} {arms others : List SourceValueArm} → SameName x y → SameValueArms arms others → SameValue (value.Case x arms) (value.Case y others)
+    same_made : {f g a b : Name} → SameName f g → SameName a b
+        → SameValue (value.Made f a) (value.Made g b)
+    same_atom_value : {m n : Option Name} {k l : ℕ} → SameCharge m n
+        → SameValue (value.Atom m k) (value.Atom n l)
+    same_tuple : {vs ws : List SourceValue} {k l : ℕ} → SameValues vs ws
+        → SameValue (value.Tuple vs k) (value.Tuple ws l)
+    same_branch : {number k l : ℕ} {v w : SourceValue} → SameValue v w
+        → SameValue (value.Branch number k v) (value.Branch number l w)
+    same_chosen : {x y : Name} {arms others : List SourceValueArm} → SameName x y
+        → SameValueArms arms others → SameValue (value.Case x arms) (value.Case y others)
 
   pub data SameValues : List SourceValue → List SourceValue → Type 0 where
     no_values : SameValues [] []
-    more_values : {v w : SourceValue} {vs ws : List SourceValue} → SameValue v w → SameValues vs ws → SameValues (v ∷ vs) (w ∷ ws)
+    more_values : {v w : SourceValue} {vs ws : List SourceValue} → SameValue v w → SameValues vs ws
+        → SameValues (v ∷ vs) (w ∷ ws)
 
   pub data SameValueArms : List SourceValueArm → List SourceValueArm → Type 0 where
     no_value_arms : SameValueArms [] []
-    more_value_arms : {p q : Pattern} {v w : SourceValue} {arms others : List SourceValueArm} → SamePattern p q → SameValue v w → SameValueArms arms others → SameValueArms (record { pattern = p; body = v } ∷ arms) (record { pattern = q; body = w } ∷ others)
+    more_value_arms : {p q : Pattern} {v w : SourceValue} {arms others : List SourceValueArm}
+        → SamePattern p q → SameValue v w → SameValueArms arms others
+        → SameValueArms (record { pattern = p; body = v } ∷ arms)
+        (record { pattern = q; body = w } ∷ others)
 
 abbrev pub SameBody : ProcBody → ProcBody → Type 0
 SameBody (body.Statements ss) (body.Statements ts) = SameStmts ss ts
@@ -107,7 +127,8 @@ SameBody (body.Value k m v) (body.Value l n w) = SameName m n × SameValue v w
 SameBody _ _ = ⊥
 
 abbrev pub SameProc : ProcDef → ProcDef → Type 0
-SameProc p q = SameName p.name q.name × SameName p.param q.param × SameName p.on q.on × SameBody p.body q.body
+SameProc p q =
+    SameName p.name q.name × SameName p.param q.param × SameName p.on q.on × SameBody p.body q.body
 
 -- two sources differ at most in their places
 abbrev pub SameSource : Source → Source → Type 0

@@ -28,7 +28,8 @@ pub(crate) fn put_call(text: &mut Vec<u8>, callee: &Name, arg: &Name) -> Result<
 
 // Puts names in round brackets behind the text.
 fn put_bracketed(text: &mut Vec<u8>, names: &[Name]) -> Result<(), NoMemory>
-    ensures { OnOk result (text.new.items ≡ text.old.items ++ codes "(" ++ name_list names.now ++ codes ")") }
+    ensures { OnOk result (text.new.items ≡ text.old.items ++ codes "(" ++ name_list names.now
+        ++ codes ")") }
 {
     text.push(b'(')?;
     put_names(text, names)?;
@@ -63,7 +64,8 @@ fn put_pattern(text: &mut Vec<u8>, pattern: &Pattern) -> Result<(), NoMemory>
 
 // Puts the pattern of an arm behind the text, and the colon behind it.
 pub(crate) fn put_arm_head(text: &mut Vec<u8>, pattern: &Pattern) -> Result<(), NoMemory>
-    ensures { OnOk result (text.new.items ≡ text.old.items ++ pattern_text pattern.now ++ codes " : ") }
+    ensures { OnOk result (text.new.items ≡ text.old.items ++ pattern_text pattern.now
+        ++ codes " : ") }
 {
     put_pattern(text, pattern)?;
     text.extend_from_slice(b" : ")?;
@@ -72,7 +74,8 @@ pub(crate) fn put_arm_head(text: &mut Vec<u8>, pattern: &Pattern) -> Result<(), 
 
 // Puts the head of a case behind the text.
 pub(crate) fn put_case_head(text: &mut Vec<u8>, var: &Name) -> Result<(), NoMemory>
-    ensures { OnOk result (text.new.items ≡ text.old.items ++ codes "case " ++ var.now.text ++ codes " of") }
+    ensures { OnOk result (text.new.items ≡ text.old.items ++ codes "case " ++ var.now.text
+        ++ codes " of") }
 {
     text.extend_from_slice(b"case ")?;
     put_name(text, var)?;

@@ -44,7 +44,8 @@ fn put_measures(text: &mut Vec<u8>, defs: &[MeasureDef]) -> Result<(), NoMemory>
 
 // Puts the block of a procedure behind the text.
 fn put_statements(text: &mut Vec<u8>, stmts: &[Stmt]) -> Result<(), NoMemory>
-    ensures { OnOk result (text.new.items ≡ text.old.items ++ block_of 0 (map (stmt_text 2) stmts.now)) }
+    ensures { OnOk result (text.new.items ≡ text.old.items ++ block_of 0
+        (map (stmt_text 2) stmts.now)) }
 {
     put_block(text, 0, stmts)?;
     Ok(())

@@ -27,7 +27,8 @@ fn put_stmt(text: &mut Vec<u8>, indent: usize, stmt: &Stmt) -> Result<(), NoMemo
 
 // Puts the head of a forall behind the text.
 fn put_forall_head(text: &mut Vec<u8>, var: &Name, source: &Name) -> Result<(), NoMemory>
-    ensures { OnOk result (text.new.items ≡ text.old.items ++ codes "forall " ++ var.now.text ++ codes " in " ++ source.now.text ++ codes " do ") }
+    ensures { OnOk result (text.new.items ≡ text.old.items ++ codes "forall " ++ var.now.text
+        ++ codes " in " ++ source.now.text ++ codes " do ") }
 {
     text.extend_from_slice(b"forall ")?;
     put_name(text, var)?;
@@ -46,7 +47,9 @@ fn put_forall(
     source: &Name,
     body: &Stmt,
 ) -> Result<(), NoMemory>
-    ensures { OnOk result (text.new.items ≡ text.old.items ++ (codes "forall " ++ var.now.text ++ codes " in " ++ source.now.text ++ codes " do " ++ stmt_text indent body.now)) }
+    ensures { OnOk result (text.new.items ≡ text.old.items
+        ++ (codes "forall " ++ var.now.text ++ codes " in " ++ source.now.text ++ codes " do "
+        ++ stmt_text indent body.now)) }
 {
     put_forall_head(text, var, source)?;
     put_stmt(text, indent, body)?;
@@ -56,7 +59,9 @@ fn put_forall(
 // Puts a block behind the text, in a line of this indentation.
 #[cycle(statements)]
 pub(crate) fn put_block(text: &mut Vec<u8>, indent: usize, stmts: &[Stmt]) -> Result<(), NoMemory>
-    ensures { OnOk result (text.new.items ≡ text.old.items ++ (codes "begin" ++ join_by (stmt_line (indent + 2)) (codes ";") stmts.now ++ new_line indent ++ codes "end")) }
+    ensures { OnOk result (text.new.items ≡ text.old.items
+        ++ (codes "begin" ++ join_by (stmt_line (indent + 2)) (codes ";") stmts.now
+        ++ new_line indent ++ codes "end")) }
 {
     text.extend_from_slice(b"begin")?;
     let inner = deeper(indent)?;
@@ -73,7 +78,10 @@ fn put_case(
     var: &Name,
     arms: &[SourceArm],
 ) -> Result<(), NoMemory>
-    ensures { OnOk result (text.new.items ≡ text.old.items ++ (codes "case " ++ var.now.text ++ codes " of" ++ join_by (arm_line (indent + 2)) (codes ";") arms.now ++ new_line indent ++ codes "end")) }
+    ensures { OnOk result (text.new.items ≡ text.old.items
+        ++ (codes "case " ++ var.now.text ++ codes " of"
+        ++ join_by (arm_line (indent + 2)) (codes ";") arms.now ++ new_line indent
+        ++ codes "end")) }
 {
     put_case_head(text, var)?;
     let inner = deeper(indent)?;
@@ -85,7 +93,8 @@ fn put_case(
 // Puts statements behind the text, each on a new line of this indentation.
 #[cycle(statements)]
 fn put_stmts(text: &mut Vec<u8>, indent: usize, stmts: &[Stmt]) -> Result<(), NoMemory>
-    ensures { OnOk result (text.new.items ≡ text.old.items ++ join_by (stmt_line indent) (codes ";") stmts.now) }
+    ensures { OnOk result (text.new.items ≡ text.old.items ++ join_by (stmt_line indent)
+        (codes ";") stmts.now) }
 {
     let [first, rest @ ..] = stmts else {
         return Ok(());
@@ -111,7 +120,8 @@ fn put_line(text: &mut Vec<u8>, indent: usize, stmt: &Stmt) -> Result<(), NoMemo
 // Puts arms behind the text, each on a new line of this indentation.
 #[cycle(statements)]
 fn put_arms(text: &mut Vec<u8>, indent: usize, arms: &[SourceArm]) -> Result<(), NoMemory>
-    ensures { OnOk result (text.new.items ≡ text.old.items ++ join_by (arm_line indent) (codes ";") arms.now) }
+    ensures { OnOk result (text.new.items ≡ text.old.items ++ join_by (arm_line indent)
+        (codes ";") arms.now) }
 {
     let [first, rest @ ..] = arms else {
         return Ok(());

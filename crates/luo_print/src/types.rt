@@ -59,7 +59,8 @@ fn put_bound(text: &mut Vec<u8>, bound: Option<Bound>) -> Result<(), NoMemory>
 
 // Puts an atom behind the text.
 fn put_atom(text: &mut Vec<u8>, weight: u128) -> Result<(), NoMemory>
-    ensures { OnOk result (text.new.items ≡ text.old.items ++ codes "atom(" ++ decimal weight ++ codes ")") }
+    ensures { OnOk result (text.new.items ≡ text.old.items ++ codes "atom(" ++ decimal weight
+        ++ codes ")") }
 {
     text.extend_from_slice(b"atom(")?;
     put_number(text, weight)?;
@@ -95,7 +96,8 @@ fn put_expr(text: &mut Vec<u8>, expr: &TypeExpr) -> Result<(), NoMemory>
 // Puts a product behind the text.
 #[cycle(types)]
 fn put_product(text: &mut Vec<u8>, parts: &[TypeExpr]) -> Result<(), NoMemory>
-    ensures { OnOk result (text.new.items ≡ text.old.items ++ (codes "product(" ++ join_by expr_text (codes ", ") parts.now ++ codes ")")) }
+    ensures { OnOk result (text.new.items ≡ text.old.items
+        ++ (codes "product(" ++ join_by expr_text (codes ", ") parts.now ++ codes ")")) }
 {
     text.extend_from_slice(b"product(")?;
     put_exprs(text, b", ", parts)?;
@@ -111,7 +113,8 @@ fn put_collection(
     part: &TypeExpr,
     bound: Option<Bound>,
 ) -> Result<(), NoMemory>
-    ensures { OnOk result (text.new.items ≡ text.old.items ++ (kind_text kind ++ codes "(" ++ expr_text part.now ++ bound_text bound ++ codes ")")) }
+    ensures { OnOk result (text.new.items ≡ text.old.items
+        ++ (kind_text kind ++ codes "(" ++ expr_text part.now ++ bound_text bound ++ codes ")")) }
 {
     text.extend_from_slice(word_of(kind))?;
     text.push(b'(')?;
@@ -124,7 +127,8 @@ fn put_collection(
 // Puts type expressions behind the text, with these bytes between them.
 #[cycle(types)]
 fn put_exprs(text: &mut Vec<u8>, between: &[u8], exprs: &[TypeExpr]) -> Result<(), NoMemory>
-    ensures { OnOk result (text.new.items ≡ text.old.items ++ join_by expr_text between.now exprs.now) }
+    ensures { OnOk result (text.new.items ≡ text.old.items
+        ++ join_by expr_text between.now exprs.now) }
 {
     let [first, rest @ ..] = exprs else {
         return Ok(());

@@ -11,7 +11,8 @@ use luo_source::{Name, SourceValue, SourceValueArm};
 
 // Puts an atom and its charge behind the text.
 fn put_atom(text: &mut Vec<u8>, charge: &Option<Name>) -> Result<(), NoMemory>
-    ensures { OnOk result (text.new.items ≡ text.old.items ++ charge_text charge.now ++ codes "atom") }
+    ensures { OnOk result (text.new.items ≡ text.old.items ++ charge_text charge.now
+        ++ codes "atom") }
 {
     if let Some(measure) = charge {
         put_name(text, measure)?;
@@ -67,7 +68,8 @@ pub(crate) fn put_value(
 // Puts a tuple behind the text.
 #[cycle(values)]
 fn put_tuple(text: &mut Vec<u8>, indent: usize, parts: &[SourceValue]) -> Result<(), NoMemory>
-    ensures { OnOk result (text.new.items ≡ text.old.items ++ (codes "product(" ++ join_by (value_text indent) (codes ", ") parts.now ++ codes ")")) }
+    ensures { OnOk result (text.new.items ≡ text.old.items
+        ++ (codes "product(" ++ join_by (value_text indent) (codes ", ") parts.now ++ codes ")")) }
 {
     text.extend_from_slice(b"product(")?;
     put_parts(text, indent, parts)?;
@@ -78,7 +80,8 @@ fn put_tuple(text: &mut Vec<u8>, indent: usize, parts: &[SourceValue]) -> Result
 // Puts values behind the text, with commas between them.
 #[cycle(values)]
 fn put_parts(text: &mut Vec<u8>, indent: usize, parts: &[SourceValue]) -> Result<(), NoMemory>
-    ensures { OnOk result (text.new.items ≡ text.old.items ++ join_by (value_text indent) (codes ", ") parts.now) }
+    ensures { OnOk result (text.new.items ≡ text.old.items ++ join_by (value_text indent)
+        (codes ", ") parts.now) }
 {
     let [first, rest @ ..] = parts else {
         return Ok(());
@@ -99,7 +102,9 @@ fn put_branch(
     number: u128,
     inner: &SourceValue,
 ) -> Result<(), NoMemory>
-    ensures { OnOk result (text.new.items ≡ text.old.items ++ (decimal number ++ codes " : " ++ (opening inner.now ++ value_text indent inner.now ++ closing inner.now))) }
+    ensures { OnOk result (text.new.items ≡ text.old.items
+        ++ (decimal number ++ codes " : "
+        ++ (opening inner.now ++ value_text indent inner.now ++ closing inner.now))) }
 {
     put_number(text, number)?;
     text.extend_from_slice(b" : ")?;
@@ -117,7 +122,10 @@ fn put_value_case(
     var: &Name,
     arms: &[SourceValueArm],
 ) -> Result<(), NoMemory>
-    ensures { OnOk result (text.new.items ≡ text.old.items ++ (codes "case " ++ var.now.text ++ codes " of" ++ join_by (value_arm_line (indent + 2)) (codes ";") arms.now ++ new_line indent ++ codes "end")) }
+    ensures { OnOk result (text.new.items ≡ text.old.items
+        ++ (codes "case " ++ var.now.text ++ codes " of"
+        ++ join_by (value_arm_line (indent + 2)) (codes ";") arms.now ++ new_line indent
+        ++ codes "end")) }
 {
     put_case_head(text, var)?;
     let inner = deeper(indent)?;
@@ -133,7 +141,8 @@ fn put_value_arms(
     indent: usize,
     arms: &[SourceValueArm],
 ) -> Result<(), NoMemory>
-    ensures { OnOk result (text.new.items ≡ text.old.items ++ join_by (value_arm_line indent) (codes ";") arms.now) }
+    ensures { OnOk result (text.new.items ≡ text.old.items ++ join_by (value_arm_line indent)
+        (codes ";") arms.now) }
 {
     let [first, rest @ ..] = arms else {
         return Ok(());

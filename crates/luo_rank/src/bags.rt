@@ -68,7 +68,9 @@ fn size_of_first(tables: &Tables<'_>, x: usize, f: usize, n: usize, rank: u128) 
     ensures some { 1 ≤ result }
     ensures within { result ≤ n }
     ensures from { below_of tables.now x f n result 0 ≤ rank }
-    ensures to { rank < below_of tables.now x f n result (entry_of tables.now.counts (first_node (tail_at (plain_of tables.now.program) x f)) result) }
+    ensures to { rank < below_of tables.now x f n result
+        (entry_of tables.now.counts
+        (first_node (tail_at (plain_of tables.now.program) x f)) result) }
 {
     let mut d = 1;
     while d < n && below(tables, x, f, n, d + 1, 0) <= rank {
@@ -125,7 +127,8 @@ pub fn bag_first(tables: &Tables<'_>, x: usize, f: usize, n: usize, rank: u128) 
     requires some { 1 ≤ n }
     requires rank { rank < left_count tables.now x f n }
     requires small { rank ≤ MAX }
-    ensures first { IsFirstOf tables.now x f n rank result.size result.labels result.place result.back }
+    ensures first { IsFirstOf tables.now x f n rank result.size result.labels result.place
+        result.back }
     ensures small { result.back ≤ MAX }
 {
     let size = size_of_first(tables, x, f, n, rank);

@@ -18,7 +18,8 @@ pub fn branch_of(tables: &Tables<'_>, parts: &[Part], n: usize, rank: u128) -> F
     requires there { AreThere parts.now (length tables.now.program.nodes) }
     requires size { n ≤ tables.now.last }
     requires rank { rank < sum_below (part_entry tables.now.counts parts.now n) (length parts.now) }
-    ensures { IsFound (part_entry tables.now.counts parts.now n) (length parts.now) rank result.group result.rest }
+    ensures { IsFound (part_entry tables.now.counts parts.now n)
+        (length parts.now) rank result.group result.rest }
 {
     let mut group = 0;
     let mut rest = rank;

@@ -84,7 +84,8 @@ fn node_planes(
 ) -> Result<Items<Items<Items<u128>>>, NoMemory>
     requires tables { IsCounted tables.now }
     requires node { x < length tables.now.program.nodes }
-    ensures { IfOk result (HasPlanes (entry_of tables.now.counts) tables.now.last (shape_of (plain_of tables.now.program) x)) }
+    ensures { IfOk result (HasPlanes (entry_of tables.now.counts) tables.now.last
+        (shape_of (plain_of tables.now.program) x)) }
 {
     match tables.shape(x) {
         Shape::Coll { kind, part, .. } => {
@@ -149,7 +150,16 @@ fn with_all<'p>(
     rests: Items<Items<Items<u128>>>,
     planes: Items<Items<Items<Items<u128>>>>,
 ) -> Tables<'p>
-    ensures { result ≡ record { program = bare.entry.program; last = bare.entry.last; reach = bare.entry.reach; ranks = bare.entry.ranks; counts = bare.entry.counts; rests = rests; planes = planes } }
+    ensures { result ≡ record {
+      program = bare.entry.program;
+      last = bare.entry.last;
+      reach = bare.entry.reach;
+      ranks = bare.entry.ranks;
+      counts = bare.entry.counts;
+      rests =
+          rests;
+      planes = planes;
+    } }
 {
     let Tables {
         program,

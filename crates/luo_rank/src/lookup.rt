@@ -89,8 +89,10 @@ pub fn row_at(
     requires rank { rank < left_count tables.now x f n }
     requires small { rank ≤ MAX }
     requires under { IsUnder (plain_of tables.now.program) (rank_in tables.now.ranks)
-        (work (plain_of tables.now.program) (rank_in tables.now.ranks) x top) (tail_at (plain_of tables.now.program) x f) labels.now n rank }
-    ensures { OnOk result (Tailed (plain_of tables.now.program) x f labels.now n rank (tree_list out.old) (tree_list out.new)) }
+        (work (plain_of tables.now.program) (rank_in tables.now.ranks) x top)
+        (tail_at (plain_of tables.now.program) x f) labels.now n rank }
+    ensures { OnOk result (Tailed (plain_of tables.now.program) x f labels.now n rank
+        (tree_list out.old) (tree_list out.new)) }
 {
     if tables.goes_on(x, f, n) {
         let first = first_of(tables, x, f, n, rank);

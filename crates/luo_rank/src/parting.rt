@@ -68,7 +68,8 @@ fn choose_labels(
     requires reached { length labels.now ≤ pascal.now }
     requires size { size ≤ length labels.now }
     requires place { place < choose (length labels.now) size }
-    ensures { IfOk result (λ parted. ArePlaced labels.now size place first parted.first parted.rest) }
+    ensures { IfOk result (λ parted.
+        ArePlaced labels.now size place first parted.first parted.rest) }
 {
     let mut first = first;
     let mut rest = Items::new(alloc);
@@ -98,8 +99,11 @@ pub fn part_labels(
     requires room { IsRoom tables.now.program.universe labels.now n }
     requires size { size ≤ n }
     requires reach { n ≤ tables.now.last }
-    requires ways { place < head_ways tables.now.program.universe (tail_at (plain_of tables.now.program) x f) n size }
-    ensures { IfOk result (λ parted. ArePartLabels tables.now.program.universe (tail_at (plain_of tables.now.program) x f) labels.now n size place parted.first parted.rest) }
+    requires ways { place < head_ways tables.now.program.universe
+        (tail_at (plain_of tables.now.program) x f) n size }
+    ensures { IfOk result (λ parted. ArePartLabels tables.now.program.universe
+        (tail_at (plain_of tables.now.program) x f) labels.now n size place parted.first
+        parted.rest) }
 {
     match tables.universe() {
         Universe::Unlabelled => Ok(Parted {

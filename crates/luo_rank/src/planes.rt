@@ -57,7 +57,8 @@ pub fn copies_within(
     requires few { n ≤ 40 }
     requires most { most ≤ 40 }
     requires reach { d ≤ 40 }
-    ensures { result ≡ capped (sum_below (λ e. with_size ways.now rows.now d (low + e) n) (suc most - low)) }
+    ensures { result ≡ capped (sum_below (λ e. with_size ways.now rows.now d (low + e) n)
+        (suc most - low)) }
 {
     if most < low {
         return 0;

@@ -45,7 +45,12 @@ impl<'p> Model for Ranker<'p> {
 
     ghost coded = { Prim.hlevel (codes, done.the_row.coded, made.the_row.coded) };
 
-    ghost view = { λ r. record { program = r.tables.program; node = r.node; size = r.tables.last; count = r.count } };
+    ghost view = { λ r. record {
+      program = r.tables.program;
+      node = r.node;
+      size = r.tables.last;
+      count = r.count;
+    } };
 
     ghost invariant = { λ r. Looks r.tables r.labels r.node r.count };
 }
@@ -134,7 +139,8 @@ impl<'p> Ranker<'p> {
     /// `NoMemory` where memory is refused.
     pub fn at(&self, alloc: Global, rank: u128) -> Result<Structure, NoMemory>
         requires rank { rank < self.now.count }
-        ensures { IfOk result (λ s. IsPlace (IsStructure (plain_of self.now.program) self.now.node self.now.size)
+        ensures { IfOk result (λ s. IsPlace
+            (IsStructure (plain_of self.now.program) self.now.node self.now.size)
             IsBefore rank (tree_of s)) }
     {
         let size = self.tables.last();
@@ -167,10 +173,12 @@ impl<'p> Ranker<'p> {
 
     // Half of the places, in which that of s lies.
     fn halved(&self, alloc: Global, s: &Structure, span: Span) -> Result<Span, NoMemory>
-        requires structure { IsStructure (plain_of self.now.program) self.now.node self.now.size (tree_of s.now) }
+        requires structure { IsStructure (plain_of self.now.program) self.now.node self.now.size
+            (tree_of s.now) }
         requires wide { span.low + 1 < span.high }
         requires end { span.high ≤ self.now.count }
-        ensures { IfOk result (λ next. IsHalf (plain_of self.now.program) self.now.node self.now.size
+        ensures { IfOk result (λ next. IsHalf
+            (plain_of self.now.program) self.now.node self.now.size
             (tree_of s.now) span.low span.high next.low next.high) }
     {
         let _size = self.tables.last();
@@ -196,8 +204,10 @@ impl<'p> Ranker<'p> {
     ///
     /// `NoMemory` where memory is refused.
     pub fn rank_of(&self, alloc: Global, s: &Structure) -> Result<u128, NoMemory>
-        requires { IsStructure (plain_of self.now.program) self.now.node self.now.size (tree_of s.now) }
-        ensures { IfOk result (λ rank. IsPlace (IsStructure (plain_of self.now.program) self.now.node self.now.size)
+        requires { IsStructure (plain_of self.now.program) self.now.node self.now.size
+            (tree_of s.now) }
+        ensures { IfOk result (λ rank. IsPlace
+            (IsStructure (plain_of self.now.program) self.now.node self.now.size)
             IsBefore rank (tree_of s.now)) }
     {
         let high = self.count();

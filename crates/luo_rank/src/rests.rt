@@ -69,8 +69,11 @@ fn width(tables: &Tables<'_>, x: usize, f: usize) -> usize
     requires tables { IsCounted tables.now }
     requires node { x < length tables.now.program.nodes }
     requires top { f ≤ top_of (shape_of (plain_of tables.now.program) x) tables.now.last }
-    ensures stands { (n : ℕ) → n < result → Stands (shape_of (plain_of tables.now.program) x) tables.now.last f n × (n ≤ tables.now.last) }
-    ensures all { (n : ℕ) → Stands (shape_of (plain_of tables.now.program) x) tables.now.last f n → n ≤ tables.now.last → n < result }
+    ensures stands { (n : ℕ) → n < result
+        → Stands (shape_of (plain_of tables.now.program) x) tables.now.last f n
+        × (n ≤ tables.now.last) }
+    ensures all { (n : ℕ) → Stands (shape_of (plain_of tables.now.program) x) tables.now.last f n
+        → n ≤ tables.now.last → n < result }
 {
     match tables.shape(x) {
         Shape::Product { .. } => tables.last + 1,
@@ -116,7 +119,8 @@ fn rows_of(alloc: Global, tables: &Tables<'_>, x: usize) -> Result<Items<Items<u
     requires tables { IsCounted tables.now }
     requires node { x < length tables.now.program.nodes }
     requires spread { IsSpread (tail_at (plain_of tables.now.program) x 0) }
-    ensures { IfOk result (AreRows tables.now x (suc (top_of (shape_of (plain_of tables.now.program) x) tables.now.last))) }
+    ensures { IfOk result (AreRows tables.now x
+        (suc (top_of (shape_of (plain_of tables.now.program) x) tables.now.last))) }
 {
     let most = tables.top(x);
     let mut rows = Items::new(alloc);

@@ -84,7 +84,8 @@ pub fn share_first(tables: &Tables<'_>, x: usize, f: usize, n: usize, rank: u128
     requires size { n ≤ tables.now.last }
     requires rank { rank < left_count tables.now x f n }
     requires small { rank ≤ MAX }
-    ensures first { IsFirstOf tables.now x f n rank result.size result.labels result.place result.back }
+    ensures first { IsFirstOf tables.now x f n rank result.size result.labels result.place
+        result.back }
     ensures small { result.back ≤ MAX }
 {
     let behind = tables.rest(x, f + 1);

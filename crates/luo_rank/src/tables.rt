@@ -44,9 +44,25 @@ impl<'p> Model for Tables<'p> {
 
     ghost coded = { Prim.hlevel (codes, done.the_row.coded, made.the_row.coded) };
 
-    ghost view = { λ t. record { program = t.program.now; reach = t.pascal; last = t.last; ranks = t.ranks; counts = t.counts; rests = t.rests; planes = t.planes } };
+    ghost view = { λ t. record {
+      program = t.program.now;
+      reach = t.pascal;
+      last = t.last;
+      ranks = t.ranks;
+      counts = t.counts;
+      rests = t.rests;
+      planes = t.planes;
+    } };
 
-    ghost invariant = { λ t. IsCounted (record { program = t.program.now; reach = t.pascal; last = t.last; ranks = t.ranks; counts = t.counts; rests = t.rests; planes = t.planes }) };
+    ghost invariant = { λ t. IsCounted (record {
+      program = t.program.now;
+      reach = t.pascal;
+      last = t.last;
+      ranks = t.ranks;
+      counts = t.counts;
+      rests = t.rests;
+      planes = t.planes;
+    }) };
 }
 
 impl<'p> Tables<'p> {
@@ -228,7 +244,8 @@ impl<'p> Tables<'p> {
         requires node { x < length self.now.program.nodes }
         requires size { n ≤ self.now.last }
         requires within { k ≤ n }
-        ensures { result ≡ head_ways self.now.program.universe (tail_at (plain_of self.now.program) x f) n k }
+        ensures { result ≡ head_ways self.now.program.universe
+            (tail_at (plain_of self.now.program) x f) n k }
     {
         match self.universe() {
             Universe::Unlabelled => 1,

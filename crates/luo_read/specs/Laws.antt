@@ -8,5 +8,6 @@ use Rattle.luo_read.specs.Reading.{IsNamed}
 
 -- two structures of a node with one text are the same
 abbrev pub OneStructure : Type 0
-OneStructure = (p : Program) → IsProgram p → (x : ℕ) (text : List ℕ) → length text ≤ STRUCTURE_TEXT_LIMIT
+OneStructure =
+    (p : Program) → IsProgram p → (x : ℕ) (text : List ℕ) → length text ≤ STRUCTURE_TEXT_LIMIT
     → (t u : Tree) → IsNamed p x text t → IsNamed p x text u → t ≡ u

@@ -54,4 +54,5 @@ OpensAt n text = (os : List Open) × (length os ≡ n) × AreOpened os × (opens
 -- this byte is the first that opens something beyond the limit
 abbrev pub IsTooDeep : List ℕ → ℕ → Type 0
 IsTooDeep text at =
-    (at < length text) × OpensAt (NESTING_LIMIT + 1) (take (at + 1) text) × ((k : ℕ) → k < at → OpensAt (NESTING_LIMIT + 1) (take (k + 1) text) → ⊥)
+    (at < length text) × OpensAt (NESTING_LIMIT + 1) (take (at + 1) text)
+    × ((k : ℕ) → k < at → OpensAt (NESTING_LIMIT + 1) (take (k + 1) text) → ⊥)

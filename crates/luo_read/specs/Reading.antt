@@ -29,10 +29,16 @@ pub record Reads (p : Program) (x : ℕ) (text : List ℕ) (t : Tree) : Type 0 w
 -- why there is none; of S1 and Deep the one at the lesser byte
 abbrev pub Refusal : Program → ℕ → List ℕ → StructError → Type 0
 Refusal p x text (Long len) = (STRUCTURE_TEXT_LIMIT < length text) × (len ≡ length text)
-Refusal p x text (S1 at) = (length text ≤ STRUCTURE_TEXT_LIMIT) × IsUnreadable text at × ((k : ℕ) → k < at → IsTooDeep text k → ⊥)
-Refusal p x text (Deep at) = (length text ≤ STRUCTURE_TEXT_LIMIT) × IsTooDeep text at × ((k : ℕ) → k ≤ at → IsUnreadable text k → ⊥)
+Refusal p x text (S1 at) =
+    (length text ≤ STRUCTURE_TEXT_LIMIT) × IsUnreadable text at
+    × ((k : ℕ) → k < at → IsTooDeep text k → ⊥)
+Refusal p x text (Deep at) =
+    (length text ≤ STRUCTURE_TEXT_LIMIT) × IsTooDeep text at
+    × ((k : ℕ) → k ≤ at → IsUnreadable text k → ⊥)
 Refusal p x text S2 = IsReadable text × ((t : Tree) → IsNamed p x text t → ⊥)
-Refusal p x text (S3 size) = IsReadable text × ((t : Tree) × IsNamed p x text t × (size ≡ size_of t) × (STRUCTURE_SIZE_LIMIT < size_of t))
+Refusal p x text (S3 size) =
+    IsReadable text
+    × ((t : Tree) × IsNamed p x text t × (size ≡ size_of t) × (STRUCTURE_SIZE_LIMIT < size_of t))
 Refusal p x text NoMemory = ⊥
 
 -- a refusal, or that memory was refused

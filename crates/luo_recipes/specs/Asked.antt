@@ -1,4 +1,5 @@
--- What tables of collections, and of charges over them, were made for and given, whatever their kind.
+-- What tables of collections, and of charges over them, were made for and given, whatever their
+-- kind.
 use Rattle.std.specs.Prelude.{◌≡◌, ℕ, zero, suc, ◌≤◌, ◌<◌, Bool, false, List, [], ◌∷◌, ◌++◌, length, slice_index, take, Option, None, IfSome, nat_lt}
 use Rattle.luo_num.specs.declared.limits.TheConstants.{BOUND_LIMIT, SIZE_LIMIT}
 use Rattle.luo_num.specs.declared.TheConstants.{MAX}
@@ -12,16 +13,16 @@ use Rattle.luo_counting.specs.Numbers.{coll_count, coll_total}
 use Rattle.luo_labelled.specs.Calls as labelled
 use Rattle.luo_unlabelled.specs.Calls as unlabelled
 
--- the tables that count collections: chains are labelled, lines are sequences, and what has parts is a multiset or a
--- powerset, with or without
--- bounds
+-- the tables that count collections: chains are labelled, lines are sequences, and what has parts
+-- is a multiset or a powerset, with or without bounds
 pub data Form : Type 0 where
   of_chain : Form
   of_line : Form
   of_parts : Form
   of_unbounded : Form
 
--- without a greatest number of components, and with a least one of at most 2, a row by size alone serves
+-- without a greatest number of components, and with a least one of at most 2, a row by size alone
+-- serves
 abbrev pub parts_form : ℕ → Option ℕ → Form
 parts_form zero None = of_unbounded
 parts_form (suc zero) None = of_unbounded
@@ -34,8 +35,8 @@ form_of Unlabelled Multiset low high = parts_form low high
 form_of Unlabelled Powerset low high = parts_form low high
 form_of Unlabelled _ low high = of_line
 
--- what a table was made for, the numbers that its calls were given, one for each size from 0 on, and whether the last
--- call answered with a mark
+-- what a table was made for, the numbers that its calls were given, one for each size from 0 on,
+-- and whether the last call answered with a mark
 pub record Asked : Type 0 where
   pub form : Form
   pub universe : Universe
@@ -49,7 +50,16 @@ pub record Asked : Type 0 where
 -- before the first call
 abbrev pub unasked : Universe → Kind → ℕ → Option ℕ → ℕ → Asked
 unasked u k l h n =
-    record { form = form_of u k l h; universe = u; kind = k; low = l; high = h; n_max = n; given = []; over = false }
+    record {
+      form = form_of u k l h;
+      universe = u;
+      kind = k;
+      low = l;
+      high = h;
+      n_max = n;
+      given = [];
+      over = false;
+    }
 
 -- what is seen in a table of labelled collections, and in one of unlabelled ones
 abbrev pub of_labelled : labelled.Calls → Asked
@@ -79,7 +89,8 @@ of_unlabelled f c =
     }
 
 -- the universe has this kind, and the bounds and the greatest size are allowed
-pub record AreBounds (universe : Universe) (kind : Kind) (low : ℕ) (high : Option ℕ) (n_max : ℕ) : Type 0 where
+pub record AreBounds (universe : Universe) (kind : Kind) (low : ℕ) (high : Option ℕ)
+    (n_max : ℕ) : Type 0 where
   pub suits : Suits universe kind low
   pub low_within : low ≤ BOUND_LIMIT
   pub high_within : IfSome high (λ most. (low ≤ most) × (most ≤ BOUND_LIMIT))
@@ -89,9 +100,9 @@ pub record AreBounds (universe : Universe) (kind : Kind) (low : ℕ) (high : Opt
 abbrev pub numbers : List ℕ → ℕ → ℕ → ℕ
 numbers below here = slice_index (below ++ here ∷ [])
 
--- the numbers of a call for the next size go on from those of the calls before, of which none answered with a mark; the
--- last of them, and that
--- of the size at hand, count only where one component is within the bounds
+-- the numbers of a call for the next size go on from those of the calls before, of which none
+-- answered with a mark; the last of them, and that of the size at hand, count only where one
+-- component is within the bounds
 pub record GoesOnAs (c : Asked) (below : List ℕ) (here : ℕ) : Type 0 where
   pub going : c.over ≡ false
   pub reached : length c.given ≤ c.n_max
@@ -107,7 +118,8 @@ pub record GoesOnAs (c : Asked) (below : List ℕ) (here : ℕ) : Type 0 where
 
 -- the number of collections of the next size
 abbrev pub number_asked : Asked → List ℕ → ℕ → ℕ
-number_asked c below here = coll_count c.universe c.kind (numbers below here) c.low c.high (length below)
+number_asked c below here =
+    coll_count c.universe c.kind (numbers below here) c.low c.high (length below)
 
 -- after a call that was given these numbers, and answered the value
 abbrev pub asked_more : Asked → List ℕ → ℕ → ℕ → Asked
@@ -151,8 +163,8 @@ of_labelled_walk w = record { counts = w.counts; sums = of_labelled w.sums }
 abbrev pub of_unlabelled_walk : Form → unlabelled.Walk → AskedWalk
 of_unlabelled_walk f w = record { counts = w.comp; sums = of_unlabelled f w.calls }
 
--- the table is for the same collections as the walk, has answered for the walk's next size and none larger, and both go
--- on from the calls before
+-- the table is for the same collections as the walk, has answered for the walk's next size and none
+-- larger, and both go on from the calls before
 pub record GoesWithAs (c : Asked) (w : AskedWalk) (comp body : List ℕ) (here : ℕ) : Type 0 where
   pub form : c.form ≡ w.sums.form
   pub kind : c.kind ≡ w.sums.kind
@@ -172,10 +184,12 @@ pub record GoesWithAs (c : Asked) (w : AskedWalk) (comp body : List ℕ) (here :
 -- the sum of the charges over all collections of the next size
 abbrev pub total_asked : Asked → List ℕ → ℕ → ℕ
 total_asked c body here =
-    coll_total c.universe c.kind (slice_index c.given) (numbers body here) c.low c.high (length body)
+    coll_total c.universe c.kind (slice_index c.given) (numbers body here) c.low c.high
+    (length body)
 
--- the walk has been given numbers of components as far as it keeps them: a chain's walk keeps those of the size at hand
--- as well
+-- the walk has been given numbers of components as far as it keeps them: a chain's walk keeps those
+-- of the size at hand as well
 pub record KeepsCounts (c : Asked) (comp counts : List ℕ) : Type 0 where
   pub below : (m : ℕ) → m < length comp → slice_index counts m ≡ slice_index comp m
-  pub last : c.form ≡ of_chain → slice_index counts (length comp) ≡ slice_index c.given (length comp)
+  pub last : c.form ≡ of_chain
+      → slice_index counts (length comp) ≡ slice_index c.given (length comp)

@@ -23,11 +23,12 @@ table_at tables x = table_or (slice_index_or tables x None)
 abbrev pub HasTable : List (Option Asked) → ℕ → Type 0
 HasTable tables x = slice_get tables x ≡ Some (Some (table_at tables x))
 
--- the table is for collections of the part within these bounds, and was given the numbers of components in so many
--- calls, the last of them where one
--- component is within the bounds, and else 0
+-- the table is for collections of the part within these bounds, and was given the numbers of
+-- components in so many calls, the last of them where one component is within the bounds, and else
+-- 0
 pub record IsAsked
-    (p : Program) (kind : Kind) (part : Part) (low : ℕ) (high : Option ℕ) (n_max calls : ℕ) (c : Asked) : Type 0 where
+    (p : Program) (kind : Kind) (part : Part) (low : ℕ) (high : Option ℕ) (n_max calls : ℕ)
+    (c : Asked) : Type 0 where
   pub form_is : c.form ≡ form_of p.universe kind low high
   pub universe_is : c.universe ≡ p.universe
   pub kind_is : c.kind ≡ kind
@@ -37,31 +38,37 @@ pub record IsAsked
   pub going : c.over ≡ false
   pub calls_are : length c.given ≡ calls
   pub agrees : (m : ℕ) → suc m < calls → IsCount p part.node m (slice_index c.given m)
-  pub last_agrees : (m : ℕ) → suc m ≡ calls → IsWithin low high 1 → IsCount p part.node m (slice_index c.given m)
+  pub last_agrees : (m : ℕ) → suc m ≡ calls → IsWithin low high 1
+      → IsCount p part.node m (slice_index c.given m)
   pub last_alone : (m : ℕ) → suc m ≡ calls → (IsWithin low high 1 → ⊥) → slice_index c.given m ≡ 0
 
 -- node x has a table, and it has been asked so often
 pub record HasAsked
-    (p : Program) (n_max : ℕ) (tables : List (Option Asked)) (x low : ℕ) (kind : Kind) (part : Part) (high : Option ℕ)
+    (p : Program) (n_max : ℕ) (tables : List (Option Asked)) (x low : ℕ) (kind : Kind) (part : Part)
+    (high : Option ℕ)
     (calls : ℕ) : Type 0 where
   pub there : HasTable tables x
   pub asked : IsAsked p kind part low high n_max calls (table_at tables x)
 
--- the collections before place k of the order have answered size n, those from it on the sizes below n, and none with a
--- mark
+-- the collections before place k of the order have answered size n, those from it on the sizes
+-- below n, and none with a mark
 pub record AreCollections
-    (p : Program) (n_max : ℕ) (order : List ℕ) (tables : List (Option Asked)) (n k : ℕ) : Type 0 where
-  pub asked : (j x low : ℕ) (kind : Kind) (part : Part) (high : Option ℕ) → j < k → slice_get order j ≡ Some x
+    (p : Program) (n_max : ℕ) (order : List ℕ) (tables : List (Option Asked))
+    (n k : ℕ) : Type 0 where
+  pub asked : (j x low : ℕ) (kind : Kind) (part : Part) (high : Option ℕ) → j < k
+      → slice_get order j ≡ Some x
       → shape_of p x ≡ Coll kind part low high
       → HasAsked p n_max tables x low kind part high (n + 1)
-  pub to_ask : (j x low : ℕ) (kind : Kind) (part : Part) (high : Option ℕ) → k ≤ j → slice_get order j ≡ Some x
+  pub to_ask : (j x low : ℕ) (kind : Kind) (part : Part) (high : Option ℕ) → k ≤ j
+      → slice_get order j ≡ Some x
       → shape_of p x ≡ Coll kind part low high
       → HasAsked p n_max tables x low kind part high n
 
 -- each collection of the nodes below y has a table that has not been asked
 abbrev pub AreUnasked : Program → ℕ → List (Option Asked) → ℕ → Type 0
 AreUnasked p n_max tables y =
-    (x low : ℕ) (kind : Kind) (part : Part) (high : Option ℕ) → x < y → shape_of p x ≡ Coll kind part low high
+    (x low : ℕ) (kind : Kind) (part : Part) (high : Option ℕ) → x < y
+    → shape_of p x ≡ Coll kind part low high
     → slice_get tables x ≡ Some (Some (unasked p.universe kind low high n_max))
 
 -- the construct is a collection

@@ -23,15 +23,18 @@ pub record AreRanks (p : Program) (ranks : List ℕ) : Type 0 where
 pub record IsOrderOf (size : ℕ) (Before : ℕ → ℕ → Type 0) (order : List ℕ) : Type 0 where
   pub there : (j x : ℕ) → slice_get order j ≡ Some x → x < size
   pub complete : (x : ℕ) → x < size → (j : ℕ) × (slice_get order j ≡ Some x)
-  pub rising : (i j x y : ℕ) → i < j → slice_get order i ≡ Some x → slice_get order j ≡ Some y → Before x y
+  pub rising : (i j x y : ℕ) → i < j → slice_get order i ≡ Some x → slice_get order j ≡ Some y
+      → Before x y
 
 -- the entry is the number of x at size n, and is within the last number
 abbrev pub IsRightOf : (ℕ → ℕ → ℕ → Type 0) → List (List ℕ) → ℕ → ℕ → Type 0
 IsRightOf Is table x n = Is x n (entry_of table x n) × (entry_of table x n ≤ MAX)
 
--- the entries of smaller sizes are right, of size n those before place k of the order; all others are 0
+-- the entries of smaller sizes are right, of size n those before place k of the order; all others
+-- are 0
 pub record AreFilled
-    (Is : ℕ → ℕ → ℕ → Type 0) (size : ℕ) (order : List ℕ) (table : List (List ℕ)) (n k : ℕ) : Type 0 where
+    (Is : ℕ → ℕ → ℕ → Type 0) (size : ℕ) (order : List ℕ) (table : List (List ℕ))
+    (n k : ℕ) : Type 0 where
   pub wide : length table ≡ size
   pub reach : Reaches n table
   pub below : (x m : ℕ) → x < size → m < n → IsRightOf Is table x m
@@ -46,7 +49,8 @@ pub record NumbersTo (Is : ℕ → ℕ → ℕ → Type 0) (x n value : ℕ) : T
   pub marked : value ≡ capped number
 
 -- the number of x at size n is past the last number, and none that comes before it is
-pub record IsFirstPastOf (Is : ℕ → ℕ → ℕ → Type 0) (size : ℕ) (Before : ℕ → ℕ → Type 0) (n x : ℕ) : Type 0 where
+pub record IsFirstPastOf (Is : ℕ → ℕ → ℕ → Type 0) (size : ℕ) (Before : ℕ → ℕ → Type 0)
+    (n x : ℕ) : Type 0 where
   pub there : x < size
   pub past : (c : ℕ) × Is x n c × (MAX < c)
   pub smaller : (y m c : ℕ) → y < size → m < n → Is y m c → c ≤ MAX
@@ -54,7 +58,8 @@ pub record IsFirstPastOf (Is : ℕ → ℕ → ℕ → Type 0) (size : ℕ) (Bef
 
 -- counts of one size come by rank, and then by number
 abbrev pub IsBefore : List ℕ → ℕ → ℕ → Type 0
-IsBefore ranks x y = (rank_of ranks x < rank_of ranks y) ⊎ ((rank_of ranks x ≡ rank_of ranks y) × (x < y))
+IsBefore ranks x y =
+    (rank_of ranks x < rank_of ranks y) ⊎ ((rank_of ranks x ≡ rank_of ranks y) × (x < y))
 
 abbrev pub IsOrder : Program → List ℕ → List ℕ → Type 0
 IsOrder p ranks order = IsOrderOf (length p.nodes) (IsBefore ranks) order

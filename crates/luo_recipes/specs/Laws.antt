@@ -16,7 +16,8 @@ CountsObey = (p : Program) → IsProgram p → IsFounded p → (counts : ℕ →
 abbrev pub SitesHaveJobs : Type 0
 SitesHaveJobs =
     (p : Program) → IsProgram p
-    → (length (jobs_of p) ≡ length p.sites) × ((i : ℕ) (j : Job) → slice_get (jobs_of p) i ≡ Some j → j.site ≡ i)
+    → (length (jobs_of p) ≡ length p.sites)
+    × ((i : ℕ) (j : Job) → slice_get (jobs_of p) i ≡ Some j → j.site ≡ i)
 
 -- the total of each site is the number of the recipe of its job
 pub record FollowRecipes (p : Program) (counts totals : ℕ → ℕ → ℕ) : Type 0 where

@@ -7,15 +7,18 @@ use Rattle.luo_recipes.specs.Grid.{Reaches, entry_of}
 
 -- each factor has a row of counts, and a row of partial products behind it
 abbrev pub AreLinks : List (Option ℕ) → ℕ → Type 0
-AreLinks factors nodes = (r y : ℕ) → slice_get factors r ≡ Some (Some y) → (y < nodes) × (r + 1 < length factors)
+AreLinks factors nodes =
+    (r y : ℕ) → slice_get factors r ≡ Some (Some y) → (y < nodes) × (r + 1 < length factors)
 
 -- what row r holds at size n once the entries of size n are known
 abbrev pub IsClosed : Universe → List (List ℕ) → List (Option ℕ) → List (List ℕ) → ℕ → ℕ → Type 0
-IsClosed u counts factors partials r n = entry_of partials r n ≡ capped (tail_of u (entry_of counts) (drop r factors) n)
+IsClosed u counts factors partials r n =
+    entry_of partials r n ≡ capped (tail_of u (entry_of counts) (drop r factors) n)
 
 -- what row r holds at size n before
 abbrev pub IsOpen : Universe → List (List ℕ) → List (Option ℕ) → List (List ℕ) → ℕ → ℕ → Type 0
-IsOpen u counts factors partials r n = entry_of partials r n ≡ capped (open_of u (entry_of counts) (drop r factors) n)
+IsOpen u counts factors partials r n =
+    entry_of partials r n ≡ capped (open_of u (entry_of counts) (drop r factors) n)
 
 -- the tables of counts and of partial products reach size n, and are closed at the sizes below it
 pub record AreClosedBelow

@@ -9,10 +9,11 @@ use Rattle.luo_recipes.specs.Plan.{Planned, IsPlan}
 use Rattle.luo_recipes.specs.Asked.{Asked}
 use Rattle.luo_recipes.specs.Collections.{AreCollections}
 
--- as long as the engine hasn't stopped, what is ahead is 0, each collection is asked for the next size, and the partial
--- products are closed
+-- as long as the engine hasn't stopped, what is ahead is 0, each collection is asked for the next
+-- size, and the partial products are closed
 pub record IsGoing
-    (plan : Planned) (counts : List (List ℕ)) (collections : List (Option Asked)) (partials : List (List ℕ))
+    (plan : Planned) (counts : List (List ℕ)) (collections : List (Option Asked))
+    (partials : List (List ℕ))
     (filled : ℕ) : Type 0 where
   pub ahead : (x m : ℕ) → filled ≤ m → entry_of counts x m ≡ 0
   pub asked : AreCollections (plain_of plan.program) plan.reach plan.order collections filled 0
@@ -22,7 +23,8 @@ pub record IsGoing
 
 -- all entries of the filled sizes are right
 pub record IsCounting
-    (plan : Planned) (counts : List (List ℕ)) (collections : List (Option Asked)) (partials : List (List ℕ))
+    (plan : Planned) (counts : List (List ℕ)) (collections : List (Option Asked))
+    (partials : List (List ℕ))
     (last filled : ℕ) (stopped : Bool) : Type 0 where
   pub plan_is : IsPlan plan
   pub reach : plan.reach ≡ last
@@ -31,5 +33,6 @@ pub record IsCounting
   pub partials_reach : Reaches last partials
   pub within : filled ≤ last + 1
   pub small : last ≤ SIZE_LIMIT
-  pub right : (x m : ℕ) → x < length plan.program.nodes → m < filled → IsRight (plain_of plan.program) counts x m
+  pub right : (x m : ℕ) → x < length plan.program.nodes → m < filled
+      → IsRight (plain_of plan.program) counts x m
   pub going : stopped ≡ false → IsGoing plan counts collections partials filled

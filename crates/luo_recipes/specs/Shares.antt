@@ -7,7 +7,8 @@ use Rattle.luo_model.specs.declared.program.Universe.{Universe}
 use Rattle.luo_model.specs.declared.program.Universe.TheVariants.{Unlabelled, Labelled}
 use Rattle.luo_counting.specs.Sharing.{shares, products}
 
--- the ways to choose the labels of the first of two, where it has k of n; without labels there is one
+-- the ways to choose the labels of the first of two, where it has k of n; without labels there is
+-- one
 abbrev pub ways : Universe → ℕ → ℕ → ℕ
 ways Unlabelled n k = 1
 ways Labelled n k = choose n k
@@ -32,22 +33,29 @@ open_of u counts [] n = 0
 open_of u counts (None ∷ rest) n = 0
 open_of u counts (Some y ∷ rest) n = inner u (counts y) (tail_of u counts rest) n
 
--- the ways to share a size among factors one of which is charged: t are a factor's charges, a its counts
+-- the ways to share a size among factors one of which is charged: t are a factor's charges, a its
+-- counts
 abbrev pub point_all : {X : Type 0} → Universe → (X → ℕ → ℕ) → (X → ℕ → ℕ) → List X → ℕ → ℕ
 point_all u a t [] n = 0
-point_all u a t (x ∷ xs) n = shares u (t x) (products u (map a xs)) n + shares u (a x) (point_all u a t xs) n
+point_all u a t (x ∷ xs) n =
+    shares u (t x) (products u (map a xs)) n + shares u (a x) (point_all u a t xs) n
 
 -- some factor has nothing of size 0
 abbrev pub HasNone : {X : Type 0} → (X → ℕ → ℕ) → List X → Type 0
 HasNone {X} a xs = (x : X) × In x xs × (a x 0 ≡ 0)
 
--- at size n each factor is read as t, or as 0 where another factor, or one outside, has nothing of size 0
-abbrev pub AreReady : {X : Type 0} → (X → ℕ → ℕ) → (X → ℕ → ℕ) → (X → ℕ → ℕ) → ℕ → Type 0 → List X → Type 0
+-- at size n each factor is read as t, or as 0 where another factor, or one outside, has nothing of
+-- size 0
+abbrev pub AreReady : {X : Type 0} → (X → ℕ → ℕ) → (X → ℕ → ℕ) → (X → ℕ → ℕ) → ℕ → Type 0 → List X
+    → Type 0
 AreReady a t r n Z [] = Unit {0}
 AreReady a t r n Z (x ∷ xs) =
     ((r x n ≡ t x n) ⊎ ((r x n ≡ 0) × (Z ⊎ HasNone a xs))) × AreReady a t r n (Z ⊎ (a x 0 ≡ 0)) xs
 
--- at size n the charges of each factor are read as they are, or another factor, or one outside, has nothing of size 0
-abbrev pub AreCharged : {X : Type 0} → (X → ℕ → ℕ) → (X → ℕ → ℕ) → (X → ℕ → ℕ) → ℕ → Type 0 → List X → Type 0
+-- at size n the charges of each factor are read as they are, or another factor, or one outside, has
+-- nothing of size 0
+abbrev pub AreCharged : {X : Type 0} → (X → ℕ → ℕ) → (X → ℕ → ℕ) → (X → ℕ → ℕ) → ℕ → Type 0 → List X
+    → Type 0
 AreCharged a t r n Z [] = Unit {0}
-AreCharged a t r n Z (x ∷ xs) = ((r x n ≡ t x n) ⊎ (Z ⊎ HasNone a xs)) × AreCharged a t r n (Z ⊎ (a x 0 ≡ 0)) xs
+AreCharged a t r n Z (x ∷ xs) =
+    ((r x n ≡ t x n) ⊎ (Z ⊎ HasNone a xs)) × AreCharged a t r n (Z ⊎ (a x 0 ≡ 0)) xs

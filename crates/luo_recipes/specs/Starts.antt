@@ -8,4 +8,5 @@ use Rattle.luo_model.specs.Program.{Program, shape_of}
 abbrev pub HaveRoom : Program → List ℕ → Type 0
 HaveRoom p starts =
     (length starts ≡ length p.nodes)
-    × ((x : ℕ) (parts : List Part) → shape_of p x ≡ Product parts → slice_index starts x + length parts < 2 ^ 32)
+    × ((x : ℕ) (parts : List Part) → shape_of p x ≡ Product parts
+    → slice_index starts x + length parts < 2 ^ 32)

@@ -48,7 +48,11 @@ abbrev mutual
       ++ record { site = site; on = part_at vars var; doing = chooses arms } ∷ []
   jobs_of_item p vars (Forall var body body_site site) =
       jobs_of_body p (component (shape_of p (part_at vars var).node) ∷ []) body
-      ++ record { site = body_site; on = component (shape_of p (part_at vars var).node); doing = does body }
+      ++ record {
+        site = body_site;
+        on = component (shape_of p (part_at vars var).node);
+        doing = does body;
+      }
       ∷ (record { site = site; on = part_at vars var; doing = walks body body_site } ∷ [])
 
   pub jobs_of_arms : Program → List Stand → Arms → List Job
@@ -59,7 +63,8 @@ abbrev mutual
 -- the jobs of a procedure, its whole last
 abbrev pub jobs_of_procedure : Program → Procedure → List Job
 jobs_of_procedure p P =
-    jobs_of_body p (P.on ∷ []) P.body ++ record { site = P.site; on = P.on; doing = does P.body } ∷ []
+    jobs_of_body p (P.on ∷ []) P.body
+    ++ record { site = P.site; on = P.on; doing = does P.body } ∷ []
 
 abbrev pub jobs_of : Program → List Job
 jobs_of p = flat_map (jobs_of_procedure p) p.procs
@@ -78,7 +83,8 @@ pub record FactorSites : Type 0 where
   pub node : ℕ
   pub sites : List ℕ
 
--- a scope: what it charges on each structure of a node, the sites on that structure, and those on its factors
+-- a scope: what it charges on each structure of a node, the sites on that structure, and those on
+-- its factors
 pub record Scope : Type 0 where
   pub own : ℕ
   pub node : ℕ
@@ -108,7 +114,8 @@ sites_on j (item i is) = if var_in i == j then site_in i ∷ sites_on j is else 
 -- these factors, the variables from this one on
 abbrev pub factors_from : Items → ℕ → List Part → List FactorSites
 factors_from is j [] = []
-factors_from is j (part ∷ parts) = record { node = part.node; sites = sites_on j is } ∷ factors_from is (suc j) parts
+factors_from is j (part ∷ parts) =
+    record { node = part.node; sites = sites_on j is } ∷ factors_from is (suc j) parts
 
 -- the scope of a body on structures of a node, where so much of them is bound
 abbrev pub scope_of : Program → ℕ → Bind → Body → Scope
@@ -135,7 +142,12 @@ whole_sites (Some P) = P.site ∷ []
 abbrev pub recipe_of : Program → ℕ → Doing → Recipe
 recipe_of p x (does body) = of_scopes (scope_of p x Whole body ∷ [])
 recipe_of p x (calls callee) =
-    of_scopes (record { own = 0; node = x; sites = whole_sites (slice_get p.procs callee); parts = [] } ∷ [])
+    of_scopes (record {
+      own = 0;
+      node = x;
+      sites = whole_sites (slice_get p.procs callee);
+      parts = [];
+    } ∷ [])
 recipe_of p x (chooses arms) = of_scopes (scopes_of p (stand_nodes x (shape_of p x)) arms)
 recipe_of p x (walks body body_site) = of_each x body_site
 
@@ -149,7 +161,8 @@ factor_totals totals f n = sum_by (λ s. totals s n) f.sites
 abbrev pub scope_number : Universe → (ℕ → ℕ → ℕ) → (ℕ → ℕ → ℕ) → Scope → ℕ → ℕ
 scope_number u counts totals S n =
     S.own * counts S.node n
-    + (sum_by (λ s. totals s n) S.sites + point_all u (factor_counts counts) (factor_totals totals) S.parts n)
+    + (sum_by (λ s. totals s n) S.sites
+    + point_all u (factor_counts counts) (factor_totals totals) S.parts n)
 
 abbrev pub walk_number : Universe → (ℕ → ℕ → ℕ) → (ℕ → ℕ → ℕ) → Shape → ℕ → ℕ → ℕ
 walk_number u counts totals (shape.Coll kind part low high) body_site n =
@@ -158,5 +171,7 @@ walk_number u counts totals _ body_site n = 0
 
 -- the total that a recipe gives at size n
 abbrev pub recipe_number : Program → (ℕ → ℕ → ℕ) → (ℕ → ℕ → ℕ) → Recipe → ℕ → ℕ
-recipe_number p counts totals (of_scopes scopes) n = sum_by (λ S. scope_number p.universe counts totals S n) scopes
-recipe_number p counts totals (of_each x body_site) n = walk_number p.universe counts totals (shape_of p x) body_site n
+recipe_number p counts totals (of_scopes scopes) n =
+    sum_by (λ S. scope_number p.universe counts totals S n) scopes
+recipe_number p counts totals (of_each x body_site) n =
+    walk_number p.universe counts totals (shape_of p x) body_site n

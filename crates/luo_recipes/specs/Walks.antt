@@ -15,7 +15,8 @@ use Rattle.luo_recipes.specs.Grid.{row_of}
 use Rattle.luo_recipes.specs.Filled.{IsRightOf}
 use Rattle.luo_recipes.specs.Asked.{Asked, AskedWalk, unasked, unasked_walk, form_of, of_chain, KeepsCounts, asked_more}
 
--- at site i a walk goes over the collection of its node, and at site s its body is done on each component
+-- at site i a walk goes over the collection of its node, and at site s its body is done on each
+-- component
 pub record IsWalk (p : Program) (i s : ℕ) : Type 0 where
   pub kind : Kind
   pub part : Part
@@ -41,10 +42,11 @@ walk_at walks i = walk_or (slice_index_or walks i None)
 abbrev pub HasWalk : List (Option AskedWalk) → ℕ → Type 0
 HasWalk walks i = slice_get walks i ≡ Some (Some (walk_at walks i))
 
--- the table is for this walk, and was given the numbers of components and the totals of the body in so many calls; the
--- last of them count only
--- where one component is within the bounds, and the last number of components is kept in the labelled universe alone
-pub record IsAskedWalk (p : Program) (i s : ℕ) (walk : IsWalk p i s) (n_max calls : ℕ) (w : AskedWalk) : Type 0 where
+-- the table is for this walk, and was given the numbers of components and the totals of the body in
+-- so many calls; the last of them count only where one component is within the bounds, and the last
+-- number of components is kept in the labelled universe alone
+pub record IsAskedWalk (p : Program) (i s : ℕ) (walk : IsWalk p i s) (n_max calls : ℕ)
+    (w : AskedWalk) : Type 0 where
   pub form_is : w.sums.form ≡ form_of p.universe walk.kind walk.low walk.high
   pub kind_is : w.sums.kind ≡ walk.kind
   pub low_is : w.sums.low ≡ walk.low
@@ -53,9 +55,11 @@ pub record IsAskedWalk (p : Program) (i s : ℕ) (walk : IsWalk p i s) (n_max ca
   pub going : w.sums.over ≡ false
   pub calls_are : length w.sums.given ≡ calls
   pub agrees : (m : ℕ) → suc m < calls → IsTotal p s m (slice_index w.sums.given m)
-  pub last_agrees : (m : ℕ) → suc m ≡ calls → IsWithin walk.low walk.high 1 → IsTotal p s m (slice_index w.sums.given m)
+  pub last_agrees : (m : ℕ) → suc m ≡ calls → IsWithin walk.low walk.high 1
+      → IsTotal p s m (slice_index w.sums.given m)
   pub counts_agree : (m : ℕ) → suc m < calls → IsCount p walk.part.node m (slice_index w.counts m)
-  pub counts_last : form_of p.universe walk.kind walk.low walk.high ≡ of_chain → (m : ℕ) → suc m ≡ calls
+  pub counts_last : form_of p.universe walk.kind walk.low walk.high ≡ of_chain → (m : ℕ)
+      → suc m ≡ calls
       → IsWithin walk.low walk.high 1 → IsCount p walk.part.node m (slice_index w.counts m)
 
 -- site i has a table, and it has been asked so often
@@ -67,25 +71,30 @@ pub record HasAskedWalk
 
 -- if a walk is at site i, and its body at site s, its table has been asked so often
 abbrev pub IsWalkAsked : Program → ℕ → List (Option AskedWalk) → ℕ → ℕ → ℕ → Type 0
-IsWalkAsked p n_max walks i s calls = (walk : IsWalk p i s) → HasAskedWalk p n_max walks i s walk calls
+IsWalkAsked p n_max walks i s calls =
+    (walk : IsWalk p i s) → HasAskedWalk p n_max walks i s walk calls
 
--- the walks before place k of the order have answered size n, those from it on the sizes below n, and none with a mark;
--- `Goes` says at which sites
--- walks are, and at which their bodies
+-- the walks before place k of the order have answered size n, those from it on the sizes below n,
+-- and none with a mark; `Goes` says at which sites walks are, and at which their bodies
 pub record AreWalks
-    (p : Program) (Goes : ℕ → ℕ → Type 0) (n_max : ℕ) (order : List ℕ) (walks : List (Option AskedWalk))
+    (p : Program) (Goes : ℕ → ℕ → Type 0) (n_max : ℕ) (order : List ℕ)
+    (walks : List (Option AskedWalk))
     (n k : ℕ) : Type 0 where
-  pub asked : (j i s : ℕ) → j < k → slice_get order j ≡ Some i → Goes i s → IsWalkAsked p n_max walks i s (n + 1)
-  pub to_ask : (j i s : ℕ) → k ≤ j → slice_get order j ≡ Some i → Goes i s → IsWalkAsked p n_max walks i s n
+  pub asked : (j i s : ℕ) → j < k → slice_get order j ≡ Some i → Goes i s
+      → IsWalkAsked p n_max walks i s (n + 1)
+  pub to_ask : (j i s : ℕ) → k ≤ j → slice_get order j ≡ Some i → Goes i s
+      → IsWalkAsked p n_max walks i s n
 
 -- one component is allowed
 abbrev pub AllowsOne : Shape → Type 0
 AllowsOne (Coll kind part low high) = IsWithin low high 1
 AllowsOne _ = ⊥
 
--- the table of site i has answered the value, when it was given these numbers, and the others are as they were
+-- the table of site i has answered the value, when it was given these numbers, and the others are
+-- as they were
 pub record HasAnswered
-    (c : Asked) (old new : List (Option AskedWalk)) (i : ℕ) (comp body : List ℕ) (here value : ℕ) : Type 0 where
+    (c : Asked) (old new : List (Option AskedWalk)) (i : ℕ) (comp body : List ℕ)
+    (here value : ℕ) : Type 0 where
   pub now : AskedWalk
   pub there : slice_get new i ≡ Some (Some now)
   pub counts : KeepsCounts c comp now.counts

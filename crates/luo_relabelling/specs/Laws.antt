@@ -29,8 +29,10 @@ MembersAreKept =
 -- and what procedures and sites charge, however they are sent
 abbrev pub ChargesAreKept : Type 0
 ChargesAreKept =
-    ((f : ℕ → ℕ) (p : Program) (g : ℕ) (t : Tree) (q : ℕ) → Charges p g t q → Charges p g (relabelled f t) q)
-    × ((f : ℕ → ℕ) (p : Program) (i : ℕ) (t : Tree) (q : ℕ) → SiteCharges p i t q → SiteCharges p i (relabelled f t) q)
+    ((f : ℕ → ℕ) (p : Program) (g : ℕ) (t : Tree) (q : ℕ) → Charges p g t q
+    → Charges p g (relabelled f t) q)
+    × ((f : ℕ → ℕ) (p : Program) (i : ℕ) (t : Tree) (q : ℕ) → SiteCharges p i t q
+    → SiteCharges p i (relabelled f t) q)
 
 -- a count is that of the structures on any labels of the size
 abbrev pub CountsOnAnyLabels : Type 0

@@ -15,7 +15,9 @@ line text = text ++ codes "\n"
 
 -- `n count total average`
 abbrev pub row_text : Row → List ℕ
-row_text row = line (decimal row.n ++ codes " " ++ decimal row.count ++ codes " " ++ decimal row.total ++ codes " " ++ average_text row.total row.count)
+row_text row =
+    line (decimal row.n ++ codes " " ++ decimal row.count ++ codes " " ++ decimal row.total
+    ++ codes " " ++ average_text row.total row.count)
 
 -- the name of a type
 abbrev pub name_of : Program → Option ℕ → List ℕ
@@ -41,4 +43,5 @@ equation_line p e = line (equation_text p e)
 
 -- the universe, the equations, and the sections of the tables
 abbrev pub report_text : Program → List Equation → List Table → List ℕ
-report_text p equations tables = universe_text p.universe ++ flat_map (equation_line p) equations ++ flat_map (section p) tables
+report_text p equations tables =
+    universe_text p.universe ++ flat_map (equation_line p) equations ++ flat_map (section p) tables

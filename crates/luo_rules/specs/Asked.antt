@@ -1,4 +1,5 @@
--- What the rules speak of in a source: each use of a name, each construct and each pattern, with the scope in which it stands.
+-- What the rules speak of in a source: each use of a name, each construct and each pattern, with
+-- the scope in which it stands.
 use Rattle.std.specs.Prelude.{ℕ, suc, ◌+◌, List, [], ◌∷◌, ◌++◌, map, flat_map, length, Option, Some, None, Bool, nat_eq, if◌then◌else◌, codes, decimal}
 use Rattle.luo_model.specs.declared.program.Kind.{Kind}
 use Rattle.luo_model.specs.declared.program.Shape.{Shape}
@@ -45,16 +46,19 @@ pub data Asked : Type 0 where
   renames : ℕ → List Name → Name → Asked
   -- the colon before the result of a procedure of this name
   results : ℕ → Name → Asked
-  -- a variable in a scope: read; handed to a callee; in a case of so many arms; walked over; handed on where a node is expected
+  -- a variable in a scope: read; handed to a callee; in a case of so many arms; walked over; handed
+  -- on where a node is expected
   reads : List Variable → Name → Asked
   hands : List Variable → Name → Name → Asked
   cases : List Variable → Name → ℕ → Asked
   walks : List Variable → Name → Asked
   gives : List Variable → Option ℕ → Name → Asked
-  -- the pattern of an arm that stands for this, in a case on this variable; a name of a pattern behind these
+  -- the pattern of an arm that stands for this, in a case on this variable; a name of a pattern
+  -- behind these
   matches : Stand → Name → Pattern → Asked
   repeats : List Name → Name → Asked
-  -- a callee whose result is of the node that is expected; a construct at this token, of this text, where one that passes a test is expected
+  -- a callee whose result is of the node that is expected; a construct at this token, of this text,
+  -- where one that passes a test is expected
   makes : Option ℕ → Name → Asked
   builds : (Shape → Bool) → Option ℕ → ℕ → List ℕ → Asked
 
@@ -71,7 +75,8 @@ abbrev mutual
   expr_asked (Atom weight weight_at at) = weighs weight weight_at ∷ []
   expr_asked (Union' size parts) = exprs_asked parts
   expr_asked (Product' size parts at) = exprs_asked parts
-  expr_asked (Coll' kind size part bound at) = collects kind at ∷ (exprs_asked part ++ bound_asked kind bound)
+  expr_asked (Coll' kind size part bound at) =
+      collects kind at ∷ (exprs_asked part ++ bound_asked kind bound)
 
   pub exprs_asked : {n : _} → Row_of-TypeExpr n → List Asked
   exprs_asked end_of-TypeExpr = []
@@ -87,14 +92,17 @@ new_asked i (name ∷ rest) = defines name (mean.Definition i) ∷ new_asked (su
 
 abbrev pub types_asked : ℕ → List TypeDef → List Asked
 types_asked i [] = []
-types_asked i (d ∷ ds) = (new_asked i d.names ++ (expr_asked d.body ++ renames_asked i d.names d.body)) ++ types_asked (i + length d.names) ds
+types_asked i (d ∷ ds) =
+    (new_asked i d.names ++ (expr_asked d.body ++ renames_asked i d.names d.body))
+    ++ types_asked (i + length d.names) ds
 
 abbrev pub measures_asked : ℕ → List (Name × ℕ) → List Asked
 measures_asked k [] = []
 measures_asked k (m ∷ ms) = defines m.0 (mean.Measure k m.1) ∷ measures_asked (suc k) ms
 
--- ---- patterns, cases and walks: arms are spoken of where there are as many as what they stand for, what is inside an arm where the
--- pattern fits, and what is inside a walk where the variable is a collection
+-- ---- patterns, cases and walks: arms are spoken of where there are as many as what they stand
+-- for, what is inside an arm where the pattern fits, and what is inside a walk where the variable
+-- is a collection
 
 abbrev pub type_asked : Pattern → List Asked
 type_asked (pattern.Named type) = uses a_type type ∷ []
@@ -104,17 +112,23 @@ type_asked _ = []
 
 abbrev pub repeats_asked : List Name → List Name → List Asked
 repeats_asked earlier [] = []
-repeats_asked earlier (name ∷ names) = repeats earlier name ∷ repeats_asked (earlier ++ name ∷ []) names
+repeats_asked earlier (name ∷ names) =
+    repeats earlier name ∷ repeats_asked (earlier ++ name ∷ []) names
 
 abbrev pub arm_asked : Setting → Stand → Name → Pattern → List Asked → List Asked
-arm_asked s stand var p body = type_asked p ++ (matches stand var p ∷ (repeats_asked [] (factor_names p) ++ (if fits s stand p then body else [])))
+arm_asked s stand var p body =
+    type_asked p
+    ++ (matches stand var p
+    ∷ (repeats_asked [] (factor_names p) ++ (if fits s stand p then body else [])))
 
 abbrev pub arms_inside : Setting → Option (ℕ × ℕ) → ℕ → List Asked → List Asked
 arms_inside s None arms inner = []
-arms_inside s (Some variable) arms inner = if nat_eq arms (length (case_stands s (Some variable))) then inner else []
+arms_inside s (Some variable) arms inner =
+    if nat_eq arms (length (case_stands s (Some variable))) then inner else []
 
 abbrev pub case_asked : Setting → List Variable → Name → ℕ → List Asked → List Asked
-case_asked s scope var arms inner = reads scope var ∷ (cases scope var arms ∷ arms_inside s (found scope var) arms inner)
+case_asked s scope var arms inner =
+    reads scope var ∷ (cases scope var arms ∷ arms_inside s (found scope var) arms inner)
 
 abbrev pub of_collection : Shape → List Asked → List Asked
 of_collection (shape.Coll kind part low high) inner = inner
@@ -130,12 +144,16 @@ abbrev mutual
   pub stmt_asked : Setting → List Variable → Stmt → List Asked
   stmt_asked s scope Skip = []
   stmt_asked s scope (Charge measure) = uses a_measure measure ∷ []
-  stmt_asked s scope (Call callee arg) = uses a_procedure callee ∷ (reads scope arg ∷ (hands scope arg callee ∷ []))
+  stmt_asked s scope (Call callee arg) =
+      uses a_procedure callee ∷ (reads scope arg ∷ (hands scope arg callee ∷ []))
   stmt_asked s scope (Block' size stmts) = stmts_asked s scope stmts
-  stmt_asked s scope (Case' var size arms) = case_asked s scope var (count_arms arms) (arms_asked s (case_stands s (found scope var)) var arms)
+  stmt_asked s scope (Case' var size arms) =
+      case_asked s scope var (count_arms arms)
+      (arms_asked s (case_stands s (found scope var)) var arms)
   stmt_asked s scope (Forall' var source size body) =
       reads scope source ∷ (walks scope source
-      ∷ walk_inside s (found scope source) (stmts_asked s (record { name = var.text; node = walked s (found scope source) } ∷ []) body))
+      ∷ walk_inside s (found scope source)
+      (stmts_asked s (record { name = var.text; node = walked s (found scope source) } ∷ []) body))
 
   pub stmts_asked : Setting → List Variable → {n : _} → Row_of-Stmt n → List Asked
   stmts_asked s scope end_of-Stmt = []
@@ -144,7 +162,8 @@ abbrev mutual
   pub arms_asked : Setting → List Stand → Name → {n : _} → Row_of-SourceArm n → List Asked
   arms_asked s stands var end_of-SourceArm = []
   arms_asked s [] var (more_of-SourceArm p body rest) = []
-  arms_asked s (stand ∷ stands) var (more_of-SourceArm p body rest) = arm_asked s stand var p (stmt_asked s (bound s stand p) body) ++ arms_asked s stands var rest
+  arms_asked s (stand ∷ stands) var (more_of-SourceArm p body rest) =
+      arm_asked s stand var p (stmt_asked s (bound s stand p) body) ++ arms_asked s stands var rest
 
 -- ---- values
 
@@ -154,51 +173,68 @@ charge_asked (Some measure) = uses a_measure measure ∷ []
 
 abbrev mutual
   pub value_asked : Setting → List Variable → Option ℕ → SourceValue → List Asked
-  value_asked s scope expected (made.Given name) = reads scope name ∷ (gives scope expected name ∷ [])
-  value_asked s scope expected (made.Made callee arg) = uses a_procedure callee ∷ (makes expected callee ∷ (reads scope arg ∷ (hands scope arg callee ∷ [])))
-  value_asked s scope expected (made.Atom charge at) = charge_asked charge ++ builds is_atom expected at (codes "atom") ∷ []
+  value_asked s scope expected (made.Given name) =
+      reads scope name ∷ (gives scope expected name ∷ [])
+  value_asked s scope expected (made.Made callee arg) =
+      uses a_procedure callee
+      ∷ (makes expected callee ∷ (reads scope arg ∷ (hands scope arg callee ∷ [])))
+  value_asked s scope expected (made.Atom charge at) =
+      charge_asked charge ++ builds is_atom expected at (codes "atom") ∷ []
   value_asked s scope expected (made.Tuple' size parts at) =
-      builds (has_factors (count_values parts)) expected at (codes "product") ∷ values_asked s scope (part_nodes s expected (count_values parts)) parts
+      builds (has_factors (count_values parts)) expected at (codes "product")
+      ∷ values_asked s scope (part_nodes s expected (count_values parts)) parts
   value_asked s scope expected (made.Branch' number at size inner) =
-      builds (has_branch number) expected at (decimal number) ∷ boxed_value_asked s scope (inner_node s expected number) inner
+      builds (has_branch number) expected at (decimal number)
+      ∷ boxed_value_asked s scope (inner_node s expected number) inner
   value_asked s scope expected (made.Case' var size arms) =
-      case_asked s scope var (count_value_arms arms) (value_arms_asked s (case_stands s (found scope var)) expected var arms)
+      case_asked s scope var (count_value_arms arms)
+      (value_arms_asked s (case_stands s (found scope var)) expected var arms)
 
   pub values_asked : Setting → List Variable → List ℕ → {n : _} → Row_of-SourceValue n → List Asked
   values_asked s scope nodes end_of-SourceValue = []
-  values_asked s scope [] (more_of-SourceValue v rest) = value_asked s scope None v ++ values_asked s scope [] rest
-  values_asked s scope (node ∷ nodes) (more_of-SourceValue v rest) = value_asked s scope (Some node) v ++ values_asked s scope nodes rest
+  values_asked s scope [] (more_of-SourceValue v rest) =
+      value_asked s scope None v ++ values_asked s scope [] rest
+  values_asked s scope (node ∷ nodes) (more_of-SourceValue v rest) =
+      value_asked s scope (Some node) v ++ values_asked s scope nodes rest
 
-  pub boxed_value_asked : Setting → List Variable → Option ℕ → {n : _} → Row_of-SourceValue n → List Asked
+  pub boxed_value_asked : Setting → List Variable → Option ℕ → {n : _} → Row_of-SourceValue n
+      → List Asked
   boxed_value_asked s scope expected end_of-SourceValue = []
   boxed_value_asked s scope expected (more_of-SourceValue v rest) = value_asked s scope expected v
 
-  pub value_arms_asked : Setting → List Stand → Option ℕ → Name → {n : _} → Row_of-SourceValueArm n → List Asked
+  pub value_arms_asked : Setting → List Stand → Option ℕ → Name → {n : _} → Row_of-SourceValueArm n
+      → List Asked
   value_arms_asked s stands expected var end_of-SourceValueArm = []
   value_arms_asked s [] expected var (more_of-SourceValueArm p body rest) = []
   value_arms_asked s (stand ∷ stands) expected var (more_of-SourceValueArm p body rest) =
-      arm_asked s stand var p (value_asked s (bound s stand p) expected body) ++ value_arms_asked s stands expected var rest
+      arm_asked s stand var p (value_asked s (bound s stand p) expected body)
+      ++ value_arms_asked s stands expected var rest
 
 -- ---- procedures, and the whole source
 
 -- a body is spoken of where the type of the parameter is known
 abbrev pub body_asked : Setting → ProcDef → Option ℕ → ProcBody → List Asked
 body_asked s p None (Statements stmts) = []
-body_asked s p (Some node) (Statements stmts) = flat_map (stmt_asked s (parameter p.param node)) stmts
+body_asked s p (Some node) (Statements stmts) =
+    flat_map (stmt_asked s (parameter p.param node)) stmts
 body_asked s p None (Value colon result value) = results colon p.name ∷ (uses a_type result ∷ [])
 body_asked s p (Some node) (Value colon result value) =
-    results colon p.name ∷ (uses a_type result ∷ value_asked s (parameter p.param node) (type_node s result) value)
+    results colon p.name
+    ∷ (uses a_type result ∷ value_asked s (parameter p.param node) (type_node s result) value)
 
 abbrev pub procs_asked : Setting → ℕ → List ProcDef → List Asked
 procs_asked s f [] = []
-procs_asked s f (p ∷ ps) = (defines p.name (mean.Procedure f) ∷ (uses a_type p.on ∷ body_asked s p (type_node s p.on) p.body)) ++ procs_asked s (suc f) ps
+procs_asked s f (p ∷ ps) =
+    (defines p.name (mean.Procedure f)
+    ∷ (uses a_type p.on ∷ body_asked s p (type_node s p.on) p.body)) ++ procs_asked s (suc f) ps
 
 -- of definitions and measures, and of procedures and analyze lines
 abbrev pub first_asked : Source → List Asked
 first_asked source = types_asked 0 source.types ++ measures_asked 0 (measures source)
 
 abbrev pub later_asked : Source → List Asked
-later_asked source = procs_asked (setting_of source) 0 source.procs ++ map (uses a_procedure) source.analyses
+later_asked source =
+    procs_asked (setting_of source) 0 source.procs ++ map (uses a_procedure) source.analyses
 
 -- all that the rules speak of in a source
 abbrev pub asked : Source → List Asked

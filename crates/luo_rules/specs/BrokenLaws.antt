@@ -15,7 +15,9 @@ ListedIsBroken = (source : Source) (b : Breach) → In b (breaches source) → I
 
 -- whatever is broken is listed, or stands behind something that is
 abbrev pub BrokenIsListed : Type 0
-BrokenIsListed = (source : Source) (b : Breach) → IsSource source → IsBroken source b → In b (breaches source) ⊎ ((a : Breach) × In a (breaches source) × (a.token < b.token))
+BrokenIsListed =
+    (source : Source) (b : Breach) → IsSource source → IsBroken source b
+    → In b (breaches source) ⊎ ((a : Breach) × In a (breaches source) × (a.token < b.token))
 
 -- the source breaks no rule
 abbrev pub BreaksNothing : Source → Type 0
@@ -23,25 +25,32 @@ BreaksNothing source = (b : Breach) → IsBroken source b → ⊥
 
 -- this is broken, and nothing is broken before it
 abbrev pub IsFirstBroken : Source → Breach → Type 0
-IsFirstBroken source first = IsBroken source first × ((b : Breach) → IsBroken source b → first.token ≤ b.token)
+IsFirstBroken source first =
+    IsBroken source first × ((b : Breach) → IsBroken source b → first.token ≤ b.token)
 
 -- the breach that an error tells, if any, is the first that is broken
 abbrev pub TellsFirstBroken : Source → CheckError → Type 0
-TellsFirstBroken source (Rule rule token names) = IsFirstBroken source (record { rule = rule; token = token; names = names })
+TellsFirstBroken source (Rule rule token names) =
+    IsFirstBroken source (record { rule = rule; token = token; names = names })
 TellsFirstBroken source (Limit which) = Unit {0}
 TellsFirstBroken source NoMemory = Unit {0}
 
 -- the first breach of the list is the first that is broken
 abbrev pub FirstBreachIsFirstBroken : Type 0
-FirstBreachIsFirstBroken = (source : Source) (first : Breach) → IsSource source → BreaksFirst source first → IsFirstBroken source first
+FirstBreachIsFirstBroken =
+    (source : Source) (first : Breach) → IsSource source → BreaksFirst source first
+    → IsFirstBroken source first
 
 -- the first that is broken is the first breach of the list
 abbrev pub FirstBrokenIsFirstBreach : Type 0
-FirstBrokenIsFirstBreach = (source : Source) (first : Breach) → IsSource source → IsFirstBroken source first → BreaksFirst source first
+FirstBrokenIsFirstBreach =
+    (source : Source) (first : Breach) → IsSource source → IsFirstBroken source first
+    → BreaksFirst source first
 
 -- a source without breaches breaks nothing
 abbrev pub NoBreachBreaksNothing : Type 0
-NoBreachBreaksNothing = (source : Source) → IsSource source → breaches source ≡ [] → BreaksNothing source
+NoBreachBreaksNothing =
+    (source : Source) → IsSource source → breaches source ≡ [] → BreaksNothing source
 
 -- a source that breaks nothing has no breaches
 abbrev pub NothingBrokenIsNoBreach : Type 0

@@ -16,13 +16,32 @@ use Rattle.luo_source.specs.declared.source.Source.{Source}
 abbrev pub name : List ℕ → ℕ → Name
 name text at = record { text = text; at = at }
 
--- type z = atom(1); type t = product(z, z); procedure p(x : t); begin case x of (a, a) : skip end end; analyze p;
+-- type z = atom(1); type t = product(z, z); procedure p(x : t); begin case x of (a, a) : skip end
+-- end; analyze p;
 abbrev pub second_variable : Source
 second_variable = record {
   universe = Unlabelled;
-  types = record { names = (name (codes "z") 1) ∷ []; body = Atom 1 5 3 } ∷ record { names = (name (codes "t") 9) ∷ []; body = Product' (tt ∷ tt ∷ []) (more_of-TypeExpr (Named (name (codes "z") 13)) (more_of-TypeExpr (Named (name (codes "z") 15)) end_of-TypeExpr)) 11 } ∷ [];
+  types =
+      record { names = (name (codes "z") 1) ∷ []; body = Atom 1 5 3 }
+      ∷ record {
+        names = (name (codes "t") 9) ∷ [];
+        body =
+            Product' (tt ∷ tt ∷ [])
+            (more_of-TypeExpr (Named (name (codes "z") 13))
+            (more_of-TypeExpr (Named (name (codes "z") 15)) end_of-TypeExpr)) 11;
+      } ∷ [];
   measures = [];
-  procs = record { name = name (codes "p") 19; param = name (codes "x") 21; on = name (codes "t") 23; body = Statements ((Case' (name (codes "x") 28) (tt ∷ []) (more_of-SourceArm (pattern.Parts ((name (codes "a") 31) ∷ (name (codes "a") 33) ∷ []) 30) Skip end_of-SourceArm)) ∷ []) } ∷ [];
+  procs =
+      record {
+        name = name (codes "p") 19;
+        param = name (codes "x") 21;
+        on = name (codes "t") 23;
+        body =
+            Statements ((Case' (name (codes "x") 28) (tt ∷ [])
+            (more_of-SourceArm
+            (pattern.Parts
+            ((name (codes "a") 31) ∷ (name (codes "a") 33) ∷ []) 30) Skip end_of-SourceArm)) ∷ []);
+      } ∷ [];
   analyses = (name (codes "p") 41) ∷ [];
 }
 
@@ -32,7 +51,19 @@ second_procedure = record {
   universe = Unlabelled;
   types = record { names = (name (codes "z") 1) ∷ []; body = Atom 1 5 3 } ∷ [];
   measures = [];
-  procs = record { name = name (codes "p") 9; param = name (codes "x") 11; on = name (codes "z") 13; body = Statements [] } ∷ record { name = name (codes "p") 20; param = name (codes "y") 22; on = name (codes "z") 24; body = Statements [] } ∷ [];
+  procs =
+      record {
+        name = name (codes "p") 9;
+        param = name (codes "x") 11;
+        on = name (codes "z") 13;
+        body = Statements [];
+      }
+      ∷ record {
+        name = name (codes "p") 20;
+        param = name (codes "y") 22;
+        on = name (codes "z") 24;
+        body = Statements [];
+      } ∷ [];
   analyses = (name (codes "p") 31) ∷ [];
 }
 
@@ -40,9 +71,23 @@ second_procedure = record {
 abbrev pub undefined_type : Source
 undefined_type = record {
   universe = Unlabelled;
-  types = record { names = (name (codes "z") 1) ∷ []; body = Atom 1 5 3 } ∷ record { names = (name (codes "t") 9) ∷ []; body = Product' (tt ∷ tt ∷ []) (more_of-TypeExpr (Named (name (codes "y") 13)) (more_of-TypeExpr (Named (name (codes "z") 15)) end_of-TypeExpr)) 11 } ∷ [];
+  types =
+      record { names = (name (codes "z") 1) ∷ []; body = Atom 1 5 3 }
+      ∷ record {
+        names = (name (codes "t") 9) ∷ [];
+        body =
+            Product' (tt ∷ tt ∷ [])
+            (more_of-TypeExpr (Named (name (codes "y") 13))
+            (more_of-TypeExpr (Named (name (codes "z") 15)) end_of-TypeExpr)) 11;
+      } ∷ [];
   measures = [];
-  procs = record { name = name (codes "p") 19; param = name (codes "x") 21; on = name (codes "z") 23; body = Statements [] } ∷ [];
+  procs =
+      record {
+        name = name (codes "p") 19;
+        param = name (codes "x") 21;
+        on = name (codes "z") 23;
+        body = Statements [];
+      } ∷ [];
   analyses = (name (codes "p") 30) ∷ [];
 }
 
@@ -52,7 +97,13 @@ measure_as_type = record {
   universe = Unlabelled;
   types = record { names = (name (codes "z") 1) ∷ []; body = Atom 1 5 3 } ∷ [];
   measures = record { names = (name (codes "m") 9) ∷ []; value = 1 } ∷ [];
-  procs = record { name = name (codes "p") 14; param = name (codes "x") 16; on = name (codes "m") 18; body = Statements [] } ∷ [];
+  procs =
+      record {
+        name = name (codes "p") 14;
+        param = name (codes "x") 16;
+        on = name (codes "m") 18;
+        body = Statements [];
+      } ∷ [];
   analyses = (name (codes "p") 25) ∷ [];
 }
 
@@ -62,7 +113,16 @@ wrong_uses = record {
   universe = Unlabelled;
   types = record { names = (name (codes "z") 1) ∷ []; body = Atom 1 5 3 } ∷ [];
   measures = [];
-  procs = record { name = name (codes "p") 9; param = name (codes "x") 11; on = name (codes "z") 13; body = Statements ((Call (name (codes "q") 17) (name (codes "x") 19)) ∷ (Call (name (codes "z") 22) (name (codes "x") 24)) ∷ (Charge (name (codes "p") 27)) ∷ []) } ∷ [];
+  procs =
+      record {
+        name = name (codes "p") 9;
+        param = name (codes "x") 11;
+        on = name (codes "z") 13;
+        body =
+            Statements ((Call (name (codes "q") 17) (name (codes "x") 19))
+            ∷ (Call (name (codes "z") 22) (name (codes "x") 24)) ∷ (Charge (name (codes "p") 27)) ∷ []);
+      }
+      ∷ [];
   analyses = (name (codes "z") 31) ∷ [];
 }
 
@@ -70,29 +130,84 @@ wrong_uses = record {
 abbrev pub kinds_with_labels : Source
 kinds_with_labels = record {
   universe = Unlabelled;
-  types = record { names = (name (codes "z") 1) ∷ []; body = Atom 1 5 3 } ∷ record { names = (name (codes "s") 9) ∷ []; body = Coll' Set _ (more_of-TypeExpr (Named (name (codes "z") 13)) end_of-TypeExpr) None 11 } ∷ record { names = (name (codes "c") 17) ∷ []; body = Coll' Cycle _ (more_of-TypeExpr (Named (name (codes "z") 21)) end_of-TypeExpr) None 19 } ∷ [];
+  types =
+      record { names = (name (codes "z") 1) ∷ []; body = Atom 1 5 3 }
+      ∷ record {
+        names = (name (codes "s") 9) ∷ [];
+        body = Coll' Set _ (more_of-TypeExpr (Named (name (codes "z") 13)) end_of-TypeExpr) None 11;
+      }
+      ∷ record {
+        names = (name (codes "c") 17) ∷ [];
+        body =
+            Coll' Cycle _ (more_of-TypeExpr (Named (name (codes "z") 21)) end_of-TypeExpr) None 19;
+      } ∷ [];
   measures = [];
-  procs = record { name = name (codes "p") 25; param = name (codes "x") 27; on = name (codes "z") 29; body = Statements [] } ∷ [];
+  procs =
+      record {
+        name = name (codes "p") 25;
+        param = name (codes "x") 27;
+        on = name (codes "z") 29;
+        body = Statements [];
+      } ∷ [];
   analyses = (name (codes "p") 36) ∷ [];
 }
 
--- labelled; type z = atom(1); type m = multiset(z); type w = powerset(z); procedure p(x : z); begin end; analyze p;
+-- labelled; type z = atom(1); type m = multiset(z); type w = powerset(z); procedure p(x : z); begin
+-- end; analyze p;
 abbrev pub kinds_without : Source
 kinds_without = record {
   universe = Labelled;
-  types = record { names = (name (codes "z") 3) ∷ []; body = Atom 1 7 5 } ∷ record { names = (name (codes "m") 11) ∷ []; body = Coll' Multiset _ (more_of-TypeExpr (Named (name (codes "z") 15)) end_of-TypeExpr) None 13 } ∷ record { names = (name (codes "w") 19) ∷ []; body = Coll' Powerset _ (more_of-TypeExpr (Named (name (codes "z") 23)) end_of-TypeExpr) None 21 } ∷ [];
+  types =
+      record { names = (name (codes "z") 3) ∷ []; body = Atom 1 7 5 }
+      ∷ record {
+        names = (name (codes "m") 11) ∷ [];
+        body =
+            Coll' Multiset _ (more_of-TypeExpr (Named (name (codes "z") 15)) end_of-TypeExpr) None 13;
+      }
+      ∷ record {
+        names = (name (codes "w") 19) ∷ [];
+        body =
+            Coll' Powerset _ (more_of-TypeExpr (Named (name (codes "z") 23)) end_of-TypeExpr) None 21;
+      }
+      ∷ [];
   measures = [];
-  procs = record { name = name (codes "p") 27; param = name (codes "x") 29; on = name (codes "z") 31; body = Statements [] } ∷ [];
+  procs =
+      record {
+        name = name (codes "p") 27;
+        param = name (codes "x") 29;
+        on = name (codes "z") 31;
+        body = Statements [];
+      } ∷ [];
   analyses = (name (codes "p") 38) ∷ [];
 }
 
--- labelled; type z = atom(1); type a = cycle(z, card <= 0); type b = cycle(z, card >= 0); procedure p(x : z); begin end; analyze p;
+-- labelled; type z = atom(1); type a = cycle(z, card <= 0); type b = cycle(z, card >= 0); procedure
+-- p(x : z); begin end; analyze p;
 abbrev pub low_cycles : Source
 low_cycles = record {
   universe = Labelled;
-  types = record { names = (name (codes "z") 3) ∷ []; body = Atom 1 7 5 } ∷ record { names = (name (codes "a") 11) ∷ []; body = Coll' Cycle _ (more_of-TypeExpr (Named (name (codes "z") 15)) end_of-TypeExpr) (Some (record { range = AtMost 0; at = 17 })) 13 } ∷ record { names = (name (codes "b") 23) ∷ []; body = Coll' Cycle _ (more_of-TypeExpr (Named (name (codes "z") 27)) end_of-TypeExpr) (Some (record { range = AtLeast 0; at = 29 })) 25 } ∷ [];
+  types =
+      record { names = (name (codes "z") 3) ∷ []; body = Atom 1 7 5 }
+      ∷ record {
+        names = (name (codes "a") 11) ∷ [];
+        body =
+            Coll' Cycle _ (more_of-TypeExpr (Named (name (codes "z") 15)) end_of-TypeExpr)
+            (Some (record { range = AtMost 0; at = 17 })) 13;
+      }
+      ∷ record {
+        names = (name (codes "b") 23) ∷ [];
+        body =
+            Coll' Cycle _ (more_of-TypeExpr (Named (name (codes "z") 27)) end_of-TypeExpr)
+            (Some (record { range = AtLeast 0; at = 29 })) 25;
+      } ∷ [];
   measures = [];
-  procs = record { name = name (codes "p") 35; param = name (codes "x") 37; on = name (codes "z") 39; body = Statements [] } ∷ [];
+  procs =
+      record {
+        name = name (codes "p") 35;
+        param = name (codes "x") 37;
+        on = name (codes "z") 39;
+        body = Statements [];
+      } ∷ [];
   analyses = (name (codes "p") 46) ∷ [];
 }
 
@@ -100,9 +215,22 @@ low_cycles = record {
 abbrev pub low_powerset : Source
 low_powerset = record {
   universe = Unlabelled;
-  types = record { names = (name (codes "z") 1) ∷ []; body = Atom 1 5 3 } ∷ record { names = (name (codes "a") 9) ∷ []; body = Coll' Powerset _ (more_of-TypeExpr (Named (name (codes "z") 13)) end_of-TypeExpr) (Some (record { range = AtLeast 2; at = 15 })) 11 } ∷ [];
+  types =
+      record { names = (name (codes "z") 1) ∷ []; body = Atom 1 5 3 }
+      ∷ record {
+        names = (name (codes "a") 9) ∷ [];
+        body =
+            Coll' Powerset _ (more_of-TypeExpr (Named (name (codes "z") 13)) end_of-TypeExpr)
+            (Some (record { range = AtLeast 2; at = 15 })) 11;
+      } ∷ [];
   measures = [];
-  procs = record { name = name (codes "p") 21; param = name (codes "x") 23; on = name (codes "z") 25; body = Statements [] } ∷ [];
+  procs =
+      record {
+        name = name (codes "p") 21;
+        param = name (codes "x") 23;
+        on = name (codes "z") 25;
+        body = Statements [];
+      } ∷ [];
   analyses = (name (codes "p") 32) ∷ [];
 }
 
@@ -112,7 +240,13 @@ heavy = record {
   universe = Unlabelled;
   types = record { names = (name (codes "z") 1) ∷ []; body = Atom 17 5 3 } ∷ [];
   measures = [];
-  procs = record { name = name (codes "p") 9; param = name (codes "x") 11; on = name (codes "z") 13; body = Statements [] } ∷ [];
+  procs =
+      record {
+        name = name (codes "p") 9;
+        param = name (codes "x") 11;
+        on = name (codes "z") 13;
+        body = Statements [];
+      } ∷ [];
   analyses = (name (codes "p") 20) ∷ [];
 }
 
@@ -122,17 +256,38 @@ heavy_label = record {
   universe = Labelled;
   types = record { names = (name (codes "z") 3) ∷ []; body = Atom 2 7 5 } ∷ [];
   measures = [];
-  procs = record { name = name (codes "p") 11; param = name (codes "x") 13; on = name (codes "z") 15; body = Statements [] } ∷ [];
+  procs =
+      record {
+        name = name (codes "p") 11;
+        param = name (codes "x") 13;
+        on = name (codes "z") 15;
+        body = Statements [];
+      } ∷ [];
   analyses = (name (codes "p") 22) ∷ [];
 }
 
--- type z = atom(1); type w = atom(1); procedure p(x : z); begin q(x) end; procedure q(y : w); begin end; analyze p;
+-- type z = atom(1); type w = atom(1); procedure p(x : z); begin q(x) end; procedure q(y : w); begin
+-- end; analyze p;
 abbrev pub other_argument : Source
 other_argument = record {
   universe = Unlabelled;
-  types = record { names = (name (codes "z") 1) ∷ []; body = Atom 1 5 3 } ∷ record { names = (name (codes "w") 9) ∷ []; body = Atom 1 13 11 } ∷ [];
+  types =
+      record { names = (name (codes "z") 1) ∷ []; body = Atom 1 5 3 }
+      ∷ record { names = (name (codes "w") 9) ∷ []; body = Atom 1 13 11 } ∷ [];
   measures = [];
-  procs = record { name = name (codes "p") 17; param = name (codes "x") 19; on = name (codes "z") 21; body = Statements ((Call (name (codes "q") 25) (name (codes "x") 27)) ∷ []) } ∷ record { name = name (codes "q") 32; param = name (codes "y") 34; on = name (codes "w") 36; body = Statements [] } ∷ [];
+  procs =
+      record {
+        name = name (codes "p") 17;
+        param = name (codes "x") 19;
+        on = name (codes "z") 21;
+        body = Statements ((Call (name (codes "q") 25) (name (codes "x") 27)) ∷ []);
+      }
+      ∷ record {
+        name = name (codes "q") 32;
+        param = name (codes "y") 34;
+        on = name (codes "w") 36;
+        body = Statements [];
+      } ∷ [];
   analyses = (name (codes "p") 43) ∷ [];
 }
 
@@ -142,37 +297,102 @@ case_on_atom = record {
   universe = Unlabelled;
   types = record { names = (name (codes "z") 1) ∷ []; body = Atom 1 5 3 } ∷ [];
   measures = [];
-  procs = record { name = name (codes "p") 9; param = name (codes "x") 11; on = name (codes "z") 13; body = Statements ((Case' (name (codes "x") 18) (tt ∷ []) (more_of-SourceArm (pattern.Any 20) Skip end_of-SourceArm)) ∷ []) } ∷ [];
+  procs =
+      record {
+        name = name (codes "p") 9;
+        param = name (codes "x") 11;
+        on = name (codes "z") 13;
+        body =
+            Statements ((Case' (name (codes "x") 18) (tt ∷ [])
+            (more_of-SourceArm (pattern.Any 20) Skip end_of-SourceArm)) ∷ []);
+      } ∷ [];
   analyses = (name (codes "p") 27) ∷ [];
 }
 
--- type z = atom(1); type t = z | z; procedure p(x : t); begin case x of _ : skip end end; analyze p;
+-- type z = atom(1); type t = z | z; procedure p(x : t); begin case x of _ : skip end end; analyze
+-- p;
 abbrev pub missing_arm : Source
 missing_arm = record {
   universe = Unlabelled;
-  types = record { names = (name (codes "z") 1) ∷ []; body = Atom 1 5 3 } ∷ record { names = (name (codes "t") 9) ∷ []; body = Union' (tt ∷ tt ∷ []) (more_of-TypeExpr (Named (name (codes "z") 11)) (more_of-TypeExpr (Named (name (codes "z") 13)) end_of-TypeExpr)) } ∷ [];
+  types =
+      record { names = (name (codes "z") 1) ∷ []; body = Atom 1 5 3 }
+      ∷ record {
+        names = (name (codes "t") 9) ∷ [];
+        body =
+            Union' (tt ∷ tt ∷ [])
+            (more_of-TypeExpr (Named (name (codes "z") 11))
+            (more_of-TypeExpr (Named (name (codes "z") 13)) end_of-TypeExpr));
+      } ∷ [];
   measures = [];
-  procs = record { name = name (codes "p") 16; param = name (codes "x") 18; on = name (codes "t") 20; body = Statements ((Case' (name (codes "x") 25) (tt ∷ []) (more_of-SourceArm (pattern.Any 27) Skip end_of-SourceArm)) ∷ []) } ∷ [];
+  procs =
+      record {
+        name = name (codes "p") 16;
+        param = name (codes "x") 18;
+        on = name (codes "t") 20;
+        body =
+            Statements ((Case' (name (codes "x") 25) (tt ∷ [])
+            (more_of-SourceArm (pattern.Any 27) Skip end_of-SourceArm)) ∷ []);
+      } ∷ [];
   analyses = (name (codes "p") 34) ∷ [];
 }
 
--- type z = atom(1); type t = z | z; procedure p(x : t); begin case x of (a, b) : skip; z : skip end end; analyze p;
+-- type z = atom(1); type t = z | z; procedure p(x : t); begin case x of (a, b) : skip; z : skip end
+-- end; analyze p;
 abbrev pub wrong_pattern : Source
 wrong_pattern = record {
   universe = Unlabelled;
-  types = record { names = (name (codes "z") 1) ∷ []; body = Atom 1 5 3 } ∷ record { names = (name (codes "t") 9) ∷ []; body = Union' (tt ∷ tt ∷ []) (more_of-TypeExpr (Named (name (codes "z") 11)) (more_of-TypeExpr (Named (name (codes "z") 13)) end_of-TypeExpr)) } ∷ [];
+  types =
+      record { names = (name (codes "z") 1) ∷ []; body = Atom 1 5 3 }
+      ∷ record {
+        names = (name (codes "t") 9) ∷ [];
+        body =
+            Union' (tt ∷ tt ∷ [])
+            (more_of-TypeExpr (Named (name (codes "z") 11))
+            (more_of-TypeExpr (Named (name (codes "z") 13)) end_of-TypeExpr));
+      } ∷ [];
   measures = [];
-  procs = record { name = name (codes "p") 16; param = name (codes "x") 18; on = name (codes "t") 20; body = Statements ((Case' (name (codes "x") 25) (tt ∷ tt ∷ []) (more_of-SourceArm (pattern.Parts ((name (codes "a") 28) ∷ (name (codes "b") 30) ∷ []) 27) Skip (more_of-SourceArm (pattern.Named (name (codes "z") 35)) Skip end_of-SourceArm))) ∷ []) } ∷ [];
+  procs =
+      record {
+        name = name (codes "p") 16;
+        param = name (codes "x") 18;
+        on = name (codes "t") 20;
+        body =
+            Statements ((Case' (name (codes "x") 25) (tt ∷ tt ∷ [])
+            (more_of-SourceArm
+            (pattern.Parts ((name (codes "a") 28) ∷ (name (codes "b") 30) ∷ []) 27) Skip
+            (more_of-SourceArm (pattern.Named (name (codes "z") 35)) Skip end_of-SourceArm))) ∷ []);
+      }
+      ∷ [];
   analyses = (name (codes "p") 42) ∷ [];
 }
 
--- type z = atom(1); type t = product(z, z, z); procedure p(x : t); begin case x of (a, a) : skip end end; analyze p;
+-- type z = atom(1); type t = product(z, z, z); procedure p(x : t); begin case x of (a, a) : skip
+-- end end; analyze p;
 abbrev pub wrong_and_twice : Source
 wrong_and_twice = record {
   universe = Unlabelled;
-  types = record { names = (name (codes "z") 1) ∷ []; body = Atom 1 5 3 } ∷ record { names = (name (codes "t") 9) ∷ []; body = Product' (tt ∷ tt ∷ tt ∷ []) (more_of-TypeExpr (Named (name (codes "z") 13)) (more_of-TypeExpr (Named (name (codes "z") 15)) (more_of-TypeExpr (Named (name (codes "z") 17)) end_of-TypeExpr))) 11 } ∷ [];
+  types =
+      record { names = (name (codes "z") 1) ∷ []; body = Atom 1 5 3 }
+      ∷ record {
+        names = (name (codes "t") 9) ∷ [];
+        body =
+            Product' (tt ∷ tt ∷ tt ∷ [])
+            (more_of-TypeExpr (Named (name (codes "z") 13))
+            (more_of-TypeExpr (Named (name (codes "z") 15))
+            (more_of-TypeExpr (Named (name (codes "z") 17)) end_of-TypeExpr))) 11;
+      } ∷ [];
   measures = [];
-  procs = record { name = name (codes "p") 21; param = name (codes "x") 23; on = name (codes "t") 25; body = Statements ((Case' (name (codes "x") 30) (tt ∷ []) (more_of-SourceArm (pattern.Parts ((name (codes "a") 33) ∷ (name (codes "a") 35) ∷ []) 32) Skip end_of-SourceArm)) ∷ []) } ∷ [];
+  procs =
+      record {
+        name = name (codes "p") 21;
+        param = name (codes "x") 23;
+        on = name (codes "t") 25;
+        body =
+            Statements ((Case' (name (codes "x") 30) (tt ∷ [])
+            (more_of-SourceArm
+            (pattern.Parts
+            ((name (codes "a") 33) ∷ (name (codes "a") 35) ∷ []) 32) Skip end_of-SourceArm)) ∷ []);
+      } ∷ [];
   analyses = (name (codes "p") 43) ∷ [];
 }
 
@@ -182,17 +402,41 @@ walk_on_atom = record {
   universe = Unlabelled;
   types = record { names = (name (codes "z") 1) ∷ []; body = Atom 1 5 3 } ∷ [];
   measures = [];
-  procs = record { name = name (codes "p") 9; param = name (codes "x") 11; on = name (codes "z") 13; body = Statements ((Forall' (name (codes "u") 18) (name (codes "x") 20) _ (more_of-Stmt Skip end_of-Stmt)) ∷ []) } ∷ [];
+  procs =
+      record {
+        name = name (codes "p") 9;
+        param = name (codes "x") 11;
+        on = name (codes "z") 13;
+        body =
+            Statements ((Forall' (name (codes "u") 18) (name (codes "x") 20) _
+            (more_of-Stmt Skip end_of-Stmt)) ∷ []);
+      } ∷ [];
   analyses = (name (codes "p") 26) ∷ [];
 }
 
--- type z = atom(1); type s = sequence(z); procedure p(x : s); begin forall u in x do p(x) end; analyze p;
+-- type z = atom(1); type s = sequence(z); procedure p(x : s); begin forall u in x do p(x) end;
+-- analyze p;
 abbrev pub outer_variable : Source
 outer_variable = record {
   universe = Unlabelled;
-  types = record { names = (name (codes "z") 1) ∷ []; body = Atom 1 5 3 } ∷ record { names = (name (codes "s") 9) ∷ []; body = Coll' Sequence _ (more_of-TypeExpr (Named (name (codes "z") 13)) end_of-TypeExpr) None 11 } ∷ [];
+  types =
+      record { names = (name (codes "z") 1) ∷ []; body = Atom 1 5 3 }
+      ∷ record {
+        names = (name (codes "s") 9) ∷ [];
+        body =
+            Coll' Sequence _ (more_of-TypeExpr (Named (name (codes "z") 13)) end_of-TypeExpr) None 11;
+      }
+      ∷ [];
   measures = [];
-  procs = record { name = name (codes "p") 17; param = name (codes "x") 19; on = name (codes "s") 21; body = Statements ((Forall' (name (codes "u") 26) (name (codes "x") 28) _ (more_of-Stmt (Call (name (codes "p") 30) (name (codes "x") 32)) end_of-Stmt)) ∷ []) } ∷ [];
+  procs =
+      record {
+        name = name (codes "p") 17;
+        param = name (codes "x") 19;
+        on = name (codes "s") 21;
+        body =
+            Statements ((Forall' (name (codes "u") 26) (name (codes "x") 28) _
+            (more_of-Stmt (Call (name (codes "p") 30) (name (codes "x") 32)) end_of-Stmt)) ∷ []);
+      } ∷ [];
   analyses = (name (codes "p") 37) ∷ [];
 }
 
@@ -202,18 +446,54 @@ labelled_result = record {
   universe = Labelled;
   types = record { names = (name (codes "z") 3) ∷ []; body = Atom 1 7 5 } ∷ [];
   measures = [];
-  procs = record { name = name (codes "p") 11; param = name (codes "x") 13; on = name (codes "z") 15; body = Value 17 (name (codes "z") 18) (made.Given (name (codes "x") 20)) } ∷ [];
+  procs =
+      record {
+        name = name (codes "p") 11;
+        param = name (codes "x") 13;
+        on = name (codes "z") 15;
+        body = Value 17 (name (codes "z") 18) (made.Given (name (codes "x") 20));
+      } ∷ [];
   analyses = (name (codes "p") 23) ∷ [];
 }
 
--- type z = atom(1); type w = atom(1); type t = product(z, w); procedure p(x : t) : t; case x of (a, b) : product(b, q(a)) end; procedure q(y : z) : z;
--- y; analyze p;
+-- type z = atom(1); type w = atom(1); type t = product(z, w); procedure p(x : t) : t; case x of (a,
+-- b) : product(b, q(a)) end; procedure q(y : z) : z; y; analyze p;
 abbrev pub other_results : Source
 other_results = record {
   universe = Unlabelled;
-  types = record { names = (name (codes "z") 1) ∷ []; body = Atom 1 5 3 } ∷ record { names = (name (codes "w") 9) ∷ []; body = Atom 1 13 11 } ∷ record { names = (name (codes "t") 17) ∷ []; body = Product' (tt ∷ tt ∷ []) (more_of-TypeExpr (Named (name (codes "z") 21)) (more_of-TypeExpr (Named (name (codes "w") 23)) end_of-TypeExpr)) 19 } ∷ [];
+  types =
+      record { names = (name (codes "z") 1) ∷ []; body = Atom 1 5 3 }
+      ∷ record { names = (name (codes "w") 9) ∷ []; body = Atom 1 13 11 }
+      ∷ record {
+        names = (name (codes "t") 17) ∷ [];
+        body =
+            Product' (tt ∷ tt ∷ [])
+            (more_of-TypeExpr (Named (name (codes "z") 21))
+            (more_of-TypeExpr (Named (name (codes "w") 23)) end_of-TypeExpr)) 19;
+      } ∷ [];
   measures = [];
-  procs = record { name = name (codes "p") 27; param = name (codes "x") 29; on = name (codes "t") 31; body = Value 33 (name (codes "t") 34) (made.Case' (name (codes "x") 37) (tt ∷ []) (more_of-SourceValueArm (pattern.Parts ((name (codes "a") 40) ∷ (name (codes "b") 42) ∷ []) 39) (made.Tuple' (tt ∷ tt ∷ []) (more_of-SourceValue (made.Given (name (codes "b") 47)) (more_of-SourceValue (made.Made (name (codes "q") 49) (name (codes "a") 51)) end_of-SourceValue)) 45) end_of-SourceValueArm)) } ∷ record { name = name (codes "q") 57; param = name (codes "y") 59; on = name (codes "z") 61; body = Value 63 (name (codes "z") 64) (made.Given (name (codes "y") 66)) } ∷ [];
+  procs =
+      record {
+        name = name (codes "p") 27;
+        param = name (codes "x") 29;
+        on = name (codes "t") 31;
+        body =
+            Value 33 (name (codes "t") 34)
+            (made.Case' (name (codes "x") 37) (tt ∷ [])
+            (more_of-SourceValueArm
+            (pattern.Parts ((name (codes "a") 40) ∷ (name (codes "b") 42) ∷ []) 39)
+            (made.Tuple' (tt ∷ tt ∷ [])
+            (more_of-SourceValue (made.Given (name (codes "b") 47))
+            (more_of-SourceValue
+            (made.Made (name (codes "q") 49)
+            (name (codes "a") 51)) end_of-SourceValue)) 45) end_of-SourceValueArm));
+      }
+      ∷ record {
+        name = name (codes "q") 57;
+        param = name (codes "y") 59;
+        on = name (codes "z") 61;
+        body = Value 63 (name (codes "z") 64) (made.Given (name (codes "y") 66));
+      } ∷ [];
   analyses = (name (codes "p") 69) ∷ [];
 }
 
@@ -223,7 +503,20 @@ no_results = record {
   universe = Unlabelled;
   types = record { names = (name (codes "z") 1) ∷ []; body = Atom 1 5 3 } ∷ [];
   measures = [];
-  procs = record { name = name (codes "p") 9; param = name (codes "x") 11; on = name (codes "z") 13; body = Value 15 (name (codes "z") 16) (made.Made (name (codes "q") 18) (name (codes "x") 20)) } ∷ record { name = name (codes "q") 24; param = name (codes "y") 26; on = name (codes "z") 28; body = Statements [] } ∷ [];
+  procs =
+      record {
+        name = name (codes "p") 9;
+        param = name (codes "x") 11;
+        on = name (codes "z") 13;
+        body =
+            Value 15 (name (codes "z") 16) (made.Made (name (codes "q") 18) (name (codes "x") 20));
+      }
+      ∷ record {
+        name = name (codes "q") 24;
+        param = name (codes "y") 26;
+        on = name (codes "z") 28;
+        body = Statements [];
+      } ∷ [];
   analyses = (name (codes "p") 35) ∷ [];
 }
 
@@ -233,17 +526,55 @@ result_and_argument = record {
   universe = Unlabelled;
   types = record { names = (name (codes "z") 1) ∷ []; body = Atom 1 5 3 } ∷ [];
   measures = [];
-  procs = record { name = name (codes "p") 9; param = name (codes "x") 11; on = name (codes "z") 13; body = Value 15 (name (codes "z") 16) (made.Made (name (codes "q") 18) (name (codes "c") 20)) } ∷ record { name = name (codes "q") 24; param = name (codes "y") 26; on = name (codes "z") 28; body = Statements [] } ∷ [];
+  procs =
+      record {
+        name = name (codes "p") 9;
+        param = name (codes "x") 11;
+        on = name (codes "z") 13;
+        body =
+            Value 15 (name (codes "z") 16) (made.Made (name (codes "q") 18) (name (codes "c") 20));
+      }
+      ∷ record {
+        name = name (codes "q") 24;
+        param = name (codes "y") 26;
+        on = name (codes "z") 28;
+        body = Statements [];
+      } ∷ [];
   analyses = (name (codes "p") 35) ∷ [];
 }
 
--- type z = atom(1); type t = product(z, z); procedure p(x : z) : t; atom; procedure q(x : z) : z; product(x, x); analyze p;
+-- type z = atom(1); type t = product(z, z); procedure p(x : z) : t; atom; procedure q(x : z) : z;
+-- product(x, x); analyze p;
 abbrev pub other_constructs : Source
 other_constructs = record {
   universe = Unlabelled;
-  types = record { names = (name (codes "z") 1) ∷ []; body = Atom 1 5 3 } ∷ record { names = (name (codes "t") 9) ∷ []; body = Product' (tt ∷ tt ∷ []) (more_of-TypeExpr (Named (name (codes "z") 13)) (more_of-TypeExpr (Named (name (codes "z") 15)) end_of-TypeExpr)) 11 } ∷ [];
+  types =
+      record { names = (name (codes "z") 1) ∷ []; body = Atom 1 5 3 }
+      ∷ record {
+        names = (name (codes "t") 9) ∷ [];
+        body =
+            Product' (tt ∷ tt ∷ [])
+            (more_of-TypeExpr (Named (name (codes "z") 13))
+            (more_of-TypeExpr (Named (name (codes "z") 15)) end_of-TypeExpr)) 11;
+      } ∷ [];
   measures = [];
-  procs = record { name = name (codes "p") 19; param = name (codes "x") 21; on = name (codes "z") 23; body = Value 25 (name (codes "t") 26) (made.Atom None 28) } ∷ record { name = name (codes "q") 31; param = name (codes "x") 33; on = name (codes "z") 35; body = Value 37 (name (codes "z") 38) (made.Tuple' (tt ∷ tt ∷ []) (more_of-SourceValue (made.Given (name (codes "x") 42)) (more_of-SourceValue (made.Given (name (codes "x") 44)) end_of-SourceValue)) 40) } ∷ [];
+  procs =
+      record {
+        name = name (codes "p") 19;
+        param = name (codes "x") 21;
+        on = name (codes "z") 23;
+        body = Value 25 (name (codes "t") 26) (made.Atom None 28);
+      }
+      ∷ record {
+        name = name (codes "q") 31;
+        param = name (codes "x") 33;
+        on = name (codes "z") 35;
+        body =
+            Value 37 (name (codes "z") 38)
+            (made.Tuple' (tt ∷ tt ∷ [])
+            (more_of-SourceValue (made.Given (name (codes "x") 42))
+            (more_of-SourceValue (made.Given (name (codes "x") 44)) end_of-SourceValue)) 40);
+      } ∷ [];
   analyses = (name (codes "p") 48) ∷ [];
 }
 
@@ -251,8 +582,25 @@ other_constructs = record {
 abbrev pub no_branch : Source
 no_branch = record {
   universe = Unlabelled;
-  types = record { names = (name (codes "z") 1) ∷ []; body = Atom 1 5 3 } ∷ record { names = (name (codes "u") 9) ∷ []; body = Union' (tt ∷ tt ∷ []) (more_of-TypeExpr (Named (name (codes "z") 11)) (more_of-TypeExpr (Named (name (codes "z") 13)) end_of-TypeExpr)) } ∷ [];
+  types =
+      record { names = (name (codes "z") 1) ∷ []; body = Atom 1 5 3 }
+      ∷ record {
+        names = (name (codes "u") 9) ∷ [];
+        body =
+            Union' (tt ∷ tt ∷ [])
+            (more_of-TypeExpr (Named (name (codes "z") 11))
+            (more_of-TypeExpr (Named (name (codes "z") 13)) end_of-TypeExpr));
+      } ∷ [];
   measures = [];
-  procs = record { name = name (codes "p") 16; param = name (codes "x") 18; on = name (codes "z") 20; body = Value 22 (name (codes "u") 23) (made.Branch' 3 25 _ (more_of-SourceValue (made.Given (name (codes "x") 27)) end_of-SourceValue)) } ∷ [];
+  procs =
+      record {
+        name = name (codes "p") 16;
+        param = name (codes "x") 18;
+        on = name (codes "z") 20;
+        body =
+            Value 22 (name (codes "u") 23)
+            (made.Branch' 3 25 _
+            (more_of-SourceValue (made.Given (name (codes "x") 27)) end_of-SourceValue));
+      } ∷ [];
   analyses = (name (codes "p") 30) ∷ [];
 }

@@ -44,11 +44,14 @@ WalksTooMuch source = (breaches source ≡ []) × (WALK_LIMIT < walk_count (core
 abbrev pub IsChecked : Source → Program → Type 0
 IsChecked source p = IsWithinLimits source × IsCore source p × (walk_count p ≤ WALK_LIMIT)
 
--- why the source is no program: a limit, the first breach, the limit on walks, or memory was refused
+-- why the source is no program: a limit, the first breach, the limit on walks, or memory was
+-- refused
 abbrev pub IsUnchecked : Source → CheckError → Type 0
 IsUnchecked source (Limit count.Walks) = IsWithinLimits source × WalksTooMuch source
 IsUnchecked source (Limit which) = PassesFirst source which
-IsUnchecked source (Rule rule token names) = IsWithinLimits source × BreaksFirst source (record { rule = rule; token = token; names = names })
+IsUnchecked source (Rule rule token names) =
+    IsWithinLimits source
+    × BreaksFirst source (record { rule = rule; token = token; names = names })
 IsUnchecked source NoMemory = Unit {0}
 
 -- the error that a stop gives

@@ -6,7 +6,8 @@ use Rattle.luo_rules.specs.declared.names.Meaning.{Meaning}
 use Rattle.luo_rules.specs.Definitions.{Definition, next, name_of}
 
 module _ (names : List (List ℕ × Meaning)) (defs : List Definition) where
-  -- from definition i one comes to definition j by going from names to what they name, through these definitions, i the first of them
+  -- from definition i one comes to definition j by going from names to what they name, through
+  -- these definitions, i the first of them
   abbrev pub Leads : ℕ → List ℕ → ℕ → Type 0
   Leads i [] j = i ≡ j
   Leads i (p ∷ ps) j = (p ≡ i) × (k : ℕ) × (next names defs i ≡ Some k) × Leads k ps j
@@ -15,7 +16,8 @@ module _ (names : List (List ℕ × Meaning)) (defs : List Definition) where
   abbrev pub EndsAt : ℕ → ℕ → Type 0
   EndsAt i j = (ps : List ℕ) × Leads i ps j × (next names defs j ≡ None)
 
-  -- definition i lies on a circle: its name, those of the other definitions on it, each once, and its name again
+  -- definition i lies on a circle: its name, those of the other definitions on it, each once, and
+  -- its name again
   abbrev pub IsCircle : ℕ → List (List ℕ) → Type 0
   IsCircle i chain =
       (ps : List ℕ) × Leads i (i ∷ ps) i × NoDouble (i ∷ ps)

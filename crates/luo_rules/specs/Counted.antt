@@ -108,7 +108,8 @@ abbrev mutual
 
   pub arms_statements : {n : _} → Row_of-SourceArm n → ℕ
   arms_statements end_of-SourceArm = 0
-  arms_statements (more_of-SourceArm pattern body rest) = stmt_statements body + arms_statements rest
+  arms_statements (more_of-SourceArm pattern body rest) =
+      stmt_statements body + arms_statements rest
 
 abbrev pub body_statements : ProcBody → ℕ
 body_statements (Statements stmts) = sum_by stmt_statements stmts

@@ -30,21 +30,27 @@ abbrev pub measures : Source → List (Name × ℕ)
 measures source = flat_map values source.measures
 
 -- names with their meanings, behind others
-abbrev pub with_definitions : List (List ℕ × Meaning) → ℕ → List Definition → List (List ℕ × Meaning)
+abbrev pub with_definitions : List (List ℕ × Meaning) → ℕ → List Definition
+    → List (List ℕ × Meaning)
 with_definitions names i [] = names
-with_definitions names i (d ∷ ds) = with_definitions (with_name names (d.name.text, mean.Definition i)) (suc i) ds
+with_definitions names i (d ∷ ds) =
+    with_definitions (with_name names (d.name.text, mean.Definition i)) (suc i) ds
 
 abbrev pub with_measures : List (List ℕ × Meaning) → ℕ → List (Name × ℕ) → List (List ℕ × Meaning)
 with_measures names k [] = names
-with_measures names k (m ∷ ms) = with_measures (with_name names (m.0.text, mean.Measure k m.1)) (suc k) ms
+with_measures names k (m ∷ ms) =
+    with_measures (with_name names (m.0.text, mean.Measure k m.1)) (suc k) ms
 
 abbrev pub with_procedures : List (List ℕ × Meaning) → ℕ → List ProcDef → List (List ℕ × Meaning)
 with_procedures names f [] = names
-with_procedures names f (p ∷ ps) = with_procedures (with_name names (p.name.text, mean.Procedure f)) (suc f) ps
+with_procedures names f (p ∷ ps) =
+    with_procedures (with_name names (p.name.text, mean.Procedure f)) (suc f) ps
 
 -- all names of a source: types, measures and procedures, in text order
 abbrev pub names_of : Source → List (List ℕ × Meaning)
-names_of source = with_procedures (with_measures (with_definitions [] 0 (definitions source)) 0 (measures source)) 0 source.procs
+names_of source =
+    with_procedures
+    (with_measures (with_definitions [] 0 (definitions source)) 0 (measures source)) 0 source.procs
 
 -- what follows from an element, or where there is none something else
 abbrev pub or_by : {A B : Type 0} → Option A → (A → B) → B → B

@@ -45,31 +45,54 @@ point_at at = expr.Atom 1 (at + 2) at
 
 -- a procedure with statements
 abbrev pub runs : Name → Name → Name → List Stmt → ProcDef
-runs name param type stmts = record { name = name; param = param; on = type; body = Statements stmts }
+runs name param type stmts =
+    record { name = name; param = param; on = type; body = Statements stmts }
 
 -- an unlabelled source
 abbrev pub unlabelled : List TypeDef → List MeasureDef → List ProcDef → List Name → Source
-unlabelled types measures procs analyses = record { universe = Unlabelled; types = types; measures = measures; procs = procs; analyses = analyses }
+unlabelled types measures procs analyses =
+    record {
+      universe = Unlabelled;
+      types = types;
+      measures = measures;
+      procs = procs;
+      analyses = analyses;
+    }
 
 -- type a = b; type b = a;
 abbrev pub circular : Source
-circular = unlabelled (defines (a_at 1) (expr.Named (b_at 3)) ∷ defines (b_at 6) (expr.Named (a_at 8)) ∷ []) [] [] []
+circular =
+    unlabelled (defines (a_at 1) (expr.Named (b_at 3)) ∷ defines (b_at 6) (expr.Named (a_at 8))
+    ∷ []) [] [] []
 
 -- type z = atom(1); type z = epsilon;
 abbrev pub twice : Source
-twice = unlabelled (defines (z_at 1) (point_at 3) ∷ defines (z_at 9) (expr.Epsilon 11) ∷ []) [] [] []
+twice =
+    unlabelled (defines (z_at 1) (point_at 3) ∷ defines (z_at 9) (expr.Epsilon 11) ∷ []) [] [] []
 
 -- type z = atom(1); procedure p(x : z); begin p(u) end; analyze p;
 abbrev pub unbound : Source
-unbound = unlabelled (defines (z_at 1) (point_at 3) ∷ []) [] (runs (p_at 9) (x_at 11) (z_at 13) (stmt.Call (p_at 17) (u_at 19) ∷ []) ∷ []) (p_at 24 ∷ [])
+unbound =
+    unlabelled (defines (z_at 1) (point_at 3) ∷ []) []
+    (runs (p_at 9) (x_at 11) (z_at 13) (stmt.Call (p_at 17) (u_at 19) ∷ []) ∷ []) (p_at 24 ∷ [])
 
 -- type a, b = atom(1); type z = b;
 abbrev pub copied : Source
-copied = unlabelled (record { names = a_at 1 ∷ b_at 3 ∷ []; body = point_at 5 } ∷ defines (z_at 11) (expr.Named (b_at 13)) ∷ []) [] [] []
+copied =
+    unlabelled (record { names = a_at 1 ∷ b_at 3 ∷ []; body = point_at 5 } ∷ defines (z_at 11)
+    (expr.Named (b_at 13)) ∷ []) [] [] []
 
--- type z = atom(1); measure m : 3; procedure p(x : z); begin m; u(x); m end; procedure u(x : z) : z; m atom; analyze p;
+-- type z = atom(1); measure m : 3; procedure p(x : z); begin m; u(x); m end; procedure u(x : z) :
+-- z; m atom; analyze p;
 abbrev pub called : Source
-called = unlabelled (defines (z_at 1) (point_at 3) ∷ []) (record { names = m_at 9 ∷ []; value = 3 } ∷ [])
-    (runs (p_at 14) (x_at 16) (z_at 18) (stmt.Charge (m_at 22) ∷ stmt.Call (u_at 24) (x_at 26) ∷ stmt.Charge (m_at 29) ∷ [])
-    ∷ record { name = u_at 33; param = x_at 35; on = z_at 37; body = Value 39 (z_at 40) (made.Atom (Some (m_at 42)) 43) } ∷ [])
+called =
+    unlabelled (defines (z_at 1) (point_at 3) ∷ []) (record { names = m_at 9 ∷ []; value = 3 } ∷ [])
+    (runs (p_at 14) (x_at 16) (z_at 18)
+    (stmt.Charge (m_at 22) ∷ stmt.Call (u_at 24) (x_at 26) ∷ stmt.Charge (m_at 29) ∷ [])
+    ∷ record {
+      name = u_at 33;
+      param = x_at 35;
+      on = z_at 37;
+      body = Value 39 (z_at 40) (made.Atom (Some (m_at 42)) 43);
+    } ∷ [])
     (p_at 46 ∷ [])

@@ -35,7 +35,8 @@ module _ (names : List (List ℕ × Meaning)) (defs : List Definition) where
   named_part None = bare 0
   named_part (Some i) = record { node = node_of names defs i; name = Some i }
 
-  -- the part that stands for a type expression at this spot: a definition by its name, or a construct by itself
+  -- the part that stands for a type expression at this spot: a definition by its name, or a
+  -- construct by itself
   abbrev pub part_at : Spot → TypeExpr → Part
   part_at at (Named name) = named_part (definition_meant (meaning names name.text))
   part_at at _ = bare at.node
@@ -51,19 +52,38 @@ module _ (names : List (List ℕ × Meaning)) (defs : List Definition) where
   boxed_part_at at (more_of-TypeExpr e rest) = part_at at e
 
   abbrev mutual
-    -- the nodes of a type expression of definition `owner`: a construct stands before those inside it
+    -- the nodes of a type expression of definition `owner`: a construct stands before those inside
+    -- it
     pub nodes_at : ℕ → Spot → TypeExpr → List Node
     nodes_at owner at (Named name) = []
-    nodes_at owner at (Epsilon token) = record { shape = shape.Atom 0; owner = owner; place = at.place } ∷ []
-    nodes_at owner at (Atom weight weight_at token) = record { shape = shape.Atom weight; owner = owner; place = at.place } ∷ []
-    nodes_at owner at (Union' size parts) = record { shape = shape.Union (parts_at (behind at 1) parts); owner = owner; place = at.place } ∷ all_nodes_at owner (behind at 1) parts
-    nodes_at owner at (Product' size parts token) = record { shape = shape.Product (parts_at (behind at 1) parts); owner = owner; place = at.place } ∷ all_nodes_at owner (behind at 1) parts
+    nodes_at owner at (Epsilon token) =
+        record { shape = shape.Atom 0; owner = owner; place = at.place } ∷ []
+    nodes_at owner at (Atom weight weight_at token) =
+        record { shape = shape.Atom weight; owner = owner; place = at.place } ∷ []
+    nodes_at owner at (Union' size parts) =
+        record {
+          shape = shape.Union (parts_at (behind at 1) parts);
+          owner = owner;
+          place = at.place;
+        } ∷ all_nodes_at owner (behind at 1) parts
+    nodes_at owner at (Product' size parts token) =
+        record {
+          shape = shape.Product (parts_at (behind at 1) parts);
+          owner = owner;
+          place = at.place;
+        } ∷ all_nodes_at owner (behind at 1) parts
     nodes_at owner at (Coll' kind size part bound token) =
-        record { shape = shape.Coll kind (boxed_part_at (behind at 1) part) (low_of kind bound) (high_of bound); owner = owner; place = at.place } ∷ all_nodes_at owner (behind at 1) part
+        record {
+          shape = shape.Coll kind (boxed_part_at (behind at 1) part) (low_of kind bound)
+              (high_of bound);
+          owner = owner;
+          place = at.place;
+        } ∷ all_nodes_at owner (behind at 1) part
 
     pub all_nodes_at : ℕ → Spot → {n : _} → Row_of-TypeExpr n → List Node
     all_nodes_at owner at end_of-TypeExpr = []
-    all_nodes_at owner at (more_of-TypeExpr e rest) = nodes_at owner at e ++ all_nodes_at owner (behind at (own_nodes e)) rest
+    all_nodes_at owner at (more_of-TypeExpr e rest) =
+        nodes_at owner at e ++ all_nodes_at owner (behind at (own_nodes e)) rest
 
   -- the spot of a definition's first node
   abbrev pub start : ℕ → Spot
@@ -72,15 +92,19 @@ module _ (names : List (List ℕ × Meaning)) (defs : List Definition) where
   -- definitions from number i on, their nodes from x on
   abbrev pub defs_from : ℕ → List Definition → List Def
   defs_from x [] = []
-  defs_from x (d ∷ ds) = record { name = d.name.text; whole = part_at (start x) d.right } ∷ defs_from (x + own_nodes d.right) ds
+  defs_from x (d ∷ ds) =
+      record { name = d.name.text; whole = part_at (start x) d.right }
+      ∷ defs_from (x + own_nodes d.right) ds
 
   abbrev pub nodes_from : ℕ → ℕ → List Definition → List Node
   nodes_from i x [] = []
-  nodes_from i x (d ∷ ds) = nodes_at i (start x) d.right ++ nodes_from (suc i) (x + own_nodes d.right) ds
+  nodes_from i x (d ∷ ds) =
+      nodes_at i (start x) d.right ++ nodes_from (suc i) (x + own_nodes d.right) ds
 
 -- the node of a type of this name
 abbrev pub named_node : List (List ℕ × Meaning) → List Definition → Name → Option ℕ
-named_node names defs name = option_map (node_of names defs) (definition_meant (meaning names name.text))
+named_node names defs name =
+    option_map (node_of names defs) (definition_meant (meaning names name.text))
 
 -- the result's type of a procedure, where it has a result
 abbrev pub result_name : ProcBody → Option Name
@@ -88,7 +112,11 @@ result_name (Statements stmts) = None
 result_name (Value colon result value) = Some result
 
 abbrev pub signature_of : List (List ℕ × Meaning) → List Definition → ProcDef → Signature
-signature_of names defs p = record { on = named_node names defs p.on; result = option_map (named_node names defs) (result_name p.body) }
+signature_of names defs p =
+    record {
+      on = named_node names defs p.on;
+      result = option_map (named_node names defs) (result_name p.body);
+    }
 
 -- the types of a source with their nodes, its names, and the signatures of its procedures
 abbrev pub setting_of : Source → Setting

@@ -27,18 +27,21 @@ abbrev pub has_factors : ℕ → Shape → Bool
 has_factors k (shape.Product parts) = nat_eq (length parts) k
 has_factors k _ = false
 
--- the pattern fits a branch: its type is the branch's, and it has as many names as the branch has factors
+-- the pattern fits a branch: its type is the branch's, and it has as many names as the branch has
+-- factors
 abbrev pub fits_branch : Setting → ℕ → Pattern → Bool
 fits_branch s y (Named type) = is_node (type_node s type) y
 fits_branch s y (NamedWhole type name) = is_node (type_node s type) y
-fits_branch s y (NamedParts type names) = is_node (type_node s type) y && has_factors (length names) (shape_at s y)
+fits_branch s y (NamedParts type names) =
+    is_node (type_node s type) y && has_factors (length names) (shape_at s y)
 fits_branch s y (Parts names at) = has_factors (length names) (shape_at s y)
 fits_branch s y (Any at) = true
 fits_branch s y (AnyWhole name at) = true
 
 -- the pattern fits a product: it has a name for each factor, or it is `_`
 abbrev pub fits_product : Setting → ℕ → Pattern → Bool
-fits_product s x (NamedParts type names) = is_node (type_node s type) x && has_factors (length names) (shape_at s x)
+fits_product s x (NamedParts type names) =
+    is_node (type_node s type) x && has_factors (length names) (shape_at s x)
 fits_product s x (Parts names at) = has_factors (length names) (shape_at s x)
 fits_product s x (Any at) = true
 fits_product s x _ = false
@@ -76,7 +79,9 @@ is_among text (name ∷ names) = if bytes_eq name.text text then true else is_am
 -- names that stand a second time, behind these
 abbrev pub repeated : List Name → List Name → List Breach
 repeated earlier [] = []
-repeated earlier (name ∷ names) = (if is_among name.text earlier then broken_at Y1 name else []) ++ repeated (earlier ++ name ∷ []) names
+repeated earlier (name ∷ names) =
+    (if is_among name.text earlier then broken_at Y1 name else [])
+    ++ repeated (earlier ++ name ∷ []) names
 
 -- the pattern doesn't fit, in a case on this variable
 abbrev pub misfit : Bool → Pattern → Name → List Breach
@@ -85,7 +90,9 @@ misfit false pattern var = broken Y11 (first_token pattern) var.text
 
 -- the breaches of a pattern, in a case on this variable, in an arm that stands for this
 abbrev pub pattern_breaches : Setting → Stand → Name → Pattern → List Breach
-pattern_breaches s stand var pattern = (pattern_type_use s pattern or_if_none misfit (fits s stand pattern) pattern var) ++ repeated [] (factor_names pattern)
+pattern_breaches s stand var pattern =
+    (pattern_type_use s pattern or_if_none misfit (fits s stand pattern) pattern var)
+    ++ repeated [] (factor_names pattern)
 
 abbrev pub bind_of : Pattern → Bind
 bind_of (Named type) = bind.Nothing
@@ -97,7 +104,8 @@ bind_of (AnyWhole name at) = bind.Whole
 
 -- variables of these names and nodes, one of each
 abbrev pub variables : List Name → List ℕ → List Variable
-variables (name ∷ names) (node ∷ nodes) = record { name = name.text; node = node } ∷ variables names nodes
+variables (name ∷ names) (node ∷ nodes) =
+    record { name = name.text; node = node } ∷ variables names nodes
 variables _ _ = []
 
 -- the variables that the pattern binds, in an arm that stands for this
@@ -109,11 +117,15 @@ bound s stand (Parts names at) = variables names (factors (shape_at s (stand_nod
 bound s stand (Any at) = []
 bound s stand (AnyWhole name at) = record { name = name.text; node = stand_node stand } ∷ []
 
--- the breaches of an arm: those of its pattern, and those of its body, which are spoken of where the pattern fits
+-- the breaches of an arm: those of its pattern, and those of its body, which are spoken of where
+-- the pattern fits
 abbrev pub arm_breaches : Setting → Stand → Name → Pattern → List Breach → List Breach
-arm_breaches s stand var pattern body = pattern_breaches s stand var pattern ++ (if fits s stand pattern then body else [])
+arm_breaches s stand var pattern body =
+    pattern_breaches s stand var pattern ++ (if fits s stand pattern then body else [])
 
--- the breaches of a case on a variable: it is bound, there are as many arms as things to stand for, and then those of the arms
+-- the breaches of a case on a variable: it is bound, there are as many arms as things to stand for,
+-- and then those of the arms
 abbrev pub case_breaches : Setting → Option (ℕ × ℕ) → Name → ℕ → List Breach → List Breach
 case_breaches s None var arms inner = broken_at Y13 var
-case_breaches s (Some variable) var arms inner = if nat_eq arms (length (case_stands s (Some variable))) then inner else broken_at Y10 var
+case_breaches s (Some variable) var arms inner =
+    if nat_eq arms (length (case_stands s (Some variable))) then inner else broken_at Y10 var

@@ -18,14 +18,24 @@ use Rattle.luo_rules.specs.Meanings.{meaning}
 
 -- the types of the setting as a program without procedures
 abbrev pub types_of : Setting → Program
-types_of s = record { universe = s.universe; defs = s.defs; nodes = s.nodes; procs = []; sites = []; analyses = [] }
+types_of s =
+    record {
+      universe = s.universe;
+      defs = s.defs;
+      nodes = s.nodes;
+      procs = [];
+      sites = [];
+      analyses = [];
+    }
 
 abbrev pub meant : Setting → Name → Option Meaning
 meant s name = meaning s.names name.text
 
 -- the node of definition i
 abbrev pub def_node : Setting → ℕ → ℕ
-def_node s i = (slice_index_or s.defs i (record { name = []; whole = record { node = 0; name = None } })).whole.node
+def_node s i =
+    (slice_index_or s.defs i
+    (record { name = []; whole = record { node = 0; name = None } })).whole.node
 
 abbrev pub node_meant : Setting → Option Meaning → Option ℕ
 node_meant s (Some (Definition i)) = Some (def_node s i)
@@ -55,7 +65,8 @@ shape_at s x = shape_of (types_of s) x
 -- the first variable of this name, from place k on: its place and its node
 abbrev pub found_from : ℕ → List Variable → List ℕ → Option (ℕ × ℕ)
 found_from k [] text = None
-found_from k (v ∷ vs) text = if bytes_eq v.name text then Some (k, v.node) else found_from (suc k) vs text
+found_from k (v ∷ vs) text =
+    if bytes_eq v.name text then Some (k, v.node) else found_from (suc k) vs text
 
 abbrev pub found : List Variable → Name → Option (ℕ × ℕ)
 found scope name = found_from 0 scope name.text
@@ -73,7 +84,12 @@ variable_use (Some variable) name = []
 abbrev pub argument_breaches : Option (ℕ × ℕ) → Option ℕ → Name → Name → List Breach
 argument_breaches None on arg callee = broken_at Y13 arg
 argument_breaches (Some variable) None arg callee = []
-argument_breaches (Some variable) (Some node) arg callee = if nat_eq variable.1 node then [] else record { rule = Y9; token = arg.at; names = arg.text ∷ callee.text ∷ [] } ∷ []
+argument_breaches (Some variable) (Some node) arg callee =
+    if nat_eq variable.1 node then [] else record {
+      rule = Y9;
+      token = arg.at;
+      names = arg.text ∷ callee.text ∷ [];
+    } ∷ []
 
 -- what the arms of a case on a variable stand for
 abbrev pub case_stands : Setting → Option (ℕ × ℕ) → List Stand

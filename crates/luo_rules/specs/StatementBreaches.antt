@@ -38,19 +38,27 @@ abbrev mutual
   pub stmt_breaches : Setting → List Variable → Stmt → List Breach
   stmt_breaches s scope Skip = []
   stmt_breaches s scope (Charge measure) = measure_use (meant s measure) measure
-  stmt_breaches s scope (Call callee arg) = procedure_use (meant s callee) callee ++ argument_breaches (found scope arg) (signature_meant s (meant s callee)).on arg callee
+  stmt_breaches s scope (Call callee arg) =
+      procedure_use (meant s callee) callee
+      ++ argument_breaches (found scope arg) (signature_meant s (meant s callee)).on arg callee
   stmt_breaches s scope (Block' size stmts) = stmts_breaches s scope stmts
-  stmt_breaches s scope (Case' var size arms) = case_breaches s (found scope var) var (count_arms arms) (arms_breaches s (case_stands s (found scope var)) var arms)
+  stmt_breaches s scope (Case' var size arms) =
+      case_breaches s (found scope var) var (count_arms arms)
+      (arms_breaches s (case_stands s (found scope var)) var arms)
   stmt_breaches s scope (Forall' var source size body) =
-      walk_breaches s (found scope source) source (stmts_breaches s (record { name = var.text; node = walked s (found scope source) } ∷ []) body)
+      walk_breaches s (found scope source) source
+      (stmts_breaches s
+      (record { name = var.text; node = walked s (found scope source) } ∷ []) body)
 
   pub stmts_breaches : Setting → List Variable → {n : _} → Row_of-Stmt n → List Breach
   stmts_breaches s scope end_of-Stmt = []
-  stmts_breaches s scope (more_of-Stmt stmt rest) = stmt_breaches s scope stmt ++ stmts_breaches s scope rest
+  stmts_breaches s scope (more_of-Stmt stmt rest) =
+      stmt_breaches s scope stmt ++ stmts_breaches s scope rest
 
   -- those of arms that stand for these, in a case on this variable
   pub arms_breaches : Setting → List Stand → Name → {n : _} → Row_of-SourceArm n → List Breach
   arms_breaches s stands var end_of-SourceArm = []
   arms_breaches s [] var (more_of-SourceArm pattern body rest) = []
   arms_breaches s (stand ∷ stands) var (more_of-SourceArm pattern body rest) =
-      arm_breaches s stand var pattern (stmt_breaches s (bound s stand pattern) body) ++ arms_breaches s stands var rest
+      arm_breaches s stand var pattern (stmt_breaches s (bound s stand pattern) body)
+      ++ arms_breaches s stands var rest

@@ -45,24 +45,36 @@ abbrev pub variable : List Variable → Name → ℕ
 variable scope name = place_of (found scope name)
 
 abbrev mutual
-  -- the calls, cases and walks of a statement in a scope, blocks opened up, with sites from this number on: each behind all that stands inside it
+  -- the calls, cases and walks of a statement in a scope, blocks opened up, with sites from this
+  -- number on: each behind all that stands inside it
   pub stmt_items : Setting → List Variable → ℕ → Stmt → plain.Items
-  stmt_items s scope first (Call callee arg) = plain.item (plain.Call (variable scope arg) (procedure_of (meant s callee)) first) plain.no_items
+  stmt_items s scope first (Call callee arg) =
+      plain.item (plain.Call (variable scope arg)
+      (procedure_of (meant s callee)) first) plain.no_items
   stmt_items s scope first (Block' size stmts) = stmts_items s scope first stmts
   stmt_items s scope first (Case' var size arms) =
-      plain.item (plain.Case (variable scope var) (arms_core s (case_stands s (found scope var)) first arms) (first + arms_sites arms)) plain.no_items
+      plain.item (plain.Case (variable scope var)
+      (arms_core s (case_stands s (found scope var)) first arms)
+      (first + arms_sites arms)) plain.no_items
   stmt_items s scope first (Forall' var source size body) =
-      plain.item (plain.Forall (variable scope source) (plain.Does (stmts_own s body) (stmts_items s (record { name = var.text; node = walked s (found scope source) } ∷ []) first body))
+      plain.item (plain.Forall (variable scope source)
+      (plain.Does (stmts_own s body)
+      (stmts_items s
+      (record { name = var.text; node = walked s (found scope source) } ∷ []) first body))
       (first + stmts_sites body) (first + stmts_sites body + 1)) plain.no_items
   stmt_items s scope first _ = plain.no_items
 
   pub stmts_items : Setting → List Variable → ℕ → {n : _} → Row_of-Stmt n → plain.Items
   stmts_items s scope first end_of-Stmt = plain.no_items
-  stmts_items s scope first (more_of-Stmt stmt rest) = join_items (stmt_items s scope first stmt) (stmts_items s scope (first + stmt_sites stmt) rest)
+  stmts_items s scope first (more_of-Stmt stmt rest) =
+      join_items (stmt_items s scope first stmt)
+      (stmts_items s scope (first + stmt_sites stmt) rest)
 
   -- arms that stand for these
   pub arms_core : Setting → List Stand → ℕ → {n : _} → Row_of-SourceArm n → plain.Arms
   arms_core s stands first end_of-SourceArm = plain.no_arms
   arms_core s [] first (more_of-SourceArm pattern body rest) = plain.no_arms
   arms_core s (stand ∷ stands) first (more_of-SourceArm pattern body rest) =
-      plain.arm (bind_of pattern) (plain.Does (stmt_own s body) (stmt_items s (bound s stand pattern) first body)) (arms_core s stands (first + stmt_sites body) rest)
+      plain.arm (bind_of pattern)
+      (plain.Does (stmt_own s body) (stmt_items s (bound s stand pattern) first body))
+      (arms_core s stands (first + stmt_sites body) rest)

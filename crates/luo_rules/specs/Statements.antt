@@ -22,4 +22,5 @@ abbrev mutual
 
   pub value_arms_statements : {n : _} → Row_of-SourceValueArm n → ℕ
   value_arms_statements end_of-SourceValueArm = 0
-  value_arms_statements (more_of-SourceValueArm pattern body rest) = value_statements body + value_arms_statements rest
+  value_arms_statements (more_of-SourceValueArm pattern body rest) =
+      value_statements body + value_arms_statements rest

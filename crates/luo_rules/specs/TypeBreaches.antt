@@ -30,7 +30,8 @@ is_meaning _ _ = false
 
 -- a name that is defined here to mean this, and has another definition before
 abbrev pub name_breaches : List (List ℕ × Meaning) → Name → Meaning → List Breach
-name_breaches names name own = if is_meaning (meaning names name.text) own then [] else broken_at Y1 name
+name_breaches names name own =
+    if is_meaning (meaning names name.text) own then [] else broken_at Y1 name
 
 abbrev pub kind_word : Kind → List ℕ
 kind_word Sequence = codes "sequence"
@@ -82,24 +83,34 @@ is_low Cycle low = nat_le 1 low
 is_low Powerset low = nat_le low 1
 is_low _ low = true
 
--- a bound that holds of no number, of a cycle that may be empty, or of a powerset of at least two components
+-- a bound that holds of no number, of a cycle that may be empty, or of a powerset of at least two
+-- components
 abbrev pub bound_breaches : Kind → Option Bound → List Breach
 bound_breaches kind None = []
-bound_breaches kind (Some bound) = if is_at_most (low_in kind bound.range) (high_in bound.range) then (if is_low kind (low_in kind bound.range) then [] else broken Y7 bound.at (kind_word kind)) else broken Y7 bound.at (kind_word kind)
+bound_breaches kind (Some bound) =
+    if is_at_most (low_in kind bound.range)
+    (high_in bound.range) then (if is_low kind
+    (low_in kind bound.range) then [] else broken Y7 bound.at
+    (kind_word kind)) else broken Y7 bound.at (kind_word kind)
 
 abbrev mutual
   -- the breaches of a right side, or of a part of one
   pub expr_breaches : Universe → List (List ℕ × Meaning) → TypeExpr → List Breach
   expr_breaches universe names (Named name) = type_use (meaning names name.text) name
   expr_breaches universe names (Epsilon at) = []
-  expr_breaches universe names (Atom weight weight_at at) = if nat_le weight (greatest_weight universe) then [] else broken Y8 weight_at (decimal weight)
+  expr_breaches universe names (Atom weight weight_at at) =
+      if nat_le weight (greatest_weight universe) then [] else broken Y8 weight_at (decimal weight)
   expr_breaches universe names (Union' size parts) = exprs_breaches universe names parts
   expr_breaches universe names (Product' size parts at) = exprs_breaches universe names parts
-  expr_breaches universe names (Coll' kind size part bound at) = kind_breaches universe kind at ++ exprs_breaches universe names part ++ bound_breaches kind bound
+  expr_breaches universe names (Coll' kind size part bound at) =
+      kind_breaches universe kind at ++ exprs_breaches universe names part
+      ++ bound_breaches kind bound
 
-  pub exprs_breaches : Universe → List (List ℕ × Meaning) → {n : _} → Row_of-TypeExpr n → List Breach
+  pub exprs_breaches : Universe → List (List ℕ × Meaning) → {n : _} → Row_of-TypeExpr n
+      → List Breach
   exprs_breaches universe names end_of-TypeExpr = []
-  exprs_breaches universe names (more_of-TypeExpr e rest) = expr_breaches universe names e ++ exprs_breaches universe names rest
+  exprs_breaches universe names (more_of-TypeExpr e rest) =
+      expr_breaches universe names e ++ exprs_breaches universe names rest
 
 -- the first that there is
 abbrev pub first_some : {A : Type 0} → Option A → Option A → Option A
@@ -107,36 +118,50 @@ first_some (Some x) other = Some x
 first_some None other = other
 
 -- the first circle on which one of so many definitions lies, from definition i on
-abbrev pub first_circle : List (List ℕ × Meaning) → List Definition → ℕ → List Name → Option (List (List ℕ))
+abbrev pub first_circle : List (List ℕ × Meaning) → List Definition → ℕ → List Name
+    → Option (List (List ℕ))
 first_circle names defs i [] = None
-first_circle names defs i (name ∷ rest) = first_some (circle names defs i) (first_circle names defs (suc i) rest)
+first_circle names defs i (name ∷ rest) =
+    first_some (circle names defs i) (first_circle names defs (suc i) rest)
 
 abbrev pub circle_breach : Name → Option (List (List ℕ)) → List Breach
 circle_breach name None = []
 circle_breach name (Some chain) = record { rule = Y4; token = name.at; names = chain } ∷ []
 
 -- a right side that is a name, of definitions from i on that lie on a circle
-abbrev pub circle_breaches : List (List ℕ × Meaning) → List Definition → ℕ → List Name → TypeExpr → List Breach
-circle_breaches names defs i owners (Named name) = circle_breach name (first_circle names defs i owners)
+abbrev pub circle_breaches : List (List ℕ × Meaning) → List Definition → ℕ → List Name → TypeExpr
+    → List Breach
+circle_breaches names defs i owners (Named name) =
+    circle_breach name (first_circle names defs i owners)
 circle_breaches names defs i owners _ = []
 
 -- the names of definitions from i on
 abbrev pub new_types : List (List ℕ × Meaning) → ℕ → List Name → List Breach
 new_types names i [] = []
-new_types names i (name ∷ rest) = name_breaches names name (mean.Definition i) ++ new_types names (suc i) rest
+new_types names i (name ∷ rest) =
+    name_breaches names name (mean.Definition i) ++ new_types names (suc i) rest
 
-abbrev pub type_breaches : Universe → List (List ℕ × Meaning) → List Definition → ℕ → TypeDef → List Breach
-type_breaches universe names defs i d = new_types names i d.names ++ (expr_breaches universe names d.body or_if_none circle_breaches names defs i d.names d.body)
+abbrev pub type_breaches : Universe → List (List ℕ × Meaning) → List Definition → ℕ → TypeDef
+    → List Breach
+type_breaches universe names defs i d =
+    new_types names i d.names
+    ++ (expr_breaches universe names d.body or_if_none circle_breaches names defs i d.names d.body)
 
-abbrev pub types_breaches : Universe → List (List ℕ × Meaning) → List Definition → ℕ → List TypeDef → List Breach
+abbrev pub types_breaches : Universe → List (List ℕ × Meaning) → List Definition → ℕ → List TypeDef
+    → List Breach
 types_breaches universe names defs i [] = []
-types_breaches universe names defs i (d ∷ ds) = type_breaches universe names defs i d ++ types_breaches universe names defs (i + length d.names) ds
+types_breaches universe names defs i (d ∷ ds) =
+    type_breaches universe names defs i d
+    ++ types_breaches universe names defs (i + length d.names) ds
 
 -- the names of measures from number k on
 abbrev pub measures_breaches : List (List ℕ × Meaning) → ℕ → List (Name × ℕ) → List Breach
 measures_breaches names k [] = []
-measures_breaches names k (m ∷ ms) = name_breaches names m.0 (mean.Measure k m.1) ++ measures_breaches names (suc k) ms
+measures_breaches names k (m ∷ ms) =
+    name_breaches names m.0 (mean.Measure k m.1) ++ measures_breaches names (suc k) ms
 
 -- the breaches of the definitions and measures of a source, in text order
 abbrev pub first_breaches : Source → List Breach
-first_breaches source = types_breaches source.universe (names_of source) (definitions source) 0 source.types ++ measures_breaches (names_of source) 0 (measures source)
+first_breaches source =
+    types_breaches source.universe (names_of source) (definitions source) 0 source.types
+    ++ measures_breaches (names_of source) 0 (measures source)

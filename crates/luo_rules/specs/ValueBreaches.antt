@@ -23,14 +23,16 @@ differs (Some expected) node = not (nat_eq node expected)
 -- a variable that is handed on: it is bound, and of the node that is expected
 abbrev pub given_breaches : Option (ℕ × ℕ) → Option ℕ → Name → List Breach
 given_breaches None expected name = broken_at Y13 name
-given_breaches (Some variable) expected name = if differs expected variable.1 then broken_at Y15 name else []
+given_breaches (Some variable) expected name =
+    if differs expected variable.1 then broken_at Y15 name else []
 
 -- a callee has a result of the node that is expected, where both are known
 abbrev pub result_breaches : Option ℕ → Option (Option ℕ) → Name → List Breach
 result_breaches None result name = []
 result_breaches (Some expected) None name = broken_at Y15 name
 result_breaches (Some expected) (Some None) name = []
-result_breaches (Some expected) (Some (Some node)) name = if differs (Some expected) node then broken_at Y15 name else []
+result_breaches (Some expected) (Some (Some node)) name =
+    if differs (Some expected) node then broken_at Y15 name else []
 
 abbrev pub charge_use : Setting → Option Name → List Breach
 charge_use s None = []
@@ -48,7 +50,8 @@ may_stand s (Some expected) test = test (shape_at s expected)
 -- the nodes of the factors where a tuple of so many parts is expected, and none where it isn't
 abbrev pub part_nodes : Setting → Option ℕ → ℕ → List ℕ
 part_nodes s None k = []
-part_nodes s (Some expected) k = if has_factors k (shape_at s expected) then factors (shape_at s expected) else []
+part_nodes s (Some expected) k =
+    if has_factors k (shape_at s expected) then factors (shape_at s expected) else []
 
 -- the node of a part
 abbrev pub branch_at : List Part → ℕ → Option ℕ
@@ -88,30 +91,42 @@ abbrev mutual
   pub value_breaches : Setting → List Variable → Option ℕ → SourceValue → List Breach
   value_breaches s scope expected (Given name) = given_breaches (found scope name) expected name
   value_breaches s scope expected (Made callee arg) =
-      (procedure_use (meant s callee) callee or_if_none result_breaches expected (signature_meant s (meant s callee)).result callee)
+      (procedure_use (meant s callee) callee
+      or_if_none result_breaches expected (signature_meant s (meant s callee)).result callee)
       ++ argument_breaches (found scope arg) (signature_meant s (meant s callee)).on arg callee
-  value_breaches s scope expected (Atom charge at) = charge_use s charge ++ misplaced (may_stand s expected is_atom) at (codes "atom")
+  value_breaches s scope expected (Atom charge at) =
+      charge_use s charge ++ misplaced (may_stand s expected is_atom) at (codes "atom")
   value_breaches s scope expected (Tuple' size parts at) =
-      misplaced (may_stand s expected (has_factors (count_values parts))) at (codes "product") ++ values_breaches s scope (part_nodes s expected (count_values parts)) parts
+      misplaced (may_stand s expected (has_factors (count_values parts))) at (codes "product")
+      ++ values_breaches s scope (part_nodes s expected (count_values parts)) parts
   value_breaches s scope expected (Branch' number at size inner) =
-      misplaced (may_stand s expected (has_branch number)) at (decimal number) ++ boxed_value_breaches s scope (inner_node s expected number) inner
+      misplaced (may_stand s expected (has_branch number)) at (decimal number)
+      ++ boxed_value_breaches s scope (inner_node s expected number) inner
   value_breaches s scope expected (Case' var size arms) =
-      case_breaches s (found scope var) var (count_value_arms arms) (value_arms_breaches s (case_stands s (found scope var)) expected var arms)
+      case_breaches s (found scope var) var (count_value_arms arms)
+      (value_arms_breaches s (case_stands s (found scope var)) expected var arms)
 
   -- the breaches of parts, of which these nodes are expected, and nothing of further ones
-  pub values_breaches : Setting → List Variable → List ℕ → {n : _} → Row_of-SourceValue n → List Breach
+  pub values_breaches : Setting → List Variable → List ℕ → {n : _} → Row_of-SourceValue n
+      → List Breach
   values_breaches s scope nodes end_of-SourceValue = []
-  values_breaches s scope [] (more_of-SourceValue v rest) = value_breaches s scope None v ++ values_breaches s scope [] rest
-  values_breaches s scope (node ∷ nodes) (more_of-SourceValue v rest) = value_breaches s scope (Some node) v ++ values_breaches s scope nodes rest
+  values_breaches s scope [] (more_of-SourceValue v rest) =
+      value_breaches s scope None v ++ values_breaches s scope [] rest
+  values_breaches s scope (node ∷ nodes) (more_of-SourceValue v rest) =
+      value_breaches s scope (Some node) v ++ values_breaches s scope nodes rest
 
   -- those of what a box holds
-  pub boxed_value_breaches : Setting → List Variable → Option ℕ → {n : _} → Row_of-SourceValue n → List Breach
+  pub boxed_value_breaches : Setting → List Variable → Option ℕ → {n : _} → Row_of-SourceValue n
+      → List Breach
   boxed_value_breaches s scope expected end_of-SourceValue = []
-  boxed_value_breaches s scope expected (more_of-SourceValue v rest) = value_breaches s scope expected v
+  boxed_value_breaches s scope expected (more_of-SourceValue v rest) =
+      value_breaches s scope expected v
 
   -- those of arms that stand for these, in a case on this variable
-  pub value_arms_breaches : Setting → List Stand → Option ℕ → Name → {n : _} → Row_of-SourceValueArm n → List Breach
+  pub value_arms_breaches : Setting → List Stand → Option ℕ → Name → {n : _}
+      → Row_of-SourceValueArm n → List Breach
   value_arms_breaches s stands expected var end_of-SourceValueArm = []
   value_arms_breaches s [] expected var (more_of-SourceValueArm pattern body rest) = []
   value_arms_breaches s (stand ∷ stands) expected var (more_of-SourceValueArm pattern body rest) =
-      arm_breaches s stand var pattern (value_breaches s (bound s stand pattern) expected body) ++ value_arms_breaches s stands expected var rest
+      arm_breaches s stand var pattern (value_breaches s (bound s stand pattern) expected body)
+      ++ value_arms_breaches s stands expected var rest

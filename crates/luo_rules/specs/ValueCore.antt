@@ -31,23 +31,34 @@ abbrev mutual
   -- the core form of a value in a scope, where a structure of this node is expected
   pub value_core : Setting → List Variable → Option ℕ → SourceValue → plain.Value
   value_core s scope expected (Given name) = plain.Given (place_of (found scope name))
-  value_core s scope expected (Made callee arg) = plain.Made (place_of (found scope arg)) (procedure_of (meant s callee))
-  value_core s scope expected (Atom charge at) = plain.Atom (expected_weight s expected) (charge_of s charge)
-  value_core s scope expected (Tuple' size parts at) = plain.Tuple (values_core s scope (part_nodes s expected (count_values parts)) parts)
-  value_core s scope expected (Branch' number at size inner) = plain.Branch number (boxed_value_core s scope (inner_node s expected number) inner)
-  value_core s scope expected (Case' var size arms) = plain.Chosen (place_of (found scope var)) (value_arms_core s (case_stands s (found scope var)) expected arms)
+  value_core s scope expected (Made callee arg) =
+      plain.Made (place_of (found scope arg)) (procedure_of (meant s callee))
+  value_core s scope expected (Atom charge at) =
+      plain.Atom (expected_weight s expected) (charge_of s charge)
+  value_core s scope expected (Tuple' size parts at) =
+      plain.Tuple (values_core s scope (part_nodes s expected (count_values parts)) parts)
+  value_core s scope expected (Branch' number at size inner) =
+      plain.Branch number (boxed_value_core s scope (inner_node s expected number) inner)
+  value_core s scope expected (Case' var size arms) =
+      plain.Chosen (place_of (found scope var))
+      (value_arms_core s (case_stands s (found scope var)) expected arms)
 
   pub values_core : Setting → List Variable → List ℕ → {n : _} → Row_of-SourceValue n → plain.Values
   values_core s scope nodes end_of-SourceValue = plain.no_values
-  values_core s scope [] (more_of-SourceValue v rest) = plain.value (value_core s scope None v) (values_core s scope [] rest)
-  values_core s scope (node ∷ nodes) (more_of-SourceValue v rest) = plain.value (value_core s scope (Some node) v) (values_core s scope nodes rest)
+  values_core s scope [] (more_of-SourceValue v rest) =
+      plain.value (value_core s scope None v) (values_core s scope [] rest)
+  values_core s scope (node ∷ nodes) (more_of-SourceValue v rest) =
+      plain.value (value_core s scope (Some node) v) (values_core s scope nodes rest)
 
-  pub boxed_value_core : Setting → List Variable → Option ℕ → {n : _} → Row_of-SourceValue n → plain.Value
+  pub boxed_value_core : Setting → List Variable → Option ℕ → {n : _} → Row_of-SourceValue n
+      → plain.Value
   boxed_value_core s scope expected end_of-SourceValue = plain.Tuple plain.no_values
   boxed_value_core s scope expected (more_of-SourceValue v rest) = value_core s scope expected v
 
-  pub value_arms_core : Setting → List Stand → Option ℕ → {n : _} → Row_of-SourceValueArm n → plain.ValueArms
+  pub value_arms_core : Setting → List Stand → Option ℕ → {n : _} → Row_of-SourceValueArm n
+      → plain.ValueArms
   value_arms_core s stands expected end_of-SourceValueArm = plain.no_value_arms
   value_arms_core s [] expected (more_of-SourceValueArm pattern body rest) = plain.no_value_arms
   value_arms_core s (stand ∷ stands) expected (more_of-SourceValueArm pattern body rest) =
-      plain.value_arm (bind_of pattern) (value_core s (bound s stand pattern) expected body) (value_arms_core s stands expected rest)
+      plain.value_arm (bind_of pattern) (value_core s (bound s stand pattern) expected body)
+      (value_arms_core s stands expected rest)

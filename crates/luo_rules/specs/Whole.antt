@@ -37,32 +37,42 @@ result_breaches Labelled colon name = broken Y14 colon name.text
 abbrev pub parameter : Name → ℕ → List Variable
 parameter name node = record { name = name.text; node = node } ∷ []
 
--- the breaches of a procedure's body; those inside are spoken of where the type of the parameter is known
+-- the breaches of a procedure's body; those inside are spoken of where the type of the parameter is
+-- known
 abbrev pub body_breaches : Setting → ProcDef → Option ℕ → ProcBody → List Breach
 body_breaches s p None (Statements stmts) = []
-body_breaches s p (Some node) (Statements stmts) = flat_map (stmt_breaches s (parameter p.param node)) stmts
-body_breaches s p None (Value colon result value) = result_breaches s.universe colon p.name ++ type_use (meant s result) result
+body_breaches s p (Some node) (Statements stmts) =
+    flat_map (stmt_breaches s (parameter p.param node)) stmts
+body_breaches s p None (Value colon result value) =
+    result_breaches s.universe colon p.name ++ type_use (meant s result) result
 body_breaches s p (Some node) (Value colon result value) =
-    result_breaches s.universe colon p.name ++ type_use (meant s result) result ++ value_breaches s (parameter p.param node) (type_node s result) value
+    result_breaches s.universe colon p.name ++ type_use (meant s result) result
+    ++ value_breaches s (parameter p.param node) (type_node s result) value
 
 -- the breaches of procedure f
 abbrev pub proc_breaches : Setting → ℕ → ProcDef → List Breach
-proc_breaches s f p = name_breaches s.names p.name (mean.Procedure f) ++ type_use (meant s p.on) p.on ++ body_breaches s p (type_node s p.on) p.body
+proc_breaches s f p =
+    name_breaches s.names p.name (mean.Procedure f) ++ type_use (meant s p.on) p.on
+    ++ body_breaches s p (type_node s p.on) p.body
 
 abbrev pub procs_breaches : Setting → ℕ → List ProcDef → List Breach
 procs_breaches s f [] = []
 procs_breaches s f (p ∷ ps) = proc_breaches s f p ++ procs_breaches s (suc f) ps
 
--- the breaches of a source in text order; procedures and analyze lines are spoken of where the definitions and measures have none
+-- the breaches of a source in text order; procedures and analyze lines are spoken of where the
+-- definitions and measures have none
 abbrev pub breaches : Source → List Breach
 breaches source =
-    (types_breaches source.universe (names_of source) (definitions source) 0 source.types ++ measures_breaches (names_of source) 0 (measures source))
-    or_if_none (procs_breaches (setting_of source) 0 source.procs ++ flat_map (λ name. procedure_use (meant (setting_of source) name) name) source.analyses)
+    (types_breaches source.universe (names_of source) (definitions source) 0 source.types
+    ++ measures_breaches (names_of source) 0 (measures source))
+    or_if_none (procs_breaches (setting_of source) 0 source.procs
+    ++ flat_map (λ name. procedure_use (meant (setting_of source) name) name) source.analyses)
 
 -- statements one behind the other, with sites from this number on
 abbrev pub items_of : Setting → List Variable → ℕ → List Stmt → plain.Items
 items_of s scope first [] = plain.no_items
-items_of s scope first (stmt ∷ stmts) = join_items (stmt_items s scope first stmt) (items_of s scope (first + stmt_sites stmt) stmts)
+items_of s scope first (stmt ∷ stmts) =
+    join_items (stmt_items s scope first stmt) (items_of s scope (first + stmt_sites stmt) stmts)
 
 abbrev pub node_or : Option ℕ → ℕ
 node_or None = 0
@@ -71,20 +81,31 @@ node_or (Some node) = node
 -- the value that a procedure with a result makes
 abbrev pub made_value : Setting → ProcDef → ProcBody → Option plain.Value
 made_value s p (Statements stmts) = None
-made_value s p (Value colon result value) = Some (value_core s (parameter p.param (node_or (type_node s p.on))) (type_node s result) value)
+made_value s p (Value colon result value) =
+    Some (value_core s (parameter p.param (node_or (type_node s p.on))) (type_node s result) value)
 
 abbrev pub body_core : Setting → ProcDef → ℕ → ProcBody → plain.Body
-body_core s p first (Statements stmts) = plain.Does (sum_by (stmt_own s) stmts) (items_of s (parameter p.param (node_or (type_node s p.on))) first stmts)
-body_core s p first (Value colon result value) = value_body first (value_core s (parameter p.param (node_or (type_node s p.on))) (type_node s result) value)
+body_core s p first (Statements stmts) =
+    plain.Does (sum_by (stmt_own s) stmts)
+    (items_of s (parameter p.param (node_or (type_node s p.on))) first stmts)
+body_core s p first (Value colon result value) =
+    value_body first
+    (value_core s (parameter p.param (node_or (type_node s p.on))) (type_node s result) value)
 
 abbrev pub sites_of : Setting → ProcDef → ProcBody → ℕ
 sites_of s p (Statements stmts) = sum_by stmt_sites stmts
-sites_of s p (Value colon result value) = value_sites (value_core s (parameter p.param (node_or (type_node s p.on))) (type_node s result) value)
+sites_of s p (Value colon result value) =
+    value_sites (value_core s (parameter p.param (node_or (type_node s p.on)))
+    (type_node s result) value)
 
 abbrev pub result_core : Setting → ProcDef → ProcBody → Option plain.Result
 result_core s p (Statements stmts) = None
 result_core s p (Value colon result value) =
-    Some (record { on = part_meant s (meant s result); value = value_core s (parameter p.param (node_or (type_node s p.on))) (type_node s result) value })
+    Some (record {
+      on = part_meant s (meant s result);
+      value = value_core s
+          (parameter p.param (node_or (type_node s p.on))) (type_node s result) value;
+    })
 
 -- a procedure whose sites have numbers from this one on, its whole last
 abbrev pub proc_core : Setting → ℕ → ProcDef → plain.Procedure
@@ -98,7 +119,8 @@ proc_core s first p = record {
 
 abbrev pub procs_core : Setting → ℕ → List ProcDef → List plain.Procedure
 procs_core s first [] = []
-procs_core s first (p ∷ ps) = proc_core s first p ∷ procs_core s (first + sites_of s p p.body + 1) ps
+procs_core s first (p ∷ ps) =
+    proc_core s first p ∷ procs_core s (first + sites_of s p p.body + 1) ps
 
 -- a program of these procedures, with its sites
 abbrev pub with_sites : Setting → List plain.Procedure → List ℕ → plain.Program
@@ -113,7 +135,9 @@ with_sites s procs analyses = record {
 
 -- the core form of a source
 abbrev pub core : Source → plain.Program
-core source = with_sites (setting_of source) (procs_core (setting_of source) 0 source.procs) (map (λ name. procedure_of (meant (setting_of source) name)) source.analyses)
+core source =
+    with_sites (setting_of source) (procs_core (setting_of source) 0 source.procs)
+    (map (λ name. procedure_of (meant (setting_of source) name)) source.analyses)
 
 -- the program is the core form of a source that breaks no rule
 abbrev pub IsCore : Source → plain.Program → Type 0

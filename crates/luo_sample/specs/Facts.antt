@@ -1,4 +1,5 @@
--- Known samples: words, choices and lines that the published generator and the recipe give, computed apart from this program.
+-- Known samples: words, choices and lines that the published generator and the recipe give,
+-- computed apart from this program.
 use Rattle.std.specs.Prelude.{◌≡◌, ℕ, ◌-◌, ◌^◌, List, [], ◌∷◌, ◌++◌, length, take, drop, codes}
 use Rattle.rand_core.specs.Steps.{first_words}
 use Rattle.rand_pcg.specs.Pcg.{pcg32}
@@ -9,10 +10,14 @@ use Rattle.luo_sample.specs.Number.{seeded, word, behind, universe_of, choice_at
 abbrev pub Words : Type 0
 Words =
     (first_words pcg32 9 (seeded 1)
-    ≡ 866585574 ∷ 2109535214 ∷ 3403630417 ∷ 296513984 ∷ 4177522235 ∷ 689909480 ∷ 3719081784 ∷ 441867712 ∷ 3688506836 ∷ [])
-    × (first_words pcg32 5 (seeded 0) ≡ 298703107 ∷ 4236525527 ∷ 336081875 ∷ 1056616254 ∷ 1060453275 ∷ [])
-    × (first_words pcg32 5 (seeded 2) ≡ 663514024 ∷ 4050668357 ∷ 535747897 ∷ 1254972678 ∷ 1884811692 ∷ [])
-    × (first_words pcg32 5 (seeded (2 ^ 64 - 1)) ≡ 2553256318 ∷ 1362994822 ∷ 3759657484 ∷ 3366838333 ∷ 2323195082 ∷ [])
+    ≡ 866585574 ∷ 2109535214 ∷ 3403630417 ∷ 296513984 ∷ 4177522235 ∷ 689909480 ∷ 3719081784
+    ∷ 441867712 ∷ 3688506836 ∷ [])
+    × (first_words pcg32 5 (seeded 0)
+    ≡ 298703107 ∷ 4236525527 ∷ 336081875 ∷ 1056616254 ∷ 1060453275 ∷ [])
+    × (first_words pcg32 5 (seeded 2)
+    ≡ 663514024 ∷ 4050668357 ∷ 535747897 ∷ 1254972678 ∷ 1884811692 ∷ [])
+    × (first_words pcg32 5 (seeded (2 ^ 64 - 1))
+    ≡ 2553256318 ∷ 1362994822 ∷ 3759657484 ∷ 3366838333 ∷ 2323195082 ∷ [])
 
 -- the universes of some numbers
 abbrev pub Universes : Type 0

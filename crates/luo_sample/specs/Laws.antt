@@ -12,8 +12,9 @@ use Rattle.luo_rules.specs.Counted.{limits_passed}
 use Rattle.luo_rules.specs.Whole.{breaches, core, walk_count}
 use Rattle.luo_sample.specs.Number.{Sample}
 
--- a text that passes no limit and breaks no rule: it has tokens, which open little and derive a source, and that source passes no
--- limit, breaks no rule, and has a well-founded core form with few walks
+-- a text that passes no limit and breaks no rule: it has tokens, which open little and derive a
+-- source, and that source passes no limit, breaks no rule, and has a well-founded core form with
+-- few walks
 pub record IsGood (text : List ℕ) : Type 0 where
   pub bytes : length text ≤ TEXT_LIMIT
   pub tokens : List Token

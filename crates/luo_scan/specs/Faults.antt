@@ -25,7 +25,9 @@ IsSome text count = (0 < count) × (count ≤ length text)
 -- what the text begins with
 abbrev pub IsPieceOf : List ℕ → Piece → Type 0
 IsPieceOf text (piece.Gap n) = IsSome text n × Begins text (take n text) (drop n text) None
-IsPieceOf text (piece.Token kind n) = IsSome text n × Begins text (take n text) (drop n text) (Some kind) × IsWithin (take n text) kind
+IsPieceOf text (piece.Token kind n) =
+    IsSome text n × Begins text (take n text) (drop n text) (Some kind)
+    × IsWithin (take n text) kind
 IsPieceOf text piece.BadByte = IsFaulty text bad_byte
 IsPieceOf text piece.LongName = IsFaulty text long_name
 IsPieceOf text piece.LargeNumber = IsFaulty text large_number

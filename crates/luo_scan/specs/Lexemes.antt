@@ -10,7 +10,8 @@ pub data Lexeme : Type 0 where
 -- the lexemes of tokens that are numbered from this number on
 abbrev pub lexemes_from : ℕ → List ℕ → List Token → List Lexeme
 lexemes_from at text [] = []
-lexemes_from at text (t ∷ ts) = lexeme t.kind (take (t.end - t.start) (drop t.start text)) at ∷ lexemes_from (at + 1) text ts
+lexemes_from at text (t ∷ ts) =
+    lexeme t.kind (take (t.end - t.start) (drop t.start text)) at ∷ lexemes_from (at + 1) text ts
 
 abbrev pub lexemes : List ℕ → List Token → List Lexeme
 lexemes text tokens = lexemes_from 0 text tokens

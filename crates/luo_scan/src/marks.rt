@@ -39,7 +39,8 @@ pub fn written(mark: Mark) -> &'static [u8]
 
 /// The mark that the text begins with, if there is one.
 pub(crate) fn mark_of(text: &[u8]) -> Option<Mark>
-    ensures { MatchOption result ((m : Mark) (after : List ℕ) → text.now ≢ sign m ++ after) (λ m. (after : List ℕ) × (text.now ≡ sign m ++ after)) }
+    ensures { MatchOption result ((m : Mark) (after : List ℕ) → text.now ≢ sign m ++ after)
+        (λ m. (after : List ℕ) × (text.now ≡ sign m ++ after)) }
 {
     for mark in &MARKS {
         if text.starts_with(written(*mark)) {

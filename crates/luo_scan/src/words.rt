@@ -65,7 +65,8 @@ pub fn spelled(word: Word) -> &'static [u8]
 
 /// The reserved word that is spelled by these bytes, if there is one.
 pub(crate) fn word_of(bytes: &[u8]) -> Option<Word>
-    ensures { MatchOption result ((w : Word) → spelling w ≢ bytes.now) (λ w. spelling w ≡ bytes.now) }
+    ensures { MatchOption result ((w : Word) → spelling w ≢ bytes.now)
+        (λ w. spelling w ≡ bytes.now) }
 {
     for word in &WORDS {
         if spelled(*word) == bytes {

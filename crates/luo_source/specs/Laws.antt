@@ -6,4 +6,6 @@ use Rattle.luo_source.specs.Grammar.{Derives}
 
 -- the tokens of a text have at most one source
 abbrev pub SourceIsUnique : Type 0
-SourceIsUnique = (text : List ℕ) (tokens : List Token) (one two : Source) → Derives text tokens one → Derives text tokens two → one ≡ two
+SourceIsUnique =
+    (text : List ℕ) (tokens : List Token) (one two : Source) → Derives text tokens one
+    → Derives text tokens two → one ≡ two

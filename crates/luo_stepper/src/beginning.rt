@@ -48,7 +48,8 @@ pub fn first_row(
     requires labels { AreLabels tables.now.program.universe labels.now n }
     requires size { n ≤ tables.now.last }
     requires some { 1 ≤ left_count tables.now x f n }
-    ensures { OnOk result (Began tables.now x f labels.now n (tree_list out.old) (tree_list out.new)) }
+    ensures { OnOk result (Began tables.now x f labels.now n (tree_list out.old)
+        (tree_list out.new)) }
 {
     let top = tables.last() + 1;
     row_at(alloc, tables, x, f, top, labels, n, 0, out)

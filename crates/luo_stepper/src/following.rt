@@ -24,10 +24,12 @@ pub fn behind(
     place: u128,
     s: Structure,
 ) -> Result<Structure, NoMemory>
-    requires here { IsPlace (IsStructure (plain_of ranker.now.program) ranker.now.node ranker.now.size)
+    requires here { IsPlace (IsStructure
+        (plain_of ranker.now.program) ranker.now.node ranker.now.size)
         IsBefore place (tree_of s) }
     requires there { place + 1 < ranker.now.count }
-    ensures { IfOk result (λ next. IsPlace (IsStructure (plain_of ranker.now.program) ranker.now.node
+    ensures { IfOk result (λ next. IsPlace
+        (IsStructure (plain_of ranker.now.program) ranker.now.node
         ranker.now.size) IsBefore (place + 1) (tree_of next)) }
 {
     let mut labels = Items::new(alloc);

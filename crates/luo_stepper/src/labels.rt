@@ -52,9 +52,11 @@ pub fn place_of(
     requires node { x < length tables.now.program.nodes }
     requires reach { n ≤ tables.now.last }
     requires room { IsRoomOf tables.now x f labels.now n size own.now }
-    ensures head { (T : List ℕ) × IsHead tables.now.program.universe (tail_at (plain_of tables.now.program) x f)
+    ensures head { (T : List ℕ)
+        × IsHead tables.now.program.universe (tail_at (plain_of tables.now.program) x f)
         labels.now size result own.now T }
-    ensures small { result < head_ways tables.now.program.universe (tail_at (plain_of tables.now.program) x f) n size }
+    ensures small { result < head_ways tables.now.program.universe
+        (tail_at (plain_of tables.now.program) x f) n size }
 {
     match tables.universe() {
         Universe::Unlabelled => 0,
@@ -86,9 +88,11 @@ pub fn labels_at(
     requires labels { AreLabels tables.now.program.universe labels.now n }
     requires size { size ≤ n }
     requires reach { n ≤ tables.now.last }
-    requires ways { place < head_ways tables.now.program.universe (tail_at (plain_of tables.now.program) x f) n size }
+    requires ways { place < head_ways tables.now.program.universe
+        (tail_at (plain_of tables.now.program) x f) n size }
     ensures { IfOk result (λ parted. AreParts tables.now labels.now n size parted.first parted.rest
-        × IsHead tables.now.program.universe (tail_at (plain_of tables.now.program) x f) labels.now size place
+        × IsHead tables.now.program.universe
+        (tail_at (plain_of tables.now.program) x f) labels.now size place
         parted.first parted.rest) }
 {
     match tables.universe() {

@@ -14,7 +14,8 @@ pub fn branch_from(tables: &Tables<'_>, parts: &[Part], n: usize, start: usize) 
     requires there { AreThere parts.now (length tables.now.program.nodes) }
     requires size { n ≤ tables.now.last }
     requires start { start ≤ length parts.now }
-    ensures { IsFirstFrom (λ i. 1 ≤ part_entry tables.now.counts parts.now n i) start (length parts.now) result }
+    ensures { IsFirstFrom (λ i. 1 ≤ part_entry tables.now.counts parts.now n i) start
+        (length parts.now) result }
 {
     let mut branch = start;
     while branch < parts.len() && tables.entry(parts[branch].node, n) == 0 {

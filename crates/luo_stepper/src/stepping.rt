@@ -168,7 +168,8 @@ fn parts_on(
     requires long { f ≤ length items.old }
     requires none { labels.old ≡ [] }
     requires here { AreSome tables.now x f (tree_list (from_place f items.old)) }
-    ensures { IfOk result (Moved tables.now x f (up_to f items.old) (tree_list (from_place f items.old)) items.new labels.new) }
+    ensures { IfOk result (Moved tables.now x f (up_to f items.old)
+        (tree_list (from_place f items.old)) items.new labels.new) }
 {
     if f == items.len() {
         return Ok(Row::Ended(0));

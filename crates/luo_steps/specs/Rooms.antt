@@ -1,4 +1,5 @@
--- What is chosen of a tail before its first: a size and labels; and what may stand behind the first of a multiset or a powerset.
+-- What is chosen of a tail before its first: a size and labels; and what may stand behind the first
+-- of a multiset or a powerset.
 use Rattle.std.specs.Prelude.{◌≡◌, ◌+◌, ◌-◌, ◌≤◌, ◌<◌, ℕ, List, [], ◌∷◌, length, Option, Some, None}
 use Rattle.luo_finite.specs.Listing.{In}
 use Rattle.luo_finite.specs.Each.{Each}
@@ -43,7 +44,9 @@ IsShare Labelled L k C T = In (C, T) (splits L) × (length C ≡ k)
 
 -- a size of a first that has a rest, where a x n is the count of node x at size n
 abbrev pub HasSize : Program → (ℕ → ℕ → ℕ) → Tail → ℕ → ℕ → Type 0
-HasSize p a tail n k = (k ≤ n) × (1 ≤ a (first_node tail) k) × (1 ≤ tail_count p.universe a (behind_first tail) (n - k))
+HasSize p a tail n k =
+    (k ≤ n) × (1 ≤ a (first_node tail) k)
+    × (1 ≤ tail_count p.universe a (behind_first tail) (n - k))
 
 -- labels that a first of size k can have
 abbrev pub HasLabels : Program → Tail → List ℕ → ℕ → List ℕ → Type 0
@@ -66,8 +69,12 @@ MayStand kind (Some x) y = MayFollow kind x y
 
 -- the trees that can stand there, of size n together, each of which may stand behind the bound
 abbrev pub BagOn : Program → Kind → ℕ → ℕ → Option ℕ → Option Tree → ℕ → Trees → Type 0
-BagOn p kind y low high bound n ts = TailOn p (items kind y low high) [] n ts × Each (MayStand kind bound) (to_list ts)
+BagOn p kind y low high bound n ts =
+    TailOn p (items kind y low high) [] n ts × Each (MayStand kind bound) (to_list ts)
 
 -- x may stand behind the bound, and something of size n together with x may stand behind x
 abbrev pub HasRest : Program → Kind → ℕ → ℕ → Option ℕ → Option Tree → ℕ → Tree → Type 0
-HasRest p kind y low high bound n x = (Member p y x × MayStand kind bound x) × ((m : ℕ) × (ts : Trees) × (size_of x + m ≡ n) × BagOn p kind y (low - 1) (one_less high) (Some x) m ts)
+HasRest p kind y low high bound n x =
+    (Member p y x × MayStand kind bound x)
+    × ((m : ℕ) × (ts : Trees) × (size_of x + m ≡ n)
+    × BagOn p kind y (low - 1) (one_less high) (Some x) m ts)

@@ -2,7 +2,8 @@
 use Rattle.std.specs.Prelude.{ℕ, zero, suc, List, [], ◌++◌, codes, decimal}
 use Rattle.luo_model.specs.Tree.{Tree, Trees, Atom, Inj, Tup, Coll, none, more}
 
--- an atom without a label by its weight, and one with a label by the label; a branch by its number and what is inside; parts of a tuple and components in brackets, with commas between them
+-- an atom without a label by its weight, and one with a label by the label; a branch by its number
+-- and what is inside; parts of a tuple and components in brackets, with commas between them
 abbrev mutual
   pub structure_text : Tree → List ℕ
   structure_text (Atom weight zero) = codes "a" ++ decimal weight

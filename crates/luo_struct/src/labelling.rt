@@ -33,7 +33,8 @@ fn has_labels(s: &Structure, count: u64) -> bool
 /// `u64::MAX`.
 pub fn whole(program: &Program, node: usize, s: &Structure) -> bool
     requires small { size_of (tree_of s.now) < 2 ^ 64 - 1 }
-    ensures { IsTrue result ↔ IsStructure (plain_of program.now) node (size_of (tree_of s.now)) (tree_of s.now) }
+    ensures { IsTrue result
+        ↔ IsStructure (plain_of program.now) node (size_of (tree_of s.now)) (tree_of s.now) }
 {
     if !member(program, node, s) {
         return false;

@@ -79,7 +79,8 @@ fn copies_of_all(parts: &[Structure], label: u32) -> u64
 pub(crate) fn by_labels(a: &Structure, b: &Structure) -> Ordering
     requires a_few { length (labels_of (tree_of a.now)) < 2 ^ 64 - 1 }
     requires b_few { length (labels_of (tree_of b.now)) < 2 ^ 64 - 1 }
-    ensures { result ≡ slice_cmp nat_cmp (sorted (labels_of (tree_of a.now))) (sorted (labels_of (tree_of b.now))) }
+    ensures { result ≡ slice_cmp nat_cmp (sorted (labels_of (tree_of a.now)))
+        (sorted (labels_of (tree_of b.now))) }
 {
     let mut past = 0;
     loop {

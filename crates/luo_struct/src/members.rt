@@ -102,7 +102,8 @@ fn components_stand(kind: Kind, parts: &[Structure]) -> bool
 #[cycle(members)]
 fn is_branch(program: &Program, parts: &[Part], branch: u32, inner: &Structure) -> bool
     requires small { size_of (tree_of inner.now) < 2 ^ 64 - 1 }
-    ensures { IsTrue result ↔ Fits (plain_of program.now) (shape.Union parts.now) (Inj branch (tree_of inner.now)) }
+    ensures { IsTrue result
+        ↔ Fits (plain_of program.now) (shape.Union parts.now) (Inj branch (tree_of inner.now)) }
 {
     let Some(place) = branch.checked_sub(1) else {
         return false;
@@ -155,7 +156,9 @@ fn is_collection(
     parts: &[Structure],
 ) -> bool
     requires small { sizes_of (tree_list parts.now) < 2 ^ 64 - 1 }
-    ensures { IsTrue result ↔ Fits (plain_of program.now) (shape.Coll kind component low high) (Coll (tree_list parts.now)) }
+    ensures { IsTrue result
+        ↔ Fits (plain_of program.now) (shape.Coll kind component low high)
+        (Coll (tree_list parts.now)) }
 {
     if !is_within(low, high, parts.len()) {
         return false;

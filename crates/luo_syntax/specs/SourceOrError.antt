@@ -11,15 +11,19 @@ use Rattle.luo_syntax.specs.Viable.{IsShallow, Explains}
 
 -- these tokens derive a source, and nowhere among them is too much open
 abbrev pub HasSource : List ℕ → List Token → Type 0
-HasSource text tokens = (source : Source) × Derives text tokens source × IsShallow (lexemes text tokens)
+HasSource text tokens =
+    (source : Source) × Derives text tokens source × IsShallow (lexemes text tokens)
 
 -- an error says why these tokens aren't read, other than that memory ran out
 abbrev pub HasError : List ℕ → List Token → Type 0
-HasError text tokens = (error : SyntaxError) × (error ≡ NoMemory → ⊥) × Explains (lexemes text tokens) error
+HasError text tokens =
+    (error : SyntaxError) × (error ≡ NoMemory → ⊥) × Explains (lexemes text tokens) error
 
 -- it can't be that the tokens of a text have neither
 abbrev pub SourceOrError : Type 0
-SourceOrError = (text : List ℕ) (tokens : List Token) → Tokens text tokens → (HasSource text tokens → ⊥) → (HasError text tokens → ⊥) → ⊥
+SourceOrError =
+    (text : List ℕ) (tokens : List Token) → Tokens text tokens → (HasSource text tokens → ⊥)
+    → (HasError text tokens → ⊥) → ⊥
 
 -- no tokens have both
 abbrev pub NeverBoth : Type 0

@@ -23,8 +23,14 @@ PatternEnds other ls = Unit {0}
 
 -- a pattern is being read from these lexemes, and can't go on at those
 pub data PatternStops : List Lexeme → List Lexeme → Type 0 where
-  no_pattern : {from at : List Lexeme} → at ≡ from → No (kind.Mark LeftRound) from → No (kind.Mark Underscore) from → NoName from → PatternStops from at
-  in_pattern_parts : {from mid at : List Lexeme} {k : ℕ} → IsNextAt (kind.Mark LeftRound) k from mid → NamesStop RightRound mid at → PatternStops from at
-  past_any_as : {from mid next at : List Lexeme} {k : ℕ} → IsNextAt (kind.Mark Underscore) k from mid → IsNext (kind.Word KwAs) mid next → MissesName next at → PatternStops from at
-  past_named_as : {from mid next at : List Lexeme} {name : Name} → IsName from mid name → IsNext (kind.Word KwAs) mid next → MissesName next at → PatternStops from at
-  in_named_parts : {from mid next at : List Lexeme} {name : Name} → IsName from mid name → IsNext (kind.Mark LeftRound) mid next → NamesStop RightRound next at → PatternStops from at
+  no_pattern : {from at : List Lexeme} → at ≡ from → No (kind.Mark LeftRound) from
+      → No (kind.Mark Underscore) from → NoName from → PatternStops from at
+  in_pattern_parts : {from mid at : List Lexeme} {k : ℕ} → IsNextAt (kind.Mark LeftRound) k from mid
+      → NamesStop RightRound mid at → PatternStops from at
+  past_any_as : {from mid next at : List Lexeme} {k : ℕ}
+      → IsNextAt (kind.Mark Underscore) k from mid → IsNext (kind.Word KwAs) mid next
+      → MissesName next at → PatternStops from at
+  past_named_as : {from mid next at : List Lexeme} {name : Name} → IsName from mid name
+      → IsNext (kind.Word KwAs) mid next → MissesName next at → PatternStops from at
+  in_named_parts : {from mid next at : List Lexeme} {name : Name} → IsName from mid name
+      → IsNext (kind.Mark LeftRound) mid next → NamesStop RightRound next at → PatternStops from at

@@ -17,11 +17,13 @@ use Rattle.luo_source.specs.GrammarTypes.{IsRange, IsCollection, EndsCollection,
 
 -- the word of a collection is missed here
 abbrev pub MissesCollection : List Lexeme → List Lexeme → Type 0
-MissesCollection from at = (at ≡ from) × ((word : Word) (of : Kind) → IsCollection word of → No (kind.Word word) from)
+MissesCollection from at =
+    (at ≡ from) × ((word : Word) (of : Kind) → IsCollection word of → No (kind.Word word) from)
 
 -- the word of a collection of this kind, of this number, comes next, and these are behind it
 pub data IsCollectionNext : Kind → ℕ → List Lexeme → List Lexeme → Type 0 where
-  collection_next : {word : Word} {of : Kind} {at : ℕ} {from to : List Lexeme} → IsCollection word of → IsNextAt (kind.Word word) at from to → IsCollectionNext of at from to
+  collection_next : {word : Word} {of : Kind} {at : ℕ} {from to : List Lexeme}
+      → IsCollection word of → IsNextAt (kind.Word word) at from to → IsCollectionNext of at from to
 
 -- the word of a collection was taken, or none comes next
 abbrev pub TakesCollection : List Lexeme → List Lexeme → Option (Kind × ℕ) → Type 0
@@ -30,23 +32,33 @@ TakesCollection from to None = MissesCollection from to
 
 -- num ".." num
 pub data IsBetween : List Lexeme → List Lexeme → Range → Type 0 where
-  limits : {to : List Lexeme} {c d e : List ℕ} {l m o low high : ℕ} → IsBetween (lexeme (kind.Number low) c l ∷ lexeme (kind.Mark Dots) d m ∷ lexeme (kind.Number high) e o ∷ to) to (Between low high)
+  limits : {to : List Lexeme} {c d e : List ℕ} {l m o low high : ℕ}
+      → IsBetween (lexeme (kind.Number low) c l ∷ lexeme (kind.Mark Dots) d m ∷ lexeme
+      (kind.Number high) e o ∷ to) to (Between low high)
 
 -- "card" bound ")"
 pub data IsBound : List Lexeme → List Lexeme → Bound → Type 0 where
-  a_bound : {from to : List Lexeme} {c d : List ℕ} {at l : ℕ} {range : Range} → IsRange from (lexeme (kind.Mark RightRound) d l ∷ to) range → IsBound (lexeme (kind.Word KwCard) c at ∷ from) to (record { range = range; at = at })
+  a_bound : {from to : List Lexeme} {c d : List ℕ} {at l : ℕ} {range : Range}
+      → IsRange from (lexeme (kind.Mark RightRound) d l ∷ to) range
+      → IsBound (lexeme (kind.Word KwCard) c at ∷ from) to (record { range = range; at = at })
 
 -- "(" num ")", with the number and its number as a lexeme
 pub data IsWeight : List Lexeme → List Lexeme → ℕ × ℕ → Type 0 where
-  weight : {to : List Lexeme} {c d e : List ℕ} {k at l n : ℕ} → IsWeight (lexeme (kind.Mark LeftRound) c k ∷ lexeme (kind.Number n) d at ∷ lexeme (kind.Mark RightRound) e l ∷ to) to (n, at)
+  weight : {to : List Lexeme} {c d e : List ℕ} {k at l n : ℕ}
+      → IsWeight (lexeme (kind.Mark LeftRound) c k ∷ lexeme (kind.Number n) d at ∷ lexeme
+      (kind.Mark RightRound) e l ∷ to) to (n, at)
 
 -- "(" texpr "," texpr {"," texpr} ")"
 pub data AreParts : List Lexeme → List Lexeme → List TypeExpr → Type 0 where
-  parts : {from mid to : List Lexeme} {c d : List ℕ} {k l : ℕ} {t : TypeExpr} {ts : List TypeExpr} → IsExpr from (lexeme (kind.Mark Comma) d l ∷ mid) t → AreFactors mid to ts → AreParts (lexeme (kind.Mark LeftRound) c k ∷ from) to (t ∷ ts)
+  parts : {from mid to : List Lexeme} {c d : List ℕ} {k l : ℕ} {t : TypeExpr} {ts : List TypeExpr}
+      → IsExpr from (lexeme (kind.Mark Comma) d l ∷ mid) t → AreFactors mid to ts
+      → AreParts (lexeme (kind.Mark LeftRound) c k ∷ from) to (t ∷ ts)
 
 -- "(" texpr ["," "card" bound] ")", behind the word of a collection of this kind, of this number
 pub data IsInside : Kind → ℕ → List Lexeme → List Lexeme → TypeExpr → Type 0 where
-  inside : {of : Kind} {at : ℕ} {from mid to : List Lexeme} {c : List ℕ} {k : ℕ} {t : TypeExpr} {b : Option Bound} → IsExpr from mid t → EndsCollection mid to b → IsInside of at (lexeme (kind.Mark LeftRound) c k ∷ from) to (Coll of t b at)
+  inside : {of : Kind} {at : ℕ} {from mid to : List Lexeme} {c : List ℕ} {k : ℕ} {t : TypeExpr}
+      {b : Option Bound} → IsExpr from mid t → EndsCollection mid to b
+      → IsInside of at (lexeme (kind.Mark LeftRound) c k ∷ from) to (Coll of t b at)
 
 -- tterm {"|" tterm}, behind this one
 abbrev pub ReadsTerms : List Lexeme → List Lexeme → TypeExpr → List TypeExpr → Type 0

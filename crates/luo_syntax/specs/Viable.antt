@@ -13,7 +13,8 @@ use Rattle.luo_syntax.specs.declared.error.SyntaxError.TheVariants.{Grammar, Dep
 use Rattle.luo_source.specs.declared.source.Source.{Source}
 use Rattle.luo_source.specs.Grammar.{IsProgram}
 
--- each of these lexemes is spelled as the language spells it, within the limits of names and numbers
+-- each of these lexemes is spelled as the language spells it, within the limits of names and
+-- numbers
 abbrev pub AllSpelled : List Lexeme → Type 0
 AllSpelled ls = AllByRecursion IsFit ls
 
@@ -23,7 +24,8 @@ IsNoProgram ls = (s : Source) → IsProgram ls [] s → ⊥
 
 -- these lexemes begin some program
 abbrev pub IsViable : List Lexeme → Type 0
-IsViable front = (more : List Lexeme) × AllSpelled more × (s : Source) × IsProgram (front ++ more) [] s
+IsViable front =
+    (more : List Lexeme) × AllSpelled more × (s : Source) × IsProgram (front ++ more) [] s
 
 -- the front of this length is the longest that begins some program
 pub record IsLongestViable (ls : List Lexeme) (k : ℕ) : Type 0 where
@@ -70,9 +72,11 @@ IsShallow ls = (j : ℕ) → j ≤ length ls → IsDeep (take j ls) → ⊥
 
 -- this is the first lexeme with which more than the limit are open
 abbrev pub IsFirstDeep : List Lexeme → ℕ → Type 0
-IsFirstDeep ls k = (k < length ls) × IsDeep (take (k + 1) ls) × ((j : ℕ) → j ≤ k → IsDeep (take j ls) → ⊥)
+IsFirstDeep ls k =
+    (k < length ls) × IsDeep (take (k + 1) ls) × ((j : ℕ) → j ≤ k → IsDeep (take j ls) → ⊥)
 
--- with this lexeme more than the limit are open for the first time, and up to and with it some program begins so
+-- with this lexeme more than the limit are open for the first time, and up to and with it some
+-- program begins so
 abbrev pub IsDeepAt : List Lexeme → ℕ → Type 0
 IsDeepAt ls k = IsFirstDeep ls k × IsViable (take (k + 1) ls)
 
@@ -82,7 +86,8 @@ StopsWhole ls (Grammar k) = IsLongestViable ls k × IsNoProgram ls
 StopsWhole ls (Depth k) = ⊥
 StopsWhole ls NoMemory = Unit {0}
 
--- an error says where the longest front ends that begins some program, or where too many are open; that memory ran out says nothing of the lexemes
+-- an error says where the longest front ends that begins some program, or where too many are open;
+-- that memory ran out says nothing of the lexemes
 abbrev pub Explains : List Lexeme → SyntaxError → Type 0
 Explains ls (Grammar k) = IsLongestViable ls k × IsNoProgram ls × ((j : ℕ) → IsDeepAt ls j → ⊥)
 Explains ls (Depth k) = IsDeepAt ls k

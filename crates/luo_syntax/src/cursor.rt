@@ -31,7 +31,8 @@ impl<'t> Model for Cursor<'t> {
 
     ghost view = { λ r. lexemes_from r.at r.text.now r.left.now };
 
-    ghost invariant = { λ r. AllInside (length r.text.now) r.left.now × (r.at + length r.left.now ≤ 2 ^ 63) };
+    ghost invariant = { λ r. AllInside (length r.text.now) r.left.now
+        × (r.at + length r.left.now ≤ 2 ^ 63) };
 }
 
 impl<'t> Cursor<'t> {

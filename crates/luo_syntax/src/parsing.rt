@@ -63,7 +63,8 @@ fn whole(alloc: Global, text: &[u8], tokens: &[Token]) -> Result<Source, SyntaxE
 
 /// The first token with which more than `DEPTH_LIMIT` are open.
 fn too_deep(tokens: &[Token]) -> Option<usize>
-    ensures { MatchOption result ((text : List ℕ) → IsShallow (lexemes text tokens.now)) (λ k. (text : List ℕ) → IsFirstDeep (lexemes text tokens.now) k) }
+    ensures { MatchOption result ((text : List ℕ) → IsShallow (lexemes text tokens.now))
+        (λ k. (text : List ℕ) → IsFirstDeep (lexemes text tokens.now) k) }
 {
     let mut opened = 0usize;
     let mut closed = 0usize;

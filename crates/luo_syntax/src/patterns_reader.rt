@@ -40,7 +40,8 @@ impl<'t> Cursor<'t> {
     fn pattern_behind(&mut self, name: Name, alloc: Global) -> Result<Pattern, Fault>
         ensures reads { IfOk result (λ p. IsPattern (behind_name name self.old) self.new p) }
         ensures ends { IfOk result (λ p. PatternEnds p self.new) }
-        ensures stops { IfErr result (λ f. OnStop f (PatternStops (behind_name name self.old) self.new)) }
+        ensures stops { IfErr result
+            (λ f. OnStop f (PatternStops (behind_name name self.old) self.new)) }
     {
         if self.take_word(Word::KwAs) {
             let inner = self.name(alloc)?;

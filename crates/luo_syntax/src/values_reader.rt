@@ -76,7 +76,8 @@ impl<'t> Cursor<'t> {
     fn value_behind(&mut self, name: Name, alloc: Global) -> Result<SourceValue, Fault>
         ensures reads { IfOk result (λ v. IsInner (behind_name name self.old) self.new v) }
         ensures ends { IfOk result (λ v. InnerEnds v self.new) }
-        ensures stops { IfErr result (λ f. OnStop f (InnerStops (behind_name name self.old) self.new)) }
+        ensures stops { IfErr result
+            (λ f. OnStop f (InnerStops (behind_name name self.old) self.new)) }
     {
         if self.take_mark(Mark::LeftRound) {
             let arg = self.argument(alloc)?;

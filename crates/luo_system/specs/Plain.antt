@@ -1,4 +1,5 @@
--- Plain form: sums and products that open sums and products inside them, without idle terms and factors.
+-- Plain form: sums and products that open sums and products inside them, without idle terms and
+-- factors.
 use Rattle.std.specs.Prelude.{ℕ, zero, suc, Bool, true, false, ◌||◌, Option}
 use Rattle.luo_model.specs.declared.program.Kind.{Kind}
 use Rattle.luo_equation.specs.Expr.{Expr, Exprs, Number, Sum, Prod, Point, no_exprs, expr}
@@ -26,7 +27,8 @@ as_sum no_exprs = Number 0
 as_sum (expr e no_exprs) = e
 as_sum (expr e (expr f fs)) = Sum (expr e (expr f fs))
 
--- the sum of expressions in plain form: sums are opened and 0 is left out; a sum without terms is 0, and one of one term is that term
+-- the sum of expressions in plain form: sums are opened and 0 is left out; a sum without terms is
+-- 0, and one of one term is that term
 unfoldable pub sum_of : Exprs → Expr
 sum_of es = as_sum (all_terms es)
 
@@ -60,8 +62,8 @@ unless_zero false e = e
 abbrev pub closed_product : Exprs → Expr
 closed_product es = unless_zero (has_zero es) (as_product es)
 
--- the product of expressions in plain form: products are opened and 1 is left out; a product without factors is 1, and one of one
--- factor is that factor
+-- the product of expressions in plain form: products are opened and 1 is left out; a product
+-- without factors is 1, and one of one factor is that factor
 unfoldable pub product_of : Exprs → Expr
 product_of es = closed_product (all_factors es)
 

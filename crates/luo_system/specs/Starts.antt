@@ -1,4 +1,5 @@
--- Why tables have to start with zeros: a table that keeps the equations of a founded program, and isn't right.
+-- Why tables have to start with zeros: a table that keeps the equations of a founded program, and
+-- isn't right.
 use Rattle.std.specs.Prelude.{ℕ, zero, suc, [], ◌∷◌, ℤ, pos, negsuc}
 use Rattle.luo_model.specs.declared.program.Universe.TheVariants.{Unlabelled}
 use Rattle.luo_model.specs.declared.program.Shape.TheVariants as shape
@@ -18,7 +19,8 @@ pairs = record {
   defs = def (part 0) ∷ [];
   nodes = record { shape = shape.Union (part 1 ∷ (part 2 ∷ [])); owner = 0; place = 0 }
       ∷ (record { shape = shape.Atom 1; owner = 0; place = 1 }
-      ∷ (record { shape = shape.Product (by_name 0 0 ∷ (by_name 0 0 ∷ [])); owner = 0; place = 2 } ∷ []));
+      ∷ (record { shape = shape.Product (by_name 0 0 ∷ (by_name 0 0 ∷ [])); owner = 0; place = 2 }
+      ∷ []));
   procs = [];
   sites = [];
   analyses = [];
@@ -33,8 +35,11 @@ abbrev pub started_at_one : Table
 started_at_one = record { x = λ i. from_one; y = λ f n. pos 0 }
 
 abbrev pub PairsHoldFromOne : Type 0
-PairsHoldFromOne = IsProgram pairs × IsFounded pairs × Holds Unlabelled (system pairs) 2 started_at_one
+PairsHoldFromOne =
+    IsProgram pairs × IsFounded pairs × Holds Unlabelled (system pairs) 2 started_at_one
 
 -- it isn't so that each table in which the equations hold is right
 abbrev pub StartsAreNeeded : Type 0
-StartsAreNeeded = ((p : Program) → IsProgram p → IsFounded p → (N : ℕ) (t : Table) → Holds p.universe (system p) N t → IsRight p N t) → ⊥
+StartsAreNeeded =
+    ((p : Program) → IsProgram p → IsFounded p → (N : ℕ) (t : Table)
+    → Holds p.universe (system p) N t → IsRight p N t) → ⊥

@@ -38,13 +38,14 @@ shape_expr e (shape.Coll kind part low high) = made.Coll kind (e part) low high
 -- the construct of node x, not deeper than so many nodes inside one another
 abbrev pub node_expr : Program → ℕ → ℕ → Expr
 node_expr p zero x = made.Number 0
-node_expr p (suc depth) x = shape_expr (λ part. named part.name (node_expr p depth part.node)) (shape_of p x)
+node_expr p (suc depth) x =
+    shape_expr (λ part. named part.name (node_expr p depth part.node)) (shape_of p x)
 
 abbrev pub inside_expr : Program → ℕ → Part → Expr
 inside_expr p depth part = named part.name (node_expr p depth part.node)
 
--- a part as it is written in the source: a name where a name stands, else its construct. Parts by themselves stand behind their node,
--- so the number of nodes is depth enough
+-- a part as it is written in the source: a name where a name stands, else its construct. Parts by
+-- themselves stand behind their node, so the number of nodes is depth enough
 abbrev pub part_expr : Program → Part → Expr
 part_expr p part = inside_expr p (length p.nodes) part
 
@@ -80,24 +81,30 @@ module _ (p : Program) where
   beside_others vars var e = product_of (expr e (exprs_of (part_expr p) (others var vars)))
 
   abbrev mutual
-    -- the descriptor of a body, where `whole` stands for the scope and the variables are of these types: what the scope charges itself,
-    -- and a term for each item
+    -- the descriptor of a body, where `whole` stands for the scope and the variables are of these
+    -- types: what the scope charges itself, and a term for each item
     pub body_expr : List Part → List Part → Body → Expr
-    body_expr whole vars (Does own items) = sum_of (expr (own_expr whole own) (items_exprs vars items))
+    body_expr whole vars (Does own items) =
+        sum_of (expr (own_expr whole own) (items_exprs vars items))
 
     pub items_exprs : List Part → Items → Exprs
     items_exprs vars no_items = no_exprs
-    items_exprs vars (item i is) = expr (beside_others vars (item_var i) (item_expr vars i)) (items_exprs vars is)
+    items_exprs vars (item i is) =
+        expr (beside_others vars (item_var i) (item_expr vars i)) (items_exprs vars is)
 
     -- the descriptor of a call, of a case, which is the sum of those of its arms, and of a walk
     pub item_expr : List Part → Item → Expr
     item_expr vars (Call var callee site) = made.Tau callee
-    item_expr vars (Case var arms site) = sum_of (arms_exprs (stands (part_at vars var) (shape_of p (part_at vars var).node)) arms)
+    item_expr vars (Case var arms site) =
+        sum_of (arms_exprs (stands (part_at vars var) (shape_of p (part_at vars var).node)) arms)
     item_expr vars (Forall var body body_site site) =
-        walk_expr (part_expr p) (shape_of p (part_at vars var).node) (λ part. body_expr (part ∷ []) (part ∷ []) body)
+        walk_expr (part_expr p) (shape_of p (part_at vars var).node)
+        (λ part. body_expr (part ∷ []) (part ∷ []) body)
 
     pub arms_exprs : List Stand → Arms → Exprs
-    arms_exprs (stand ∷ rest) (arm bind body arms) = expr (body_expr (whole_parts p stand bind) (bound_parts p stand bind) body) (arms_exprs rest arms)
+    arms_exprs (stand ∷ rest) (arm bind body arms) =
+        expr (body_expr (whole_parts p stand bind) (bound_parts p stand bind) body)
+        (arms_exprs rest arms)
     arms_exprs _ _ = no_exprs
 
   abbrev pub term_expr : List Part → Item → Expr
@@ -110,7 +117,8 @@ module _ (p : Program) where
   arm_expr stand bind body = body_expr (whole_parts p stand bind) (bound_parts p stand bind) body
 
   abbrev pub walk_body_expr : Part → Body → Expr
-  walk_body_expr on body = walk_expr (part_expr p) (shape_of p on.node) (λ part. body_expr (part ∷ []) (part ∷ []) body)
+  walk_body_expr on body =
+      walk_expr (part_expr p) (shape_of p on.node) (λ part. body_expr (part ∷ []) (part ∷ []) body)
 
 -- the descriptor of a procedure
 abbrev pub descriptor : Program → Procedure → Expr
@@ -119,11 +127,13 @@ descriptor p P = body_expr p (P.on ∷ []) (P.on ∷ []) P.body
 -- the equations of definitions from number i on, and of procedures from number f on
 abbrev pub defs_from : Program → ℕ → List Def → List Equation
 defs_from p i [] = []
-defs_from p i (d ∷ ds) = record { left = left.Series i; right = part_expr p d.whole } ∷ defs_from p (suc i) ds
+defs_from p i (d ∷ ds) =
+    record { left = left.Series i; right = part_expr p d.whole } ∷ defs_from p (suc i) ds
 
 abbrev pub procs_from : Program → ℕ → List Procedure → List Equation
 procs_from p f [] = []
-procs_from p f (P ∷ Ps) = record { left = left.Tau f; right = descriptor p P } ∷ procs_from p (suc f) Ps
+procs_from p f (P ∷ Ps) =
+    record { left = left.Tau f; right = descriptor p P } ∷ procs_from p (suc f) Ps
 
 -- one equation for each definition, then one for each procedure
 abbrev pub system : Program → List Equation

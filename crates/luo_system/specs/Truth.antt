@@ -1,4 +1,5 @@
--- The equations of a founded program: they hold of its counts and totals, and of nothing else that starts with zeros.
+-- The equations of a founded program: they hold of its counts and totals, and of nothing else that
+-- starts with zeros.
 use Rattle.std.specs.Prelude.{◌≡◌, ℕ, ◌≤◌, List}
 use Rattle.luo_model.specs.declared.table.Row.{Row}
 use Rattle.luo_model.specs.Program.{Program}
@@ -24,12 +25,17 @@ HoldingTablesAreRight = (p : Program) → IsProgram p → IsFounded p → Determ
 
 -- the three, for equations that are those of the program
 abbrev pub SystemsDescribe : Type 0
-SystemsDescribe = (p : Program) → IsProgram p → IsFounded p → (es : List Equation) → es ≡ system p → Describe p es
+SystemsDescribe =
+    (p : Program) → IsProgram p → IsFounded p → (es : List Equation) → es ≡ system p → Describe p es
 
 -- a right table has the rows of its sizes
 abbrev pub RightTablesHaveRows : Type 0
-RightTablesHaveRows = (p : Program) → IsProgram p → (N : ℕ) (t : Table) → IsRight p N t → (f : ℕ) (row : Row) → IsRow p f row → row.n ≤ N → HasRow p t f row
+RightTablesHaveRows =
+    (p : Program) → IsProgram p → (N : ℕ) (t : Table) → IsRight p N t → (f : ℕ) (row : Row)
+    → IsRow p f row → row.n ≤ N → HasRow p t f row
 
 -- there is one table of the equations, and it has all rows
 abbrev pub SystemsHaveTables : Type 0
-SystemsHaveTables = (p : Program) → IsProgram p → IsFounded p → (es : List Equation) → es ≡ system p → (t : Table) × IsTableOf p es t
+SystemsHaveTables =
+    (p : Program) → IsProgram p → IsFounded p → (es : List Equation) → es ≡ system p
+    → (t : Table) × IsTableOf p es t

@@ -34,4 +34,5 @@ founded_line p e = line (founded_text p e)
 
 -- the first rule that is broken is named
 abbrev pub FoundedRefusal : Program → Answer → Type 0
-FoundedRefusal p answer = (e : NotFounded) × Breaks p e × (answer ≡ Refusal way.Refused (founded_line p e))
+FoundedRefusal p answer =
+    (e : NotFounded) × Breaks p e × (answer ≡ Refusal way.Refused (founded_line p e))

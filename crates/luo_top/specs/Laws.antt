@@ -30,16 +30,21 @@ FilesAreTold told words =
 
 -- where each file of the words is told, so is the outcome
 abbrev pub OutcomeIsTold : Type 0
-OutcomeIsTold = (told : Told) (words : List (List ℕ)) → FilesAreTold told words → OutcomeAsWritten told words Untold → ⊥
+OutcomeIsTold =
+    (told : Told) (words : List (List ℕ)) → FilesAreTold told words
+    → OutcomeAsWritten told words Untold → ⊥
 
 -- the outcome over the core form of a source is the one by what the source means as it is written
 abbrev pub OutcomeIsAsWritten : Type 0
-OutcomeIsAsWritten = (told : Told) (words : List (List ℕ)) (answer : Answer) → Outcome told words answer ↔ OutcomeAsWritten told words answer
+OutcomeIsAsWritten =
+    (told : Told) (words : List (List ℕ)) (answer : Answer)
+    → Outcome told words answer ↔ OutcomeAsWritten told words answer
 
 -- `0`, or a digit from 1 to 9 followed by digits, and the number that they give
 abbrev pub IsNumberWord : List ℕ → ℕ → Type 0
 IsNumberWord [] n = ⊥
-IsNumberWord (d ∷ ds) n = AllByRecursion IsDigit (d ∷ ds) × (d ≡ 48 → ds ≡ []) × (n ≡ value_after 0 (d ∷ ds))
+IsNumberWord (d ∷ ds) n =
+    AllByRecursion IsDigit (d ∷ ds) × (d ≡ 48 → ds ≡ []) × (n ≡ value_after 0 (d ∷ ds))
 
 -- these and no others are the number words
 abbrev pub NumbersAreSpelled : Type 0
@@ -49,33 +54,41 @@ NumbersAreSpelled = (word : List ℕ) (n : ℕ) → (number_of word ≡ Some n) 
 abbrev pub AnalyseIsSpelled : Type 0
 AnalyseIsSpelled =
     (words : List (List ℕ)) (file : List ℕ) (n : ℕ)
-    → (command_of words ≡ Some (Analyse file n)) ↔ ((word : List ℕ) × (words ≡ codes "analyse" ∷ file ∷ word ∷ []) × IsNumberWord word n)
+    → (command_of words ≡ Some (Analyse file n))
+    ↔ ((word : List ℕ) × (words ≡ codes "analyse" ∷ file ∷ word ∷ []) × IsNumberWord word n)
 
 -- the words of `format FILE`, and no others, ask for it
 abbrev pub FormatIsSpelled : Type 0
-FormatIsSpelled = (words : List (List ℕ)) (file : List ℕ) → (command_of words ≡ Some (Format file)) ↔ (words ≡ codes "format" ∷ file ∷ [])
+FormatIsSpelled =
+    (words : List (List ℕ)) (file : List ℕ)
+    → (command_of words ≡ Some (Format file)) ↔ (words ≡ codes "format" ∷ file ∷ [])
 
 -- the words of `run FILE PROC STRUCTURE`, and no others, ask for it
 abbrev pub RunIsSpelled : Type 0
 RunIsSpelled =
     (words : List (List ℕ)) (file procedure structure : List ℕ)
-    → (command_of words ≡ Some (Run file procedure structure)) ↔ (words ≡ codes "run" ∷ file ∷ procedure ∷ structure ∷ [])
+    → (command_of words ≡ Some (Run file procedure structure))
+    ↔ (words ≡ codes "run" ∷ file ∷ procedure ∷ structure ∷ [])
 
 -- the words of `sample NUMBER N`, and no others, ask for it
 abbrev pub SampleIsSpelled : Type 0
 SampleIsSpelled =
     (words : List (List ℕ)) (number n : ℕ)
     → (command_of words ≡ Some (Sample number n))
-    ↔ ((first : List ℕ) × (second : List ℕ) × (words ≡ codes "sample" ∷ first ∷ second ∷ []) × IsNumberWord first number × IsNumberWord second n)
+    ↔ ((first : List ℕ) × (second : List ℕ) × (words ≡ codes "sample" ∷ first ∷ second ∷ [])
+    × IsNumberWord first number × IsNumberWord second n)
 
 -- an output, or a number that is too large
 abbrev pub IsTaken : Answer → Type 0
-IsTaken answer = ((bytes : List ℕ) × (answer ≡ Output bytes)) ⊎ ((bytes : List ℕ) × (answer ≡ Refusal Overflow bytes))
+IsTaken answer =
+    ((bytes : List ℕ) × (answer ≡ Output bytes))
+    ⊎ ((bytes : List ℕ) × (answer ≡ Refusal Overflow bytes))
 
 -- a sample within its limits is refused for nothing but a number that is too large
 abbrev pub SamplesAreTaken : Type 0
 SamplesAreTaken =
-    (told : Told) (words : List (List ℕ)) (number n : ℕ) → command_of words ≡ Some (Sample number n) → number ≤ SAMPLE_LIMIT → n ≤ SIZE_LIMIT
+    (told : Told) (words : List (List ℕ)) (number n : ℕ) → command_of words ≡ Some (Sample number n)
+    → number ≤ SAMPLE_LIMIT → n ≤ SIZE_LIMIT
     → (answer : Answer) → OutcomeAsWritten told words answer → IsTaken answer
 
 -- the words of `list FILE TYPE N START COUNT`, and no others, ask for it
@@ -83,7 +96,8 @@ abbrev pub ListIsSpelled : Type 0
 ListIsSpelled =
     (words : List (List ℕ)) (file name : List ℕ) (n start count : ℕ)
     → (command_of words ≡ Some (Listing file name n start count))
-    ↔ ((size : List ℕ) × (place : List ℕ) × (most : List ℕ) × (words ≡ codes "list" ∷ file ∷ name ∷ size ∷ place ∷ most ∷ [])
+    ↔ ((size : List ℕ) × (place : List ℕ) × (most : List ℕ)
+    × (words ≡ codes "list" ∷ file ∷ name ∷ size ∷ place ∷ most ∷ [])
     × IsNumberWord size n × IsNumberWord place start × IsNumberWord most count)
 
 -- the words of `audit FILE N WORKERS`, and no others, ask for it

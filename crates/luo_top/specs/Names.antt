@@ -12,7 +12,8 @@ name_of_definition (Some d) = d.name
 -- a node's definition and its place there: `t.1`
 abbrev pub name_of_node : Program → Option Node → List ℕ
 name_of_node p None = []
-name_of_node p (Some node) = name_of_definition (slice_get p.defs node.owner) ++ codes "." ++ decimal node.place
+name_of_node p (Some node) =
+    name_of_definition (slice_get p.defs node.owner) ++ codes "." ++ decimal node.place
 
 abbrev pub node_name : Program → ℕ → List ℕ
 node_name p x = name_of_node p (slice_get p.nodes x)

@@ -24,10 +24,12 @@ overflow_line p entry n = line (overflow_text p entry n)
 
 -- of the tables up to a last size, the first entry past the last number is named
 abbrev pub OverflowRefusal : Program → Fill → ℕ → Answer → Type 0
-OverflowRefusal p fill last answer = (entry : Entry) × (n : ℕ) × IsFirstOver p last fill entry n × (answer ≡ Refusal way.Overflow (overflow_line p entry n))
+OverflowRefusal p fill last answer =
+    (entry : Entry) × (n : ℕ) × IsFirstOver p last fill entry n
+    × (answer ≡ Refusal way.Overflow (overflow_line p entry n))
 
--- of totals that an audit finds: size m on analyze line j comes before size n on line k, on an earlier
--- line, or a lesser size on the same
+-- of totals that an audit finds: size m on analyze line j comes before size n on line k, on an
+-- earlier line, or a lesser size on the same
 abbrev pub IsEarlier : ℕ → ℕ → ℕ → ℕ → Type 0
 IsEarlier j m k n = (j < k) ⊎ ((j ≡ k) × (m < n))
 

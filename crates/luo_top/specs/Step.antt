@@ -18,7 +18,8 @@ infixr 3 ◌or_makes◌
 abbrev pub ◌or_makes◌ : {X : Type 0} → (Answer → Type 0) → (X → Type 0) → Step X
 (refuses or_makes made) = record { refuses = refuses; hands = λ x. HasNone refuses × made x }
 
--- two steps in order: a refusal of the first, or of the second over what the first hands on, and what the second hands on
+-- two steps in order: a refusal of the first, or of the second over what the first hands on, and
+-- what the second hands on
 infixr 2 ◌and_then◌
 unfoldable pub ◌and_then◌ : {X Y : Type 0} → Step X → (X → Step Y) → Step Y
 (first and_then second) = record {
@@ -40,4 +41,5 @@ makes made = (λ answer. ⊥) or_makes made
 
 -- the answers of a run that ends with the bytes that its last step hands on
 abbrev pub ends : Step (List ℕ) → Answer → Type 0
-ends step answer = step.refuses answer ⊎ ((bytes : List ℕ) × step.hands bytes × (answer ≡ Output bytes))
+ends step answer =
+    step.refuses answer ⊎ ((bytes : List ℕ) × step.hands bytes × (answer ≡ Output bytes))

@@ -34,7 +34,8 @@ source_of text tokens = SyntaxRefusal text tokens or_makes Derives text tokens
 
 -- in this order: the first limit that is passed, the first breach of a rule, the limit on walks
 abbrev pub CoreRefusal : List ℕ → List Token → Source → Answer → Type 0
-CoreRefusal text tokens source = LimitRefusal source or_else RuleRefusal text tokens source or_else WalksRefusal source
+CoreRefusal text tokens source =
+    LimitRefusal source or_else RuleRefusal text tokens source or_else WalksRefusal source
 
 -- a limit or a breach, and else the core form
 abbrev pub core_of : List ℕ → List Token → Source → Step Program
@@ -47,7 +48,8 @@ file_source file told = text_of file told and_then λ text. tokens_of text and_t
 -- the program of a file
 abbrev pub file_program : List ℕ → Told → Step Program
 file_program file told =
-    text_of file told and_then λ text. tokens_of text and_then λ tokens. source_of text tokens and_then core_of text tokens
+    text_of file told and_then λ text. tokens_of text and_then λ tokens. source_of text tokens
+    and_then core_of text tokens
 
 -- the first rule of well-foundedness that is broken, and else the program is founded
 abbrev pub founded : Program → Step ⊤

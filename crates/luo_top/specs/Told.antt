@@ -20,4 +20,5 @@ ReadingRefusal most line (Some text) answer = RefusedWhere (most < length text) 
 
 -- a file of at most so many bytes is read
 abbrev pub reading : ℕ → List ℕ → List ℕ → Told → Step (List ℕ)
-reading most line file told = ReadingRefusal most line (told file) or_makes λ text. told file ≡ Some text
+reading most line file told =
+    ReadingRefusal most line (told file) or_makes λ text. told file ≡ Some text

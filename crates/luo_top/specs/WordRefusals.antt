@@ -1,5 +1,5 @@
--- The refusals of words that name something of a program: a type, a procedure, or a structure by its
--- text; and of numbers of a listing or an audit.
+-- The refusals of words that name something of a program: a type, a procedure, or a structure by
+-- its text; and of numbers of a listing or an audit.
 use Rattle.std.specs.Prelude.{ℕ, ◌++◌, List, [], codes, decimal}
 use Rattle.luo_num.specs.declared.limits.TheConstants.{STRUCTURE_TEXT_LIMIT, NESTING_LIMIT, LIST_SIZE_LIMIT, COUNT_LIMIT, WORKER_LIMIT, WALKED_LIMIT}
 use Rattle.luo_num.specs.Limits.{limit_message}
@@ -13,8 +13,8 @@ use Rattle.luo_top.specs.Refusals.{line, at_byte}
 abbrev pub unknown_line : List ℕ → List ℕ
 unknown_line word = line (codes "refused: U1: " ++ word)
 
--- a size past the limit of listings, a number of structures to be listed past its limit, a number of
--- workers that is none of 1 to its limit, and structures to be walked past their limit
+-- a size past the limit of listings, a number of structures to be listed past its limit, a number
+-- of workers that is none of 1 to its limit, and structures to be walked past their limit
 abbrev pub list_size_line : List ℕ
 list_size_line = line (limit_message (codes "size") LIST_SIZE_LIMIT)
 
@@ -29,11 +29,14 @@ structures_line = line (limit_message (codes "structures") WALKED_LIMIT)
 
 -- the refusal of a text that gives no structure
 abbrev pub refusal_of_structure : StructError → Answer
-refusal_of_structure (Long length) = Refusal way.Limit (line (limit_message (codes "text") STRUCTURE_TEXT_LIMIT))
+refusal_of_structure (Long length) =
+    Refusal way.Limit (line (limit_message (codes "text") STRUCTURE_TEXT_LIMIT))
 refusal_of_structure (S1 at) = Refusal way.Refused (line (codes "refused: S1" ++ at_byte at))
-refusal_of_structure (Deep at) = Refusal way.Limit (line (limit_message (codes "nesting") NESTING_LIMIT ++ at_byte at))
+refusal_of_structure (Deep at) =
+    Refusal way.Limit (line (limit_message (codes "nesting") NESTING_LIMIT ++ at_byte at))
 refusal_of_structure S2 = Refusal way.Refused (line (codes "refused: S2"))
-refusal_of_structure (S3 size) = Refusal way.Refused (line (codes "refused: S3: size " ++ decimal size))
+refusal_of_structure (S3 size) =
+    Refusal way.Refused (line (codes "refused: S3: size " ++ decimal size))
 refusal_of_structure NoMemory = Refusal way.NoMemory []
 
 -- the line of a charge past the last number

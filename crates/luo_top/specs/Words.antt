@@ -55,13 +55,16 @@ run_of other = None
 
 -- NUMBER N
 abbrev pub sample_of : List (List ℕ) → Option Command
-sample_of (number ∷ n ∷ []) = option_and_then (λ k. option_map (Sample k) (number_of n)) (number_of number)
+sample_of (number ∷ n ∷ []) =
+    option_and_then (λ k. option_map (Sample k) (number_of n)) (number_of number)
 sample_of other = None
 
 -- FILE TYPE N START COUNT
 abbrev pub list_of : List (List ℕ) → Option Command
 list_of (file ∷ name ∷ n ∷ start ∷ count ∷ []) =
-    option_and_then (λ size. option_and_then (λ place. option_map (Listing file name size place) (number_of count)) (number_of start)) (number_of n)
+    option_and_then
+    (λ size. option_and_then (λ place. option_map (Listing file name size place) (number_of count))
+    (number_of start)) (number_of n)
 list_of other = None
 
 -- FILE N WORKERS
@@ -97,9 +100,12 @@ files_of (Audit file n workers) = file ∷ []
 
 -- a number that is too large, and else a size that is
 abbrev pub LimitOfSample : ℕ → ℕ → Answer → Type 0
-LimitOfSample number n = RefusedWhere (SAMPLE_LIMIT < number) Limit sample_line or_else RefusedWhere (SIZE_LIMIT < n) Limit size_line
+LimitOfSample number n =
+    RefusedWhere (SAMPLE_LIMIT < number) Limit sample_line or_else RefusedWhere
+    (SIZE_LIMIT < n) Limit size_line
 
--- the limits that the words of a command pass by themselves: none, where its numbers are looked at behind its file
+-- the limits that the words of a command pass by themselves: none, where its numbers are looked at
+-- behind its file
 abbrev pub LimitOfWords : Command → Answer → Type 0
 LimitOfWords (Analyse file n) answer = ⊥
 LimitOfWords (Format file) answer = ⊥

@@ -226,7 +226,8 @@ fn request_of(words: &[String]) -> Option<Request<'_>>
 
 // The request, where its words pass no limit by themselves.
 fn within(request: Request<'_>) -> Result<Request<'_>, Refusal>
-    ensures { (command : Command) → IsRequest command request.entry → Keeps command request.entry result }
+    ensures { (command : Command) → IsRequest command request.entry
+        → Keeps command request.entry result }
 {
     if let Request::Sample { number, last } = request {
         if number > SAMPLE_LIMIT {

@@ -94,11 +94,15 @@ pub fn check(alloc: Global, source: &Source) -> Result<Program, CheckError>
     requires { IsSource source.now }
     ensures ok { IfOk result (λ p. IsChecked source.now (plain_of p)) }
     ensures err { IfErr result (λ e. IsUnchecked source.now e) }
-    ensures limit { (which : CountLimit) → PassesFirst source.now which → IsRefusal (error.Limit which) result }
-    ensures rule { (b : Breach) → IsWithinLimits source.now → BreaksFirst source.now b → IsRefusal (error.Rule b.rule b.token b.names) result }
-    ensures walks { IsWithinLimits source.now → WalksTooMuch source.now → IsRefusal (error.Limit count.Walks) result }
+    ensures limit { (which : CountLimit) → PassesFirst source.now which
+        → IsRefusal (error.Limit which) result }
+    ensures rule { (b : Breach) → IsWithinLimits source.now → BreaksFirst source.now b
+        → IsRefusal (error.Rule b.rule b.token b.names) result }
+    ensures walks { IsWithinLimits source.now → WalksTooMuch source.now
+        → IsRefusal (error.Limit count.Walks) result }
     ensures tells { IfErr result (λ e. TellsFirstBroken source.now e) }
-    ensures first { (b : Breach) → IsWithinLimits source.now → IsFirstBroken source.now b → IsRefusal (error.Rule b.rule b.token b.names) result }
+    ensures first { (b : Breach) → IsWithinLimits source.now → IsFirstBroken source.now b
+        → IsRefusal (error.Rule b.rule b.token b.names) result }
     ensures unbroken { IfOk result (λ p. BreaksNothing source.now) }
     ensures checked { (p : plain.Program) → IsChecked source.now p → IsProgramAnswer result }
 {

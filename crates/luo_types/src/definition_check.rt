@@ -55,8 +55,10 @@ fn check_circles(
     def: &TypeDef,
 ) -> Result<(), Stop>
     requires { first + length def.now.names ≤ DEFINITION_LIMIT }
-    ensures ok { OnOk result (circle_breaches names.now defs.now first def.now.names def.now.body ≡ []) }
-    ensures stops { IfErr result (λ s. StopsAt (circle_breaches names.now defs.now first def.now.names def.now.body) s) }
+    ensures ok { OnOk result (circle_breaches names.now defs.now first def.now.names def.now.body
+        ≡ []) }
+    ensures stops { IfErr result
+        (λ s. StopsAt (circle_breaches names.now defs.now first def.now.names def.now.body) s) }
 {
     let TypeExpr::Named(name) = &def.body else {
         return Ok(());
@@ -76,8 +78,11 @@ fn check_circles(
 // Checks the definitions of one line, from this number on.
 fn check_type(checker: &Checker, defs: &[Entry], first: usize, def: &TypeDef) -> Result<(), Stop>
     requires { first + length def.now.names ≤ DEFINITION_LIMIT }
-    ensures ok { OnOk result (type_breaches checker.now.universe checker.now.names.now defs.now first def.now ≡ []) }
-    ensures stops { IfErr result (λ s. StopsAt (type_breaches checker.now.universe checker.now.names.now defs.now first def.now) s) }
+    ensures ok { OnOk result (type_breaches checker.now.universe checker.now.names.now defs.now
+        first def.now ≡ []) }
+    ensures stops { IfErr result
+        (λ s. StopsAt (type_breaches checker.now.universe checker.now.names.now defs.now first
+        def.now) s) }
 {
     check_new_types(checker.alloc, checker.names, first, def.names.as_slice())?;
     checker.expr(&def.body)?;
@@ -88,8 +93,11 @@ fn check_type(checker: &Checker, defs: &[Entry], first: usize, def: &TypeDef) ->
 /// Checks the definitions.
 pub(crate) fn check_types(checker: &Checker, defs: &[Entry], types: &[TypeDef]) -> Result<(), Stop>
     requires { sum_by (λ d. length d.names) types.now ≤ DEFINITION_LIMIT }
-    ensures ok { OnOk result (types_breaches checker.now.universe checker.now.names.now defs.now 0 types.now ≡ []) }
-    ensures stops { IfErr result (λ s. StopsAt (types_breaches checker.now.universe checker.now.names.now defs.now 0 types.now) s) }
+    ensures ok { OnOk result (types_breaches checker.now.universe checker.now.names.now defs.now 0
+        types.now ≡ []) }
+    ensures stops { IfErr result
+        (λ s. StopsAt (types_breaches checker.now.universe checker.now.names.now defs.now 0
+        types.now) s) }
 {
     let mut first = 0;
     for def in types {

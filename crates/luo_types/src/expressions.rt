@@ -25,8 +25,10 @@ impl<'n> Checker<'n> {
     /// Checks a right side, or a part of one.
     #[cycle(expressions)]
     pub fn expr(&self, expr: &TypeExpr) -> Result<(), Stop>
-        ensures ok { OnOk result (expr_breaches self.now.universe self.now.names.now expr.now ≡ []) }
-        ensures stops { IfErr result (λ s. StopsAt (expr_breaches self.now.universe self.now.names.now expr.now) s) }
+        ensures ok { OnOk result (expr_breaches self.now.universe self.now.names.now expr.now
+            ≡ []) }
+        ensures stops { IfErr result
+            (λ s. StopsAt (expr_breaches self.now.universe self.now.names.now expr.now) s) }
     {
         match expr {
             TypeExpr::Named(name) => return self.named(name),
@@ -53,8 +55,10 @@ impl<'n> Checker<'n> {
 
     // Checks a name.
     fn named(&self, name: &Name) -> Result<(), Stop>
-        ensures ok { OnOk result (type_use (meaning self.now.names.now name.now.text) name.now ≡ []) }
-        ensures stops { IfErr result (λ s. StopsAt (type_use (meaning self.now.names.now name.now.text) name.now) s) }
+        ensures ok { OnOk result (type_use (meaning self.now.names.now name.now.text) name.now
+            ≡ []) }
+        ensures stops { IfErr result
+            (λ s. StopsAt (type_use (meaning self.now.names.now name.now.text) name.now) s) }
     {
         use_type(self.alloc, self.names.meaning(name.text.as_slice()), name)?;
         Ok(())
@@ -69,8 +73,13 @@ impl<'n> Checker<'n> {
         bound: Option<Bound>,
         at: usize,
     ) -> Result<(), Stop>
-        ensures ok { OnOk result (kind_breaches self.now.universe kind at ++ expr_breaches self.now.universe self.now.names.now part.now ++ bound_breaches kind bound ≡ []) }
-        ensures stops { IfErr result (λ s. StopsAt (kind_breaches self.now.universe kind at ++ expr_breaches self.now.universe self.now.names.now part.now ++ bound_breaches kind bound) s) }
+        ensures ok { OnOk result (kind_breaches self.now.universe kind at
+            ++ expr_breaches self.now.universe self.now.names.now part.now
+            ++ bound_breaches kind bound ≡ []) }
+        ensures stops { IfErr result
+            (λ s. StopsAt (kind_breaches self.now.universe kind at
+            ++ expr_breaches self.now.universe self.now.names.now part.now
+            ++ bound_breaches kind bound) s) }
     {
         check_kind(self.alloc, self.universe, kind, at)?;
         self.expr(part)?;
@@ -81,8 +90,11 @@ impl<'n> Checker<'n> {
     // Checks parts.
     #[cycle(expressions)]
     fn exprs(&self, exprs: &[TypeExpr]) -> Result<(), Stop>
-        ensures ok { OnOk result (flat_map (expr_breaches self.now.universe self.now.names.now) exprs.now ≡ []) }
-        ensures stops { IfErr result (λ s. StopsAt (flat_map (expr_breaches self.now.universe self.now.names.now) exprs.now) s) }
+        ensures ok { OnOk result (flat_map
+            (expr_breaches self.now.universe self.now.names.now) exprs.now ≡ []) }
+        ensures stops { IfErr result
+            (λ s. StopsAt (flat_map
+            (expr_breaches self.now.universe self.now.names.now) exprs.now) s) }
     {
         for expr in exprs {
             self.expr(expr)?;

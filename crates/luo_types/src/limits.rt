@@ -17,7 +17,8 @@ use luo_source::{Source, TypeDef};
 // Counts in a definition, with a copy of the right side for each name.
 fn count_type(def: &TypeDef) -> TypeCounts
     ensures nodes { result.nodes ≡ capped (length def.now.names * own_nodes def.now.body) }
-    ensures multisets { result.multisets ≡ capped (length def.now.names * own_multisets def.now.body) }
+    ensures multisets { result.multisets
+        ≡ capped (length def.now.names * own_multisets def.now.body) }
     ensures parts { result.parts ≡ most_parts def.now.body }
     ensures bound { result.bound ≡ greatest_bound def.now.body }
 {
@@ -32,8 +33,10 @@ fn count_type(def: &TypeDef) -> TypeCounts
 
 // Counts in definitions.
 fn count_types(types: &[TypeDef]) -> TypeCounts
-    ensures nodes { result.nodes ≡ capped (sum_by (λ d. length d.names * own_nodes d.body) types.now) }
-    ensures multisets { result.multisets ≡ capped (sum_by (λ d. length d.names * own_multisets d.body) types.now) }
+    ensures nodes { result.nodes
+        ≡ capped (sum_by (λ d. length d.names * own_nodes d.body) types.now) }
+    ensures multisets { result.multisets
+        ≡ capped (sum_by (λ d. length d.names * own_multisets d.body) types.now) }
     ensures parts { result.parts ≡ greatest_by (λ d. most_parts d.body) types.now }
     ensures bound { result.bound ≡ greatest_by (λ d. greatest_bound d.body) types.now }
 {

@@ -47,7 +47,8 @@ pub(crate) fn names_of(
     measures: &[Measured],
     procs: &[ProcDef],
 ) -> Result<Names, NoMemory>
-    ensures { IfOk result (λ names. names ≡ with_procedures (with_measures (with_definitions [] 0 defs.now) 0 measures.now) 0 procs.now) }
+    ensures { IfOk result (λ names. names ≡ with_procedures
+        (with_measures (with_definitions [] 0 defs.now) 0 measures.now) 0 procs.now) }
 {
     let mut names = Names::new(alloc);
     add_definitions(alloc, &mut names, defs)?;

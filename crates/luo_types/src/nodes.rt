@@ -49,7 +49,8 @@ pub(crate) fn put(
     requires inside { at.place ≤ at.node }
     requires clean { expr_breaches scheme.now.universe scheme.now.names expr.now ≡ [] }
     requires small { greatest_bound expr.now ≤ BOUND_LIMIT }
-    ensures { OnOk result (nodes.new ≡ nodes.old ++ nodes_at scheme.now.names scheme.now.defs.items owner at expr.now) }
+    ensures { OnOk result (nodes.new ≡ nodes.old
+        ++ nodes_at scheme.now.names scheme.now.defs.items owner at expr.now) }
 {
     match expr {
         TypeExpr::Named(_) => return Ok(()),
@@ -83,7 +84,15 @@ fn put_union(
     requires inside { at.place ≤ at.node }
     requires clean { flat_map (expr_breaches scheme.now.universe scheme.now.names) parts.now ≡ [] }
     requires small { greatest_by greatest_bound parts.now ≤ BOUND_LIMIT }
-    ensures { OnOk result (nodes.new ≡ nodes.old ++ record { shape = shape.Union (parts_of scheme.now.names scheme.now.defs.items (behind at 1) parts.now); owner = owner; place = at.place } ∷ nodes_of scheme.now.names scheme.now.defs.items owner (behind at 1) parts.now) }
+    ensures { OnOk result (nodes.new ≡ nodes.old
+        ++ record {
+          shape = shape.Union
+              (parts_of scheme.now.names scheme.now.defs.items (behind at 1) parts.now);
+          owner =
+              owner;
+          place = at.place;
+        }
+        ∷ nodes_of scheme.now.names scheme.now.defs.items owner (behind at 1) parts.now) }
 {
     let inner = at.behind(1);
     nodes.push(Node {
@@ -110,7 +119,15 @@ fn put_product(
     requires inside { at.place ≤ at.node }
     requires clean { flat_map (expr_breaches scheme.now.universe scheme.now.names) parts.now ≡ [] }
     requires small { greatest_by greatest_bound parts.now ≤ BOUND_LIMIT }
-    ensures { OnOk result (nodes.new ≡ nodes.old ++ record { shape = shape.Product (parts_of scheme.now.names scheme.now.defs.items (behind at 1) parts.now); owner = owner; place = at.place } ∷ nodes_of scheme.now.names scheme.now.defs.items owner (behind at 1) parts.now) }
+    ensures { OnOk result (nodes.new ≡ nodes.old
+        ++ record {
+          shape = shape.Product
+              (parts_of scheme.now.names scheme.now.defs.items (behind at 1) parts.now);
+          owner =
+              owner;
+          place = at.place;
+        }
+        ∷ nodes_of scheme.now.names scheme.now.defs.items owner (behind at 1) parts.now) }
 {
     let inner = at.behind(1);
     nodes.push(Node {
@@ -140,7 +157,15 @@ fn put_collection(
     requires clean { expr_breaches scheme.now.universe scheme.now.names part.now ≡ [] }
     requires small { greatest_bound part.now ≤ BOUND_LIMIT }
     requires bounded { greatest_of bound ≤ BOUND_LIMIT }
-    ensures { OnOk result (nodes.new ≡ nodes.old ++ record { shape = shape.Coll kind (part_at scheme.now.names scheme.now.defs.items (behind at 1) part.now) (low_of kind bound) (high_of bound); owner = owner; place = at.place } ∷ nodes_at scheme.now.names scheme.now.defs.items owner (behind at 1) part.now) }
+    ensures { OnOk result (nodes.new ≡ nodes.old
+        ++ record {
+          shape = shape.Coll kind
+              (part_at scheme.now.names scheme.now.defs.items (behind at 1) part.now) (low_of kind bound)
+              (high_of bound);
+          owner = owner;
+          place = at.place;
+        }
+        ∷ nodes_at scheme.now.names scheme.now.defs.items owner (behind at 1) part.now) }
 {
     let inner = at.behind(1);
     nodes.push(Node {
@@ -170,7 +195,8 @@ fn put_all(
     requires inside { at.place ≤ at.node }
     requires clean { flat_map (expr_breaches scheme.now.universe scheme.now.names) exprs.now ≡ [] }
     requires small { greatest_by greatest_bound exprs.now ≤ BOUND_LIMIT }
-    ensures { OnOk result (nodes.new ≡ nodes.old ++ nodes_of scheme.now.names scheme.now.defs.items owner at exprs.now) }
+    ensures { OnOk result (nodes.new ≡ nodes.old
+        ++ nodes_of scheme.now.names scheme.now.defs.items owner at exprs.now) }
 {
     let mut spot = at;
     for expr in exprs {
@@ -182,7 +208,8 @@ fn put_all(
 
 // Puts an atom.
 fn put_atom(owner: usize, at: Spot, weight: u32, nodes: &mut Items<Node>) -> Result<(), NoMemory>
-    ensures { OnOk result (nodes.new ≡ nodes.old ++ record { shape = shape.Atom weight; owner = owner; place = at.place } ∷ []) }
+    ensures { OnOk result (nodes.new ≡ nodes.old
+        ++ record { shape = shape.Atom weight; owner = owner; place = at.place } ∷ []) }
 {
     nodes.push(Node {
         shape: Shape::Atom { weight },

@@ -36,8 +36,10 @@ fn push_procedure(
     sites: &mut Items<Site>,
 ) -> Result<usize, AllocError>
     requires { body_items (body_of proc.now.body) ≤ 2 ^ 30 }
-    ensures sites { OnOk result (sites.new ≡ sites.old ++ sites_at caller 0 (nodes_of (procedure_sites (types_of setting.now) (procedure_of proc.now)))) }
-    ensures walks { IfOk result (λ walks. walks ≡ procedure_walks (types_of setting.now) (procedure_of proc.now)) }
+    ensures sites { OnOk result (sites.new ≡ sites.old ++ sites_at caller 0
+        (nodes_of (procedure_sites (types_of setting.now) (procedure_of proc.now)))) }
+    ensures walks { IfOk result (λ walks. walks ≡ procedure_walks (types_of setting.now)
+        (procedure_of proc.now)) }
 {
     let vars = one_node(alloc, proc.on.node)?;
     let mut found = Found {
@@ -63,8 +65,10 @@ pub(crate) fn sites_of(
     procs: &[Proc],
 ) -> Result<(Items<Site>, usize), AllocError>
     requires { sum_by procedure_items (map procedure_of procs.now) ≤ 2 ^ 30 }
-    ensures sites { IfOk result (λ made. made.0 ≡ sites_in (types_of setting.now) 0 (map procedure_of procs.now)) }
-    ensures walks { IfOk result (λ made. made.1 ≡ sum_by (procedure_walks (types_of setting.now)) (map procedure_of procs.now)) }
+    ensures sites { IfOk result (λ made. made.0 ≡ sites_in (types_of setting.now) 0
+        (map procedure_of procs.now)) }
+    ensures walks { IfOk result (λ made. made.1 ≡ sum_by (procedure_walks (types_of setting.now))
+        (map procedure_of procs.now)) }
 {
     let mut sites = Items::new(alloc);
     let mut walks = 0;

@@ -49,8 +49,12 @@ fn run_body(
 ) -> Result<Body, Stop>
     requires room { HasRoom (sum_by stmt_statements inner.now) 0 next.old }
     requires within { HasMeasuresWithin setting.now }
-    ensures ok { IfOk result (λ body. IsDone (list_breaches setting.now (parameter param.now node) inner.now) (list_does setting.now (parameter param.now node) next.old inner.now) (sum_by stmt_sites inner.now) body next.old next.new) }
-    ensures stops { IfErr result (λ e. StopsAt (list_breaches setting.now (parameter param.now node) inner.now) e) }
+    ensures ok { IfOk result (λ body. IsDone
+        (list_breaches setting.now (parameter param.now node) inner.now)
+        (list_does setting.now (parameter param.now node) next.old inner.now)
+        (sum_by stmt_sites inner.now) body next.old next.new) }
+    ensures stops { IfErr result
+        (λ e. StopsAt (list_breaches setting.now (parameter param.now node) inner.now) e) }
 {
     let scope = one_variable(alloc, param, node)?;
     let context = Context {
@@ -77,10 +81,18 @@ fn made_body(
     requires room { HasRoom (value_statements source.now) 0 next.old }
     requires within { HasMeasuresWithin setting.now }
     requires branches { HasFewBranches setting.now }
-    ensures ok { IfOk result (λ made. IsDone (value_breaches setting.now (parameter param.now node) (Some expected) source.now) (value_body next.old (value_core setting.now (parameter param.now node) (Some expected) source.now))
-        (value_sites (value_core setting.now (parameter param.now node) (Some expected) source.now)) made.0 next.old next.new) }
-    ensures formed { IfOk result (λ made. model.value_of made.1 ≡ value_core setting.now (parameter param.now node) (Some expected) source.now) }
-    ensures stops { IfErr result (λ e. StopsAt (value_breaches setting.now (parameter param.now node) (Some expected) source.now) e) }
+    ensures ok { IfOk result (λ made. IsDone
+        (value_breaches setting.now (parameter param.now node) (Some expected) source.now)
+        (value_body next.old
+        (value_core setting.now (parameter param.now node) (Some expected) source.now))
+        (value_sites
+        (value_core setting.now (parameter param.now node)
+        (Some expected) source.now)) made.0 next.old next.new) }
+    ensures formed { IfOk result (λ made. model.value_of made.1 ≡ value_core setting.now
+        (parameter param.now node) (Some expected) source.now) }
+    ensures stops { IfErr result
+        (λ e. StopsAt (value_breaches setting.now (parameter param.now node)
+        (Some expected) source.now) e) }
 {
     let scope = one_variable(alloc, param, node)?;
     let context = Context {
@@ -106,8 +118,10 @@ fn body(
     requires room { HasRoom (body_statements proc.now.body) 0 next.old }
     requires within { HasMeasuresWithin setting.now }
     requires branches { HasFewBranches setting.now }
-    ensures ok { IfOk result (λ made. IsBodyMade setting.now proc.now node made.0 made.1 next.old next.new) }
-    ensures stops { IfErr result (λ e. StopsAt (body_breaches setting.now proc.now (Some node) proc.now.body) e) }
+    ensures ok { IfOk result (λ made.
+        IsBodyMade setting.now proc.now node made.0 made.1 next.old next.new) }
+    ensures stops { IfErr result
+        (λ e. StopsAt (body_breaches setting.now proc.now (Some node) proc.now.body) e) }
 {
     match &proc.body {
         ProcBody::Statements(inner) => {
@@ -148,7 +162,8 @@ fn procedure(
     requires room { HasRoom (body_statements proc.now.body) 0 next.old }
     requires within { HasMeasuresWithin setting.now }
     requires branches { HasFewBranches setting.now }
-    ensures ok { IfOk result (λ made. IsProcMade setting.now number proc.now made next.old next.new) }
+    ensures ok { IfOk result (λ made.
+        IsProcMade setting.now number proc.now made next.old next.new) }
     ensures stops { IfErr result (λ e. StopsAt (proc_breaches setting.now number proc.now) e) }
 {
     check_name(
@@ -199,9 +214,13 @@ pub(crate) fn analyses(
     setting: &Setting,
     names: &[Name],
 ) -> Result<Items<usize>, Stop>
-    ensures ok { OnOk result (flat_map (λ name. procedure_use (meant setting.now name) name) names.now ≡ []) }
-    ensures formed { IfOk result (λ made. made ≡ map (λ name. procedure_of (meant setting.now name)) names.now) }
-    ensures stops { IfErr result (λ e. StopsAt (flat_map (λ name. procedure_use (meant setting.now name) name) names.now) e) }
+    ensures ok { OnOk result (flat_map
+        (λ name. procedure_use (meant setting.now name) name) names.now ≡ []) }
+    ensures formed { IfOk result (λ made. made ≡ map
+        (λ name. procedure_of (meant setting.now name)) names.now) }
+    ensures stops { IfErr result
+        (λ e. StopsAt (flat_map
+        (λ name. procedure_use (meant setting.now name) name) names.now) e) }
 {
     let mut made = Items::new(alloc);
     for name in names {

@@ -158,8 +158,11 @@ pub(crate) fn check_weight(
     weight: u128,
     weight_at: usize,
 ) -> Result<(), Stop>
-    ensures ok { OnOk result ((if nat_le weight (greatest_weight universe) then [] else broken Y8 weight_at (decimal weight)) ≡ []) }
-    ensures stops { IfErr result (λ s. StopsAt (if nat_le weight (greatest_weight universe) then [] else broken Y8 weight_at (decimal weight)) s) }
+    ensures ok { OnOk result ((if nat_le weight
+        (greatest_weight universe) then [] else broken Y8 weight_at (decimal weight)) ≡ []) }
+    ensures stops { IfErr result
+        (λ s. StopsAt (if nat_le weight (greatest_weight universe) then [] else broken Y8 weight_at
+        (decimal weight)) s) }
 {
     if weight <= greatest_weight(universe) {
         return Ok(());

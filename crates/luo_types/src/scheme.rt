@@ -98,7 +98,8 @@ impl<'s> Scheme<'s> {
 
     /// The part that stands for a definition by its name.
     fn named_part(&self, name: &Name) -> Part
-        ensures { result ≡ named_part self.now.names self.now.defs.items (definition_meant (meaning self.now.names name.now.text)) }
+        ensures { result ≡ named_part self.now.names self.now.defs.items
+            (definition_meant (meaning self.now.names name.now.text)) }
     {
         match definition_meant(self.names.meaning(name.text.as_slice())) {
             Some(i) => Part {
@@ -129,7 +130,8 @@ impl<'s> Scheme<'s> {
     pub fn parts(&self, at: Spot, exprs: &[TypeExpr]) -> Result<Items<Part>, NoMemory>
         requires room { at.node + sum_by own_nodes exprs.now ≤ NODE_LIMIT }
         requires inside { at.place ≤ at.node }
-        ensures { IfOk result (λ parts. parts ≡ parts_of self.now.names self.now.defs.items at exprs.now) }
+        ensures { IfOk result (λ parts. parts
+            ≡ parts_of self.now.names self.now.defs.items at exprs.now) }
     {
         let mut parts = Items::new(self.alloc);
         let mut spot = at;

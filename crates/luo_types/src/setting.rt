@@ -17,7 +17,8 @@ use luo_source::{Name, ProcBody, ProcDef};
 // The definitions in the core form.
 fn core_defs(scheme: &Scheme) -> Result<Items<Def>, NoMemory>
     requires { sum_by (λ d. own_nodes d.right) scheme.now.defs.items ≤ NODE_LIMIT }
-    ensures { IfOk result (λ defs. defs ≡ defs_from scheme.now.names scheme.now.defs.items 0 scheme.now.defs.items) }
+    ensures { IfOk result (λ defs. defs
+        ≡ defs_from scheme.now.names scheme.now.defs.items 0 scheme.now.defs.items) }
 {
     let mut defs = Items::new(scheme.alloc);
     let mut node = 0;
@@ -33,9 +34,11 @@ fn core_defs(scheme: &Scheme) -> Result<Items<Def>, NoMemory>
 // The nodes in the core form.
 fn core_nodes(scheme: &Scheme) -> Result<Items<Node>, NoMemory>
     requires few { sum_by (λ d. own_nodes d.right) scheme.now.defs.items ≤ NODE_LIMIT }
-    requires clean { flat_map (λ d. expr_breaches scheme.now.universe scheme.now.names d.right) scheme.now.defs.items ≡ [] }
+    requires clean { flat_map (λ d. expr_breaches scheme.now.universe scheme.now.names d.right)
+        scheme.now.defs.items ≡ [] }
     requires small { greatest_by (λ d. greatest_bound d.right) scheme.now.defs.items ≤ BOUND_LIMIT }
-    ensures { IfOk result (λ nodes. nodes ≡ nodes_from scheme.now.names scheme.now.defs.items 0 0 scheme.now.defs.items) }
+    ensures { IfOk result (λ nodes. nodes
+        ≡ nodes_from scheme.now.names scheme.now.defs.items 0 0 scheme.now.defs.items) }
 {
     let mut nodes = Items::new(scheme.alloc);
     let mut node = 0;
@@ -77,7 +80,8 @@ fn signature(scheme: &Scheme, proc: &ProcDef) -> Signature
 
 // The signatures of procedures.
 fn signatures(scheme: &Scheme, procs: &[ProcDef]) -> Result<Items<Signature>, NoMemory>
-    ensures { IfOk result (λ made. made ≡ map (signature_of scheme.now.names scheme.now.defs.items) procs.now) }
+    ensures { IfOk result (λ made. made ≡ map
+        (signature_of scheme.now.names scheme.now.defs.items) procs.now) }
 {
     let mut made = Items::new(scheme.alloc);
     for proc in procs {
@@ -89,13 +93,17 @@ fn signatures(scheme: &Scheme, procs: &[ProcDef]) -> Result<Items<Signature>, No
 /// The setting of procedures over these definitions.
 pub(crate) fn setting(scheme: Scheme, procs: &[ProcDef]) -> Result<Setting, NoMemory>
     requires few { sum_by (λ d. own_nodes d.right) scheme.defs.items ≤ NODE_LIMIT }
-    requires clean { flat_map (λ d. expr_breaches scheme.universe scheme.names d.right) scheme.defs.items ≡ [] }
+    requires clean { flat_map (λ d. expr_breaches scheme.universe scheme.names d.right)
+        scheme.defs.items ≡ [] }
     requires small { greatest_by (λ d. greatest_bound d.right) scheme.defs.items ≤ BOUND_LIMIT }
     ensures universe { IfOk result (λ s. s.universe ≡ scheme.entry.universe) }
     ensures names { IfOk result (λ s. s.names ≡ scheme.entry.names) }
-    ensures defs { IfOk result (λ s. s.defs ≡ defs_from scheme.entry.names scheme.entry.defs.items 0 scheme.entry.defs.items) }
-    ensures nodes { IfOk result (λ s. s.nodes ≡ nodes_from scheme.entry.names scheme.entry.defs.items 0 0 scheme.entry.defs.items) }
-    ensures signatures { IfOk result (λ s. s.signatures ≡ map (signature_of scheme.entry.names scheme.entry.defs.items) procs.now) }
+    ensures defs { IfOk result (λ s. s.defs
+        ≡ defs_from scheme.entry.names scheme.entry.defs.items 0 scheme.entry.defs.items) }
+    ensures nodes { IfOk result (λ s. s.nodes
+        ≡ nodes_from scheme.entry.names scheme.entry.defs.items 0 0 scheme.entry.defs.items) }
+    ensures signatures { IfOk result (λ s. s.signatures ≡ map
+        (signature_of scheme.entry.names scheme.entry.defs.items) procs.now) }
 {
     let defs = core_defs(&scheme)?;
     let nodes = core_nodes(&scheme)?;

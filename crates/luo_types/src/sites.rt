@@ -67,7 +67,8 @@ fn bound_nodes(
     stand: Stand,
     bind: Bind,
 ) -> Result<Items<usize>, AllocError>
-    ensures { IfOk result (λ nodes. nodes ≡ scopes.bound_nodes (types_of setting.now) (stand_of stand) bind) }
+    ensures { IfOk result (λ nodes. nodes ≡ scopes.bound_nodes (types_of setting.now)
+        (stand_of stand) bind) }
 {
     match bind {
         Bind::Nothing => Ok(Items::new(alloc)),
@@ -121,8 +122,13 @@ fn arm(
     found: &mut Found,
 ) -> Result<(), AllocError>
     requires { found.old.walks + scopes.body_items (body_of arm.now.body) ≤ 2 ^ 32 }
-    ensures { OnOk result (IsFound (nodes_of (scopes.body_sites (types_of setting.now) (scopes.bound_nodes (types_of setting.now) (stand_of stand) arm.now.bind) (body_of arm.now.body)))
-        (scopes.body_walks (types_of setting.now) (scopes.bound_nodes (types_of setting.now) (stand_of stand) arm.now.bind) (body_of arm.now.body)) found.old found.new) }
+    ensures { OnOk result (IsFound
+        (nodes_of (scopes.body_sites (types_of setting.now)
+        (scopes.bound_nodes (types_of setting.now) (stand_of stand) arm.now.bind)
+        (body_of arm.now.body)))
+        (scopes.body_walks (types_of setting.now)
+        (scopes.bound_nodes (types_of setting.now) (stand_of stand) arm.now.bind)
+        (body_of arm.now.body)) found.old found.new) }
 {
     let vars = bound_nodes(alloc, setting, stand, arm.bind)?;
     items(
@@ -145,8 +151,11 @@ fn arms(
     found: &mut Found,
 ) -> Result<(), AllocError>
     requires { found.old.walks + scopes.arms_in (arm_list arms.now) ≤ 2 ^ 32 }
-    ensures { OnOk result (IsFound (nodes_of (scopes.arms_sites (types_of setting.now) (scopes.stands node (shape_at setting.now node)) (arm_list arms.now)))
-        (scopes.arms_walks (types_of setting.now) (scopes.stands node (shape_at setting.now node)) (arm_list arms.now)) found.old found.new) }
+    ensures { OnOk result (IsFound
+        (nodes_of (scopes.arms_sites (types_of setting.now)
+        (scopes.stands node (shape_at setting.now node)) (arm_list arms.now)))
+        (scopes.arms_walks (types_of setting.now) (scopes.stands node (shape_at setting.now node))
+        (arm_list arms.now)) found.old found.new) }
 {
     for (place, one) in arms.iter().enumerate() {
         let Some(stand) = stand_at(setting, node, place) else {
@@ -167,8 +176,14 @@ fn walk(
     found: &mut Found,
 ) -> Result<(), AllocError>
     requires { found.old.walks + (1 + scopes.body_items (body_of body.now)) ≤ 2 ^ 32 }
-    ensures { OnOk result (IsFound (nodes_of (scopes.body_sites (types_of setting.now) (scopes.component (shape_at setting.now node) ∷ []) (body_of body.now)) ++ scopes.component (shape_at setting.now node) ∷ node ∷ [])
-        (scopes.walk_of (shape_at setting.now node) + scopes.body_walks (types_of setting.now) (scopes.component (shape_at setting.now node) ∷ []) (body_of body.now)) found.old found.new) }
+    ensures { OnOk result (IsFound
+        (nodes_of (scopes.body_sites (types_of setting.now)
+        (scopes.component (shape_at setting.now node) ∷ []) (body_of body.now))
+        ++ scopes.component (shape_at setting.now node) ∷ node ∷ [])
+        (scopes.walk_of (shape_at setting.now node)
+        + scopes.body_walks (types_of setting.now)
+        (scopes.component (shape_at setting.now node) ∷ [])
+        (body_of body.now)) found.old found.new) }
 {
     let (component, walks) = walked(setting, node);
     let vars = one_node(alloc, component)?;
@@ -195,7 +210,10 @@ fn item(
     found: &mut Found,
 ) -> Result<(), AllocError>
     requires { found.old.walks + scopes.item_in (item_of item.now) ≤ 2 ^ 32 }
-    ensures { OnOk result (IsFound (nodes_of (scopes.item_sites (types_of setting.now) vars.now (item_of item.now))) (scopes.item_walks (types_of setting.now) vars.now (item_of item.now)) found.old found.new) }
+    ensures { OnOk result (IsFound
+        (nodes_of (scopes.item_sites (types_of setting.now) vars.now (item_of item.now)))
+        (scopes.item_walks (types_of setting.now) vars.now
+        (item_of item.now)) found.old found.new) }
 {
     match item {
         Item::Call { var, .. } => {
@@ -229,7 +247,10 @@ pub(crate) fn items(
     found: &mut Found,
 ) -> Result<(), AllocError>
     requires { found.old.walks + scopes.items_in (item_list items.now) ≤ 2 ^ 32 }
-    ensures { OnOk result (IsFound (nodes_of (scopes.items_sites (types_of setting.now) vars.now (item_list items.now))) (scopes.items_walks (types_of setting.now) vars.now (item_list items.now)) found.old found.new) }
+    ensures { OnOk result (IsFound
+        (nodes_of (scopes.items_sites (types_of setting.now) vars.now (item_list items.now)))
+        (scopes.items_walks (types_of setting.now) vars.now
+        (item_list items.now)) found.old found.new) }
 {
     for one in items {
         item(alloc, setting, vars, one, found)?;

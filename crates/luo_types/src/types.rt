@@ -30,9 +30,12 @@ fn check_all(
     types: &[TypeDef],
 ) -> Result<(), Stop>
     requires { sum_by (λ d. length d.names) types.now ≤ DEFINITION_LIMIT }
-    ensures definitions { OnOk result (types_breaches universe names.now defs.now 0 types.now ≡ []) }
+    ensures definitions { OnOk result (types_breaches universe names.now defs.now 0 types.now
+        ≡ []) }
     ensures measures { OnOk result (measures_breaches names.now 0 measures.now ≡ []) }
-    ensures stops { IfErr result (λ s. StopsAt (types_breaches universe names.now defs.now 0 types.now ++ measures_breaches names.now 0 measures.now) s) }
+    ensures stops { IfErr result
+        (λ s. StopsAt (types_breaches universe names.now defs.now 0 types.now
+        ++ measures_breaches names.now 0 measures.now) s) }
 {
     let checker = Checker {
         alloc,

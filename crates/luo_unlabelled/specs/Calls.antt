@@ -1,4 +1,5 @@
--- What contracts see in tables of collections and of charges over them, and what their calls are given.
+-- What contracts see in tables of collections and of charges over them, and what their calls are
+-- given.
 use Rattle.std.specs.Prelude.{◌≡◌, ℕ, suc, ◌-◌, ◌≤◌, ◌<◌, Bool, false, List, [], ◌∷◌, ◌++◌, length, slice_index, take, Option, Some, None, nat_le, if◌then◌else◌}
 use Rattle.luo_num.specs.declared.limits.TheConstants.{BOUND_LIMIT, SIZE_LIMIT}
 use Rattle.luo_num.specs.declared.TheConstants.{MAX}
@@ -10,8 +11,9 @@ use Rattle.luo_model.specs.Member.{IsWithin}
 use Rattle.luo_model.specs.Numbered.{IsCollectionCount, IsCollectionTotal}
 use Rattle.luo_counting.specs.Numbers.{coll_count, coll_total, plane}
 
--- what a table was made for, and what its calls were given: a number for each size, that of components, or of charges over them. The last one
--- is 0 where one component is not within the bounds. `over`: the last call answered Over
+-- what a table was made for, and what its calls were given: a number for each size, that of
+-- components, or of charges over them. The last one is 0 where one component is not within the
+-- bounds. `over`: the last call answered Over
 pub record Calls : Type 0 where
   pub kind : Kind
   pub low : ℕ
@@ -39,7 +41,8 @@ start_of k l h n = record { kind = k; low = l; high = h; n_max = n; given = []; 
 abbrev pub numbers : List ℕ → ℕ → ℕ → ℕ
 numbers below here = slice_index (below ++ here ∷ [])
 
--- the numbers of a call for the next size go on from those of the calls before, of which none answered Over
+-- the numbers of a call for the next size go on from those of the calls before, of which none
+-- answered Over
 pub record GoesOn (t : Calls) (below : List ℕ) (here : ℕ) : Type 0 where
   pub going : t.over ≡ false
   pub reached : length t.given ≤ t.n_max
@@ -50,7 +53,8 @@ pub record GoesOn (t : Calls) (below : List ℕ) (here : ℕ) : Type 0 where
   pub here_empty : length below ≡ 0 → here ≡ 0
   pub here_alone : (IsWithin t.low t.high 1 → ⊥) → here ≡ 0
   pub agree : (m : ℕ) → suc m < length below → slice_index below m ≡ slice_index t.given m
-  pub last_agrees : (m : ℕ) → suc m ≡ length below → IsWithin t.low t.high 1 → slice_index below m ≡ slice_index t.given m
+  pub last_agrees : (m : ℕ) → suc m ≡ length below → IsWithin t.low t.high 1
+      → slice_index below m ≡ slice_index t.given m
 
 -- the number of collections of the next size
 abbrev pub number_of : Calls → List ℕ → ℕ → ℕ
@@ -58,9 +62,12 @@ number_of t comp here = coll_count Unlabelled t.kind (numbers comp here) t.low t
 
 -- it is the length of a list of all numbered collections over these numbers
 abbrev pub IsCounted : Calls → List ℕ → ℕ → Type 0
-IsCounted t comp here = IsCollectionCount Unlabelled t.kind t.low t.high (numbers comp here) (length comp) (number_of t comp here)
+IsCounted t comp here =
+    IsCollectionCount Unlabelled t.kind t.low t.high (numbers comp here) (length comp)
+    (number_of t comp here)
 
--- what a walk over the collections of a table was given: sums of charges, and the numbers of components of the sizes below its last one
+-- what a walk over the collections of a table was given: sums of charges, and the numbers of
+-- components of the sizes below its last one
 pub record Walk : Type 0 where
   pub calls : Calls
   pub comp : List ℕ
@@ -69,8 +76,9 @@ pub record Walk : Type 0 where
 abbrev pub walk_of : Calls → Walk
 walk_of t = record { calls = start_of t.kind t.low t.high t.n_max; comp = [] }
 
--- the table is for the same collections as the walk, and has counted those of the walk's next size, and none larger. The numbers of components
--- are those that it was given, and the sums of charges go on from those of the calls before
+-- the table is for the same collections as the walk, and has counted those of the walk's next size,
+-- and none larger. The numbers of components are those that it was given, and the sums of charges
+-- go on from those of the calls before
 pub record GoesWith (t : Calls) (w : Walk) (comp body : List ℕ) (here : ℕ) : Type 0 where
   pub kind : t.kind ≡ w.calls.kind
   pub low : t.low ≡ w.calls.low
@@ -86,12 +94,17 @@ pub record GoesWith (t : Calls) (w : Walk) (comp body : List ℕ) (here : ℕ) :
 
 -- the charges over all collections of the next size
 abbrev pub total_of : Calls → List ℕ → ℕ → ℕ
-total_of t body here = coll_total Unlabelled t.kind (slice_index t.given) (numbers body here) t.low t.high (length body)
+total_of t body here =
+    coll_total Unlabelled t.kind (slice_index t.given) (numbers body here) t.low t.high
+    (length body)
 
--- they are the sum of what the numbered collections charge, for every choice of charges with these sums by size
+-- they are the sum of what the numbered collections charge, for every choice of charges with these
+-- sums by size
 abbrev pub IsTotalled : Calls → List ℕ → ℕ → Type 0
-IsTotalled t body here = (q : ℕ → ℕ → ℕ) → ((m : ℕ) → sum_below (q m) (slice_index t.given m) ≡ numbers body here m)
-    → IsCollectionTotal Unlabelled t.kind t.low t.high (slice_index t.given) q (length body) (total_of t body here)
+IsTotalled t body here =
+    (q : ℕ → ℕ → ℕ) → ((m : ℕ) → sum_below (q m) (slice_index t.given m) ≡ numbers body here m)
+    → IsCollectionTotal Unlabelled t.kind t.low t.high (slice_index t.given) q (length body)
+    (total_of t body here)
 
 -- the kinds of unlabelled collections whose components stand in order
 abbrev pub IsOfParts : Kind → Type 0
@@ -103,10 +116,13 @@ IsOfParts _ = ⊥
 abbrev pub up_to : ℕ → (ℕ → ℕ) → ℕ → ℕ
 up_to d a n = if nat_le n d then a n else 0
 
--- the collections of k components, of size m, with components smaller by two at least than the last call's size
+-- the collections of k components, of size m, with components smaller by two at least than the last
+-- call's size
 abbrev pub ahead_of : Calls → ℕ → ℕ → ℕ
 ahead_of t k m = plane t.kind (slice_index t.given) (length t.given - 3) k m
 
 -- so many numbered collections there are over the numbers of these sizes
 abbrev pub IsAheadCounted : Calls → ℕ → ℕ → Type 0
-IsAheadCounted t k m = IsCollectionCount Unlabelled t.kind k (Some k) (up_to (length t.given - 3) (slice_index t.given)) m (ahead_of t k m)
+IsAheadCounted t k m =
+    IsCollectionCount Unlabelled t.kind k (Some k)
+    (up_to (length t.given - 3) (slice_index t.given)) m (ahead_of t k m)

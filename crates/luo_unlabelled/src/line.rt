@@ -33,7 +33,14 @@ impl Model for Line {
 
     ghost Value = { Calls };
 
-    ghost view = { λ l. record { kind = Sequence; low = l.low; high = l.high; n_max = l.n_max; given = take l.calls l.comp.items; over = l.over } };
+    ghost view = { λ l. record {
+      kind = Sequence;
+      low = l.low;
+      high = l.high;
+      n_max = l.n_max;
+      given = take l.calls l.comp.items;
+      over = l.over;
+    } };
 
     ghost invariant = { λ l. IsLine l.low l.high l.n_max l.calls l.comp.items l.cells.items };
 }

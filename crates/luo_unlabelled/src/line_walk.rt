@@ -35,11 +35,20 @@ impl Model for LineWalk {
     ghost Value = { Walk };
 
     ghost view = { λ w. record {
-      calls = record { kind = Sequence; low = w.low; high = w.high; n_max = w.n_max; given = take w.calls w.body.items; over = w.over };
+      calls =
+          record {
+            kind = Sequence;
+            low = w.low;
+            high = w.high;
+            n_max = w.n_max;
+            given = take w.calls w.body.items;
+            over = w.over;
+          };
       comp = take (w.calls - 1) w.comp.items;
     } };
 
-    ghost invariant = { λ w. IsLineWalk w.low w.high w.n_max w.calls w.comp.items w.body.items w.cells.items };
+    ghost invariant = { λ w. IsLineWalk w.low w.high w.n_max w.calls w.comp.items w.body.items
+        w.cells.items };
 }
 
 impl LineWalk {

@@ -35,9 +35,17 @@ impl Model for Parts {
 
     ghost Value = { Calls };
 
-    ghost view = { λ p. record { kind = p.frame.kind; low = p.frame.low; high = p.frame.high; n_max = p.frame.n_max; given = take p.calls p.comp.items; over = p.over } };
+    ghost view = { λ p. record {
+      kind = p.frame.kind;
+      low = p.frame.low;
+      high = p.frame.high;
+      n_max = p.frame.n_max;
+      given = take p.calls p.comp.items;
+      over = p.over;
+    } };
 
-    ghost invariant = { λ p. IsParts p.frame.kind p.frame.low p.frame.high p.frame.n_max p.calls p.comp.items p.ways.items p.cells.items };
+    ghost invariant = { λ p. IsParts p.frame.kind p.frame.low p.frame.high p.frame.n_max p.calls
+        p.comp.items p.ways.items p.cells.items };
 }
 
 impl Parts {

@@ -36,11 +36,20 @@ impl Model for PartsWalk {
     ghost Value = { Walk };
 
     ghost view = { λ w. record {
-      calls = record { kind = w.frame.kind; low = w.frame.low; high = w.frame.high; n_max = w.frame.n_max; given = take w.calls w.body.items; over = w.over };
+      calls =
+          record {
+            kind = w.frame.kind;
+            low = w.frame.low;
+            high = w.frame.high;
+            n_max = w.frame.n_max;
+            given = take w.calls w.body.items;
+            over = w.over;
+          };
       comp = take (w.calls - 1) w.comp.items;
     } };
 
-    ghost invariant = { λ w. IsPartsWalk w.frame.kind w.frame.low w.frame.high w.frame.n_max w.calls w.comp.items w.body.items w.charges.items w.cells.items };
+    ghost invariant = { λ w. IsPartsWalk w.frame.kind w.frame.low w.frame.high w.frame.n_max w.calls
+        w.comp.items w.body.items w.charges.items w.cells.items };
 }
 
 impl PartsWalk {

@@ -40,9 +40,17 @@ impl Model for Unbounded {
 
     ghost Value = { Calls };
 
-    ghost view = { λ p. record { kind = p.kind; low = p.low; high = None; n_max = p.n_max; given = take p.calls p.comp.items; over = p.over } };
+    ghost view = { λ p. record {
+      kind = p.kind;
+      low = p.low;
+      high = None;
+      n_max = p.n_max;
+      given = take p.calls p.comp.items;
+      over = p.over;
+    } };
 
-    ghost invariant = { λ p. IsUnbounded p.kind p.low p.n_max p.calls p.comp.items p.ways.items p.cells.items };
+    ghost invariant = { λ p. IsUnbounded p.kind p.low p.n_max p.calls p.comp.items p.ways.items
+        p.cells.items };
 }
 
 impl Unbounded {

@@ -39,11 +39,20 @@ impl Model for UnboundedWalk {
     ghost Value = { Walk };
 
     ghost view = { λ w. record {
-      calls = record { kind = w.kind; low = w.low; high = None; n_max = w.n_max; given = take w.calls w.body.items; over = w.over };
+      calls =
+          record {
+            kind = w.kind;
+            low = w.low;
+            high = None;
+            n_max = w.n_max;
+            given = take w.calls w.body.items;
+            over = w.over;
+          };
       comp = take (w.calls - 1) w.comp.items;
     } };
 
-    ghost invariant = { λ w. IsUnboundedWalk w.kind w.low w.n_max w.calls w.comp.items w.body.items w.charges.items w.cells.items };
+    ghost invariant = { λ w. IsUnboundedWalk w.kind w.low w.n_max w.calls w.comp.items w.body.items
+        w.charges.items w.cells.items };
 }
 
 impl UnboundedWalk {

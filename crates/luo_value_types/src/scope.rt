@@ -53,7 +53,8 @@ fn about_both(alloc: Global, arg: &Name, callee: &Name) -> Result<Breach, AllocE
 // The stop at an argument of another type than the callee's parameter.
 fn other_type(alloc: Global, arg: &Name, callee: &Name) -> Stop
     ensures { StopsAt
-        (record { rule = Y9; token = arg.now.at; names = arg.now.text ∷ callee.now.text ∷ [] } ∷ []) result }
+        (record { rule = Y9; token = arg.now.at; names = arg.now.text ∷ callee.now.text ∷ [] }
+        ∷ []) result }
 {
     match about_both(alloc, arg, callee) {
         Ok(made) => Stop::Breach(made),

@@ -18,11 +18,13 @@ IsSum n (Err NoMemory) = Unit {0}
 -- the sum of piece i of what procedure f charges at size n, in any case a number
 pub record IsPieceSum (p : Program) (f n workers i : ℕ) (found : Result ℕ AuditError) : Type 0 where
   pub small : IfOk found (λ s. s ≤ MAX)
-  pub sum : (charges : List ℕ) → AreCharges p f n charges → IsSum (piece_sum charges workers i) found
+  pub sum : (charges : List ℕ) → AreCharges p f n charges
+      → IsSum (piece_sum charges workers i) found
 
 -- the sums of the pieces of these charges, and the sum of all; or that is past the last number
 abbrev pub Gathers : List ℕ → ℕ → Result Audited AuditError → Type 0
-Gathers charges workers (Ok a) = (a.sums ≡ piece_sums charges workers) × (a.row.total ≡ sum charges) × (sum charges ≤ MAX)
+Gathers charges workers (Ok a) =
+    (a.sums ≡ piece_sums charges workers) × (a.row.total ≡ sum charges) × (sum charges ≤ MAX)
 Gathers charges workers (Err (TooMany c)) = ⊥
 Gathers charges workers (Err Over) = MAX < sum charges
 Gathers charges workers (Err NoMemory) = Unit {0}

@@ -6,7 +6,9 @@ use Rattle.luo_binom.specs.declared.pascal.TheConstants.{LAST, WIDE}
 
 -- cell k of row n has the number of choices of k of n things, marked
 abbrev pub AreCells : List ℕ → Type 0
-AreCells cells = (n k : ℕ) → k < WIDE → WIDE * n + k < length cells → slice_index cells (WIDE * n + k) ≡ capped (choose n k)
+AreCells cells =
+    (n k : ℕ) → k < WIDE → WIDE * n + k < length cells
+    → slice_index cells (WIDE * n + k) ≡ capped (choose n k)
 
 -- the rows 0 to n
 pub record IsTable (n : ℕ) (cells : List ℕ) : Type 0 where

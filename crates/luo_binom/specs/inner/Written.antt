@@ -5,4 +5,5 @@ use Rattle.luo_finite.specs.Places.{IsPlace, IsChoice, Lexical}
 -- behind the first so many of `old` stands the choice at place `rank`
 abbrev pub IsWritten : List ℕ → ℕ → ℕ → List ℕ → List ℕ → Type 0
 IsWritten labels rank at old new =
-    (C : List ℕ) × IsPlace (IsChoice labels (length old - at)) Lexical rank C × (new ≡ take at old ++ C)
+    (C : List ℕ) × IsPlace (IsChoice labels (length old - at)) Lexical rank C
+    × (new ≡ take at old ++ C)

@@ -22,17 +22,20 @@ abbrev mutual
 
   pub recipes_of_item : Program → Item → List Recipe
   recipes_of_item p (Call var callee site) = recipe_of p (site_node p site) (calls callee) ∷ []
-  recipes_of_item p (Case var arms site) = recipes_of_arms p arms ++ recipe_of p (site_node p site) (chooses arms) ∷ []
+  recipes_of_item p (Case var arms site) =
+      recipes_of_arms p arms ++ recipe_of p (site_node p site) (chooses arms) ∷ []
   recipes_of_item p (Forall var body body_site site) =
       recipes_of_body p body
-      ++ recipe_of p (site_node p body_site) (does body) ∷ (recipe_of p (site_node p site) (walks body body_site) ∷ [])
+      ++ recipe_of p (site_node p body_site) (does body)
+      ∷ (recipe_of p (site_node p site) (walks body body_site) ∷ [])
 
   pub recipes_of_arms : Program → Arms → List Recipe
   recipes_of_arms p no_arms = []
   recipes_of_arms p (arm bind body arms) = recipes_of_body p body ++ recipes_of_arms p arms
 
 abbrev pub recipes_of_procedure : Program → Procedure → List Recipe
-recipes_of_procedure p P = recipes_of_body p P.body ++ recipe_of p (site_node p P.site) (does P.body) ∷ []
+recipes_of_procedure p P =
+    recipes_of_body p P.body ++ recipe_of p (site_node p P.site) (does P.body) ∷ []
 
 abbrev pub recipes_of : Program → List Recipe
 recipes_of p = flat_map (recipes_of_procedure p) p.procs
@@ -53,7 +56,8 @@ rows_of_scopes starts (S ∷ Ss) = rows_of_scope starts S ++ rows_of_scopes star
 
 -- a scope whose rows stand behind those that there are
 abbrev pub placed_scope : ℕ → plain.Scope → Scope
-placed_scope width S = record { own = S.own; node = S.node; sites = S.sites; start = width; arity = length S.parts }
+placed_scope width S =
+    record { own = S.own; node = S.node; sites = S.sites; start = width; arity = length S.parts }
 
 abbrev pub placed_scopes : List ℕ → List (Option Link) → List plain.Scope → List Scope
 placed_scopes starts links [] = []
@@ -63,8 +67,12 @@ placed_scopes starts links (S ∷ Ss) =
 -- one more recipe
 abbrev pub lay : List ℕ → Laid → Recipe → Laid
 lay starts l (of_scopes Ss) =
-    record { tasks = l.tasks ++ Scopes (placed_scopes starts l.links Ss) ∷ []; links = l.links ++ rows_of_scopes starts Ss }
-lay starts l (of_each x body_site) = record { tasks = l.tasks ++ Walk x body_site ∷ []; links = l.links }
+    record {
+      tasks = l.tasks ++ Scopes (placed_scopes starts l.links Ss) ∷ [];
+      links = l.links ++ rows_of_scopes starts Ss;
+    }
+lay starts l (of_each x body_site) =
+    record { tasks = l.tasks ++ Walk x body_site ∷ []; links = l.links }
 
 abbrev pub lay_all : List ℕ → Laid → List Recipe → Laid
 lay_all starts l [] = l
@@ -80,7 +88,8 @@ union_parts (shape.Union parts) = parts
 union_parts _ = []
 
 -- the scope has been put behind the others
-pub record IsPushed (starts : List ℕ) (old new : List (Option Link)) (Z : Scope) (S : plain.Scope) : Type 0 where
+pub record IsPushed (starts : List ℕ) (old new : List (Option Link)) (Z : Scope)
+    (S : plain.Scope) : Type 0 where
   pub is : Z ≡ placed_scope (length old) S
   pub rows : new ≡ old ++ rows_of_scope starts S
 
@@ -90,6 +99,7 @@ IsProductShape _ = ⊥
 
 -- and so have scopes
 pub record ArePushed
-    (starts : List ℕ) (old new : List (Option Link)) (Zs : List Scope) (Ss : List plain.Scope) : Type 0 where
+    (starts : List ℕ) (old new : List (Option Link)) (Zs : List Scope)
+    (Ss : List plain.Scope) : Type 0 where
   pub are : Zs ≡ placed_scopes starts old Ss
   pub rows : new ≡ old ++ rows_of_scopes starts Ss

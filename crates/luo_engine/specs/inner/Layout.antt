@@ -16,10 +16,14 @@ rows_of_parts parts = map (λ part. Some part.node) parts ++ None ∷ []
 -- one more node: the rows of a product stand behind all others
 abbrev pub laid_behind : Layout → Shape → Layout
 laid_behind l (Product parts) =
-    record { starts = l.starts ++ length l.factors ∷ []; factors = l.factors ++ rows_of_parts parts }
+    record {
+      starts = l.starts ++ length l.factors ∷ [];
+      factors = l.factors ++ rows_of_parts parts;
+    }
 laid_behind l (Atom weight) = record { starts = l.starts ++ 0 ∷ []; factors = l.factors }
 laid_behind l (Union parts) = record { starts = l.starts ++ 0 ∷ []; factors = l.factors }
-laid_behind l (Coll kind part low high) = record { starts = l.starts ++ 0 ∷ []; factors = l.factors }
+laid_behind l (Coll kind part low high) =
+    record { starts = l.starts ++ 0 ∷ []; factors = l.factors }
 
 -- the nodes below x are laid out
 pub record AreLaidBelow (p : Program) (l : Layout) (x : ℕ) : Type 0 where
@@ -28,7 +32,8 @@ pub record AreLaidBelow (p : Program) (l : Layout) (x : ℕ) : Type 0 where
   pub few : length l.factors ≤ (PART_LIMIT + 1) * x
   pub products : (y : ℕ) (parts : List Part) → y < x → shape_of p y ≡ Product parts
       → (rest : List (Option ℕ))
-      × (drop (slice_index l.starts y) l.factors ≡ map (λ part. Some part.node) parts ++ (None ∷ rest))
+      × (drop (slice_index l.starts y) l.factors
+      ≡ map (λ part. Some part.node) parts ++ (None ∷ rest))
 
 -- the ranks of the nodes below x
 pub record AreRanksBelow (p : Program) (ranks : List ℕ) (x : ℕ) : Type 0 where

@@ -9,8 +9,10 @@ use Rattle.luo_recipes.specs.Shares.{inner, tail_of}
 use Rattle.luo_recipes.specs.Grid.{Reaches, entry_of}
 use Rattle.luo_recipes.specs.Partial.{AreClosedFrom}
 
--- the ways to share a size among the factors from a row on, with the charges of the sites on one of them
-abbrev pub point_of : Universe → (ℕ → ℕ → ℕ) → (ℕ → ℕ → ℕ) → List (Option ℕ) → List (Option Link) → ℕ → ℕ
+-- the ways to share a size among the factors from a row on, with the charges of the sites on one of
+-- them
+abbrev pub point_of : Universe → (ℕ → ℕ → ℕ) → (ℕ → ℕ → ℕ) → List (Option ℕ) → List (Option Link)
+    → ℕ → ℕ
 point_of u counts totals factors [] n = 0
 point_of u counts totals factors (None ∷ rest) n = 0
 point_of u counts totals factors (Some l ∷ rest) n =
@@ -18,7 +20,8 @@ point_of u counts totals factors (Some l ∷ rest) n =
     + shares u (counts l.node) (point_of u counts totals factors rest) n
 
 -- the part of it that reads smaller sizes alone
-abbrev pub open_point : Universe → (ℕ → ℕ → ℕ) → (ℕ → ℕ → ℕ) → List (Option ℕ) → List (Option Link) → ℕ → ℕ
+abbrev pub open_point : Universe → (ℕ → ℕ → ℕ) → (ℕ → ℕ → ℕ) → List (Option ℕ) → List (Option Link)
+    → ℕ → ℕ
 open_point u counts totals factors [] n = 0
 open_point u counts totals factors (None ∷ rest) n = 0
 open_point u counts totals factors (Some l ∷ rest) n =
@@ -35,34 +38,44 @@ pub record IsLink
   pub sites : (s : ℕ) → In s l.sites → s < length totals
 
 abbrev pub IsClosedPoint :
-    Universe → List (List ℕ) → List (List ℕ) → List (Option ℕ) → List (Option Link) → List (List ℕ) → ℕ → ℕ → Type 0
+    Universe → List (List ℕ) → List (List ℕ) → List (Option ℕ) → List (Option Link) → List (List ℕ)
+    → ℕ → ℕ → Type 0
 IsClosedPoint u counts totals factors links points r n =
-    entry_of points r n ≡ capped (point_of u (entry_of counts) (entry_of totals) factors (drop r links) n)
+    entry_of points r n
+    ≡ capped (point_of u (entry_of counts) (entry_of totals) factors (drop r links) n)
 
 abbrev pub IsOpenPoint :
-    Universe → List (List ℕ) → List (List ℕ) → List (Option ℕ) → List (Option Link) → List (List ℕ) → ℕ → ℕ → Type 0
+    Universe → List (List ℕ) → List (List ℕ) → List (Option ℕ) → List (Option Link) → List (List ℕ)
+    → ℕ → ℕ → Type 0
 IsOpenPoint u counts totals factors links points r n =
-    entry_of points r n ≡ capped (open_point u (entry_of counts) (entry_of totals) factors (drop r links) n)
+    entry_of points r n
+    ≡ capped (open_point u (entry_of counts) (entry_of totals) factors (drop r links) n)
 
 -- the partial products are closed up to size n, and the charged ones below it
 pub record ArePointsBelow
-    (u : Universe) (counts totals : List (List ℕ)) (factors : List (Option ℕ)) (partials : List (List ℕ))
+    (u : Universe) (counts totals : List (List ℕ)) (factors : List (Option ℕ))
+    (partials : List (List ℕ))
     (links : List (Option Link)) (points : List (List ℕ)) (n : ℕ) : Type 0 where
   pub products : AreClosedFrom u counts factors partials n 0
-  pub links_there : (r : ℕ) (l : Link) → slice_get links r ≡ Some (Some l) → IsLink counts totals factors links r l
+  pub links_there : (r : ℕ) (l : Link) → slice_get links r ≡ Some (Some l)
+      → IsLink counts totals factors links r l
   pub wide : length points ≡ length links
   pub totals_reach : Reaches n totals
   pub points_reach : Reaches n points
-  pub closed : (r m : ℕ) → r < length links → m < n → IsClosedPoint u counts totals factors links points r m
+  pub closed : (r m : ℕ) → r < length links → m < n
+      → IsClosedPoint u counts totals factors links points r m
 
 pub record ArePointsOpen
-    (u : Universe) (counts totals : List (List ℕ)) (factors : List (Option ℕ)) (partials : List (List ℕ))
+    (u : Universe) (counts totals : List (List ℕ)) (factors : List (Option ℕ))
+    (partials : List (List ℕ))
     (links : List (Option Link)) (points : List (List ℕ)) (n r : ℕ) : Type 0 where
   pub below : ArePointsBelow u counts totals factors partials links points n
   pub open_rows : (q : ℕ) → q < r → IsOpenPoint u counts totals factors links points q n
 
 pub record ArePointsClosed
-    (u : Universe) (counts totals : List (List ℕ)) (factors : List (Option ℕ)) (partials : List (List ℕ))
+    (u : Universe) (counts totals : List (List ℕ)) (factors : List (Option ℕ))
+    (partials : List (List ℕ))
     (links : List (Option Link)) (points : List (List ℕ)) (n r : ℕ) : Type 0 where
   pub before : ArePointsOpen u counts totals factors partials links points n r
-  pub closed_rows : (q : ℕ) → r ≤ q → q < length links → IsClosedPoint u counts totals factors links points q n
+  pub closed_rows : (q : ℕ) → r ≤ q → q < length links
+      → IsClosedPoint u counts totals factors links points q n

@@ -14,10 +14,11 @@ use Rattle.luo_engine.specs.inner.Laid.{AreSites}
 use Rattle.luo_engine.specs.inner.Totals.{AreWalked}
 use Rattle.luo_recipes.specs.Running.{IsCounting}
 
--- as long as the engine hasn't stopped, what is ahead is 0, each walk is asked for the next size, and the charged
--- products are closed
+-- as long as the engine hasn't stopped, what is ahead is 0, each walk is asked for the next size,
+-- and the charged products are closed
 pub record IsTotalGoing
-    (plan : Planned) (sites : Sites) (counts totals : List (List ℕ)) (walks : List (Option AskedWalk))
+    (plan : Planned) (sites : Sites) (counts totals : List (List ℕ))
+    (walks : List (Option AskedWalk))
     (points : List (List ℕ)) (filled : ℕ) : Type 0 where
   pub ahead : (i m : ℕ) → filled ≤ m → entry_of totals i m ≡ 0
   pub asked : AreWalked (plain_of plan.program) plan.reach sites walks filled 0
@@ -27,7 +28,8 @@ pub record IsTotalGoing
 
 -- all totals of the filled sizes are right
 pub record IsTotalling
-    (plan : Planned) (sites : Sites) (counts totals : List (List ℕ)) (walks : List (Option AskedWalk))
+    (plan : Planned) (sites : Sites) (counts totals : List (List ℕ))
+    (walks : List (Option AskedWalk))
     (points : List (List ℕ)) (last filled : ℕ) (stopped : Bool) : Type 0 where
   pub sites_are : AreSites (plain_of plan.program) plan.factors sites
   pub wide : length totals ≡ length plan.program.sites
@@ -37,10 +39,12 @@ pub record IsTotalling
       → IsRightOf (IsTotal (plain_of plan.program)) totals i m
   pub going : stopped ≡ false → IsTotalGoing plan sites counts totals walks points filled
 
--- the tables of a run: all entries of the filled sizes are right, with totals where all is filled in
+-- the tables of a run: all entries of the filled sizes are right, with totals where all is filled
+-- in
 pub record IsRun
     (plan : Planned) (sites : Sites) (counts : List (List ℕ)) (collections : List (Option Asked))
-    (partials totals : List (List ℕ)) (walks : List (Option AskedWalk)) (points : List (List ℕ)) (last : ℕ)
+    (partials totals : List (List ℕ)) (walks : List (Option AskedWalk)) (points : List (List ℕ))
+    (last : ℕ)
     (fill : Fill) (filled : ℕ) (stopped : Bool) : Type 0 where
   pub counting : IsCounting plan counts collections partials last filled stopped
   pub totalled : fill ≡ All → IsTotalling plan sites counts totals walks points last filled stopped

@@ -14,8 +14,10 @@ pub record ArePlanned (plan : Planned) (s : Sites) : Type 0 where
   pub plan_is : IsPlan plan
   pub sites_are : AreSites (plain_of plan.program) plan.factors s
 
--- the walks before place k of the order have answered size n, and those from it on the sizes below n
-pub record AreWalked (p : Program) (n_max : ℕ) (s : Sites) (walks : List (Option AskedWalk)) (n k : ℕ) : Type 0 where
+-- the walks before place k of the order have answered size n, and those from it on the sizes below
+-- n
+pub record AreWalked (p : Program) (n_max : ℕ) (s : Sites) (walks : List (Option AskedWalk))
+    (n k : ℕ) : Type 0 where
   pub asked : (j i collection body : ℕ) → j < k → slice_get s.order j ≡ Some i
       → slice_get s.tasks i ≡ Some (Walk collection body) → IsWalkAsked p n_max walks i body (n + 1)
   pub to_ask : (j i collection body : ℕ) → k ≤ j → slice_get s.order j ≡ Some i

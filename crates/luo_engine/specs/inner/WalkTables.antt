@@ -8,7 +8,8 @@ use Rattle.luo_recipes.specs.Collections.{table_at}
 
 -- of the sites below i each with a walk has a table for it
 pub record AreMadeBelow
-    (p : Program) (tasks : List Task) (tables : List (Option Asked)) (walks : List (Option AskedWalk))
+    (p : Program) (tasks : List Task) (tables : List (Option Asked))
+    (walks : List (Option AskedWalk))
     (i : ℕ) : Type 0 where
   pub wide : length walks ≡ i
   pub made : (j collection body : ℕ) → j < i → slice_get tasks j ≡ Some (Walk collection body)

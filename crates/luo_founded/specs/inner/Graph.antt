@@ -41,8 +41,12 @@ module _ (R : ℕ → ℕ → Type 0) (home : ℕ) where
   abbrev pub IsFirstWay : ℕ → ℕ → List ℕ → Type 0
   IsFirstWay zero at way = (at ≡ home) × (way ≡ at ∷ [])
   IsFirstWay (suc k) at [] = ⊥
-  IsFirstWay (suc k) at (x ∷ rest) = (x ≡ at) × ((z : ℕ) × R at z × ((other : ℕ) → R at other → Walk R k other home → z ≤ other) × IsFirstWay k z rest)
+  IsFirstWay (suc k) at (x ∷ rest) =
+      (x ≡ at) × ((z : ℕ) × R at z × ((other : ℕ) → R at other → Walk R k other home → z ≤ other)
+      × IsFirstWay k z rest)
 
 -- the chain is a circle through home of the fewest steps, and the first of these
 abbrev pub IsShortCircle : (ℕ → ℕ → Type 0) → ℕ → List ℕ → Type 0
-IsShortCircle R home chain = (k : ℕ) × IsFirstWay R home (suc k) home chain × ((j : ℕ) → j < k → Walk R (suc j) home home → ⊥)
+IsShortCircle R home chain =
+    (k : ℕ) × IsFirstWay R home (suc k) home chain
+    × ((j : ℕ) → j < k → Walk R (suc j) home home → ⊥)

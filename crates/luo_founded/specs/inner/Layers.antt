@@ -5,4 +5,5 @@ use Rattle.luo_founded.specs.inner.Graph.{IsLayer}
 -- the first k layers
 pub record AreLayers (edges : List (List ℕ)) (home k : ℕ) (layers : List (List Bool)) : Type 0 where
   pub many : length layers ≡ k
-  pub layer : (j : ℕ) (table : List Bool) → slice_get layers j ≡ Some table → IsLayer edges home j table
+  pub layer : (j : ℕ) (table : List Bool) → slice_get layers j ≡ Some table
+      → IsLayer edges home j table

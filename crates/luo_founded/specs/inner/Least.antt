@@ -28,7 +28,8 @@ least_by T (shape.Coll kind part low high) = low * T part.node
 abbrev pub IsSettled : Program → (ℕ → ℕ) → Type 0
 IsSettled p T = (x : ℕ) → T x ≤ least_by T (shape_of p x)
 
--- n is the least size of a structure of node x, where it is within the sizes of tables; where it is past them, each is at least n
+-- n is the least size of a structure of node x, where it is within the sizes of tables; where it is
+-- past them, each is at least n
 pub record IsLeastTo (p : Program) (x n : ℕ) : Type 0 where
   pub low : (m : ℕ) (s : Tree) → IsStructure p x m s → n ≤ m
   pub there : n ≤ SIZE_LIMIT → (s : Tree) × IsStructure p x n s
@@ -47,10 +48,14 @@ IsCapped table = (x n : ℕ) → slice_get table x ≡ Some n → n ≤ past_las
 
 -- node x is made of size n by the table, which has more
 abbrev pub IsLess : List Node → List ℕ → ℕ × ℕ → Type 0
-IsLess nodes table r = (node : Node) × (slice_get nodes r.0 ≡ Some node) × (r.1 < size_at table r.0) × (r.1 ≡ min past_last (least_by (size_at table) node.shape))
+IsLess nodes table r =
+    (node : Node) × (slice_get nodes r.0 ≡ Some node) × (r.1 < size_at table r.0)
+    × (r.1 ≡ min past_last (least_by (size_at table) node.shape))
 
 abbrev pub NoneLess : List Node → List ℕ → Type 0
-NoneLess nodes table = (x : ℕ) (node : Node) → slice_get nodes x ≡ Some node → size_at table x ≤ least_by (size_at table) node.shape
+NoneLess nodes table =
+    (x : ℕ) (node : Node) → slice_get nodes x ≡ Some node
+    → size_at table x ≤ least_by (size_at table) node.shape
 
 -- new is next, or one with less: a node with its size, where it is less than the old one
 abbrev pub IsLesser : Option (ℕ × ℕ) → ℕ × ℕ → ℕ → Option (ℕ × ℕ) → Type 0

@@ -29,7 +29,9 @@ pub record IsNext (From : ℕ → Type 0) (nodes : List Node) (table : List Bool
 
 -- there is none
 abbrev pub IsClosed : (ℕ → Type 0) → List Node → List Bool → Type 0
-IsClosed From nodes table = (x : ℕ) (node : Node) → slice_get nodes x ≡ Some node → slice_get table x ≡ Some false → IsBuilt From (Marked table) node.shape → ⊥
+IsClosed From nodes table =
+    (x : ℕ) (node : Node) → slice_get nodes x ≡ Some node → slice_get table x ≡ Some false
+    → IsBuilt From (Marked table) node.shape → ⊥
 
 -- a collection whose component is marked
 abbrev pub MarkedComponent : List Bool → Shape → Type 0
@@ -37,4 +39,5 @@ MarkedComponent table (shape.Coll kind part low high) = Marked table part.node
 MarkedComponent table _ = ⊥
 
 abbrev pub ComponentAt : List Node → List Bool → ℕ → Type 0
-ComponentAt nodes table x = (node : Node) × (slice_get nodes x ≡ Some node) × MarkedComponent table node.shape
+ComponentAt nodes table x =
+    (node : Node) × (slice_get nodes x ≡ Some node) × MarkedComponent table node.shape

@@ -46,4 +46,5 @@ StandValues p vs = (vars : List Part) × (parts : List Part) × FitsValues p var
 
 -- the arms of a case on some part
 abbrev pub StandValueArms : Program → ValueArms → Type 0
-StandValueArms p arms = (on : Part) × (expected : ℕ) × FitsValueArms p (stands on (shape_of p on.node)) expected arms
+StandValueArms p arms =
+    (on : Part) × (expected : ℕ) × FitsValueArms p (stands on (shape_of p on.node)) expected arms

@@ -45,9 +45,11 @@ abbrev pub AllowsOne : Option ℕ → Type 0
 AllowsOne (Some high) = 1 ≤ high
 AllowsOne None = Unit {0}
 
--- the steps to the bounds: up to step `free` a collection may be empty, step `last` has the bounds themselves
+-- the steps to the bounds: up to step `free` a collection may be empty, step `last` has the bounds
+-- themselves
 abbrev pub steps_of : ℕ → Option ℕ → ℕ → Steps
-steps_of low (Some high) n_max = record { free = high - low; last = high; unbounded = false; wide = n_max + 1 }
+steps_of low (Some high) n_max =
+    record { free = high - low; last = high; unbounded = false; wide = n_max + 1 }
 steps_of low None n_max = record { free = 0; last = low; unbounded = true; wide = n_max + 1 }
 
 -- the greatest number of components at step i
@@ -123,8 +125,8 @@ HoldsSource s i n f cells = HasSource s.unbounded i → HoldsRow s.wide f (i - 1
 abbrev pub HoldsBelow : Steps → (ℕ → ℕ → ℕ) → ℕ → List ℕ → Type 0
 HoldsBelow s F n cells = (i : ℕ) → i < s.last → HoldsRow s.wide (F i) i n cells
 
--- after so many calls these rows have the numbers of the sizes below the last one; where step 0 goes on from itself and is the last, its row
--- has the answers
+-- after so many calls these rows have the numbers of the sizes below the last one; where step 0
+-- goes on from itself and is the last, its row has the answers
 pub record HoldRows (s : Steps) (F : ℕ → ℕ → ℕ) (calls : ℕ) (cells : List ℕ) : Type 0 where
   pub below : HoldsBelow s F (calls - 1) cells
   pub answers : s.last ≡ 0 → s.unbounded ≡ true → HoldsRow s.wide (F 0) 0 calls cells

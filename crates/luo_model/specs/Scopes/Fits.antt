@@ -7,8 +7,8 @@ use Rattle.luo_model.specs.Program.{Program, Procedure, Result, Body, Does, Item
 use Rattle.luo_model.specs.Scopes.Stands.{Stand, stands, factors, component, IsCollection, IsProductOf, MayBind, bound_parts}
 
 abbrev mutual
-  -- each variable is bound; a call's is of the callee's node; a case has one arm for each thing that there is to stand for,
-  -- and a walk goes over a collection
+  -- each variable is bound; a call's is of the callee's node; a case has one arm for each thing
+  -- that there is to stand for, and a walk goes over a collection
   pub FitsBody : Program → List Part → Body → Type 0
   FitsBody p vars (Does own items) = (own ≤ STATEMENT_LIMIT * NUMBER_LIMIT) × FitsItems p vars items
 
@@ -22,7 +22,8 @@ abbrev mutual
       × (slice_get p.procs callee ≡ Some P) × (slice_get vars var ≡ Some on) × (on.node ≡ P.on.node)
   FitsItem p vars (Case var arms site) =
       (on : Part) × (slice_get vars var ≡ Some on)
-      × (1 ≤ length (stands on (shape_of p on.node))) × FitsArms p (stands on (shape_of p on.node)) arms
+      × (1 ≤ length (stands on (shape_of p on.node)))
+      × FitsArms p (stands on (shape_of p on.node)) arms
   FitsItem p vars (Forall var body body_site site) =
       (on : Part) × (slice_get vars var ≡ Some on)
       × IsCollection (shape_of p on.node) × FitsBody p (component (shape_of p on.node) ∷ []) body
@@ -41,17 +42,21 @@ value_count (value v vs) = suc (value_count vs)
 abbrev mutual
   -- a value makes a structure of the node that is expected
   pub FitsValue : Program → List Part → ℕ → Value → Type 0
-  FitsValue p vars expected (Given var) = (on : Part) × (slice_get vars var ≡ Some on) × (on.node ≡ expected)
+  FitsValue p vars expected (Given var) =
+      (on : Part) × (slice_get vars var ≡ Some on) × (on.node ≡ expected)
   FitsValue p vars expected (Made var callee) =
       (P : Procedure) × (r : Result) × (on : Part)
       × (slice_get p.procs callee ≡ Some P) × (slice_get vars var ≡ Some on) × (on.node ≡ P.on.node)
       × (P.result ≡ Some r) × (r.on.node ≡ expected)
-  FitsValue p vars expected (Atom weight own) = (shape_of p expected ≡ shape.Atom weight) × (own ≤ NUMBER_LIMIT)
+  FitsValue p vars expected (Atom weight own) =
+      (shape_of p expected ≡ shape.Atom weight) × (own ≤ NUMBER_LIMIT)
   FitsValue p vars expected (Tuple vs) =
-      IsProductOf (value_count vs) (shape_of p expected) × FitsValues p vars (factors (shape_of p expected)) vs
+      IsProductOf (value_count vs) (shape_of p expected)
+      × FitsValues p vars (factors (shape_of p expected)) vs
   FitsValue p vars expected (Branch number v) =
       (parts : List Part) × (i : ℕ) × (part : Part)
-      × (shape_of p expected ≡ shape.Union parts) × (number ≡ suc i) × (slice_get parts i ≡ Some part)
+      × (shape_of p expected ≡ shape.Union parts) × (number ≡ suc i)
+      × (slice_get parts i ≡ Some part)
       × FitsValue p vars part.node v
   FitsValue p vars expected (Chosen var arms) =
       (on : Part) × (slice_get vars var ≡ Some on)
@@ -60,11 +65,13 @@ abbrev mutual
 
   pub FitsValues : Program → List Part → List Part → Values → Type 0
   FitsValues p vars [] no_values = Unit {0}
-  FitsValues p vars (expected ∷ rest) (value v vs) = FitsValue p vars expected.node v × FitsValues p vars rest vs
+  FitsValues p vars (expected ∷ rest) (value v vs) =
+      FitsValue p vars expected.node v × FitsValues p vars rest vs
   FitsValues p vars _ _ = ⊥
 
   pub FitsValueArms : Program → List Stand → ℕ → ValueArms → Type 0
   FitsValueArms p [] expected no_value_arms = Unit {0}
   FitsValueArms p (stand ∷ rest) expected (value_arm bind v arms) =
-      MayBind p stand bind × FitsValue p (bound_parts p stand bind) expected v × FitsValueArms p rest expected arms
+      MayBind p stand bind × FitsValue p (bound_parts p stand bind) expected v
+      × FitsValueArms p rest expected arms
   FitsValueArms p _ expected _ = ⊥

@@ -5,7 +5,8 @@ use Rattle.luo_model.specs.Program.{Program, Body, Does, Items, no_items, item, 
 use Rattle.luo_model.specs.Scopes.Stands.{Stand, stands, component, bound_parts, part_at}
 
 abbrev mutual
-  -- the sites of a body, each with the node of its variable, and a walk's body with that of the components
+  -- the sites of a body, each with the node of its variable, and a walk's body with that of the
+  -- components
   pub body_sites : Program → List Part → Body → List (ℕ × ℕ)
   body_sites p vars (Does own items) = items_sites p vars items
 
@@ -20,7 +21,8 @@ abbrev mutual
       ++ (site, (part_at vars var).node) ∷ []
   item_sites p vars (Forall var body body_site site) =
       body_sites p (component (shape_of p (part_at vars var).node) ∷ []) body
-      ++ (body_site, (component (shape_of p (part_at vars var).node)).node) ∷ (site, (part_at vars var).node) ∷ []
+      ++ (body_site, (component (shape_of p (part_at vars var).node)).node)
+      ∷ (site, (part_at vars var).node) ∷ []
 
   pub arms_sites : Program → List Stand → Arms → List (ℕ × ℕ)
   arms_sites p (stand ∷ rest) (arm bind body arms) =

@@ -1,4 +1,5 @@
--- The variables of scopes, each by the part that stands there: a node, with the name of a definition where one is written.
+-- The variables of scopes, each by the part that stands there: a node, with the name of a
+-- definition where one is written.
 use Rattle.std.specs.Prelude.{◌≡◌, ℕ, List, [], ◌∷◌, map, length, None, slice_index_or}
 use Rattle.luo_model.specs.declared.body.Bind.{Bind}
 use Rattle.luo_model.specs.declared.body.Bind.TheVariants.{Nothing, Whole, Parts}
@@ -15,7 +16,8 @@ abbrev pub stand_part : Stand → Part
 stand_part (inside part) = part
 stand_part (itself part) = part
 
--- what the arms of a case on this part stand for, in order: one for each branch of a union, and one for a product
+-- what the arms of a case on this part stand for, in order: one for each branch of a union, and one
+-- for a product
 abbrev pub stands : Part → Shape → List Stand
 stands on (shape.Atom weight) = []
 stands on (shape.Union parts) = map inside parts
@@ -45,8 +47,8 @@ abbrev pub IsProductOf : ℕ → Shape → Type 0
 IsProductOf k (shape.Product parts) = length parts ≡ k
 IsProductOf k _ = ⊥
 
--- an arm that stands for this may bind so: the structure inside only of a branch, and so many parts only of a product of
--- so many factors
+-- an arm that stands for this may bind so: the structure inside only of a branch, and so many parts
+-- only of a product of so many factors
 abbrev pub MayBind : Program → Stand → Bind → Type 0
 MayBind p stand Nothing = Unit {0}
 MayBind p (inside part) Whole = Unit {0}

@@ -48,12 +48,14 @@ abbrev mutual
 
   pub values_items : ℕ → Values → Items
   values_items first no_values = no_items
-  values_items first (value v vs) = join_items (value_items first v) (values_items (first + value_sites v) vs)
+  values_items first (value v vs) =
+      join_items (value_items first v) (values_items (first + value_sites v) vs)
 
   pub value_arm_bodies : ℕ → ValueArms → Arms
   value_arm_bodies first no_value_arms = no_arms
   value_arm_bodies first (value_arm bind v arms) =
-      arm bind (Does (value_own v) (value_items first v)) (value_arm_bodies (first + value_sites v) arms)
+      arm bind (Does (value_own v) (value_items first v))
+      (value_arm_bodies (first + value_sites v) arms)
 
 -- the body that a value gives, with sites from this number on
 abbrev pub value_body : ℕ → Value → Body

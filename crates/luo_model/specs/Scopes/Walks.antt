@@ -49,5 +49,6 @@ abbrev mutual
       + body_walks p (component (shape_of p (part_at vars var).node) ∷ []) body
 
   pub arms_walks : Program → List Stand → Arms → ℕ
-  arms_walks p (stand ∷ rest) (arm bind body arms) = body_walks p (bound_parts p stand bind) body + arms_walks p rest arms
+  arms_walks p (stand ∷ rest) (arm bind body arms) =
+      body_walks p (bound_parts p stand bind) body + arms_walks p rest arms
   arms_walks p _ _ = 0

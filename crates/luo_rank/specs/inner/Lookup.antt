@@ -40,9 +40,11 @@ abbrev pub behind : Trees → Trees → Trees
 behind none us = us
 behind (more t ts) us = more t (behind ts us)
 
--- behind the trees of `old` stand those at place r of what is left behind f parts of a structure of node x
+-- behind the trees of `old` stand those at place r of what is left behind f parts of a structure of
+-- node x
 abbrev pub Tailed : Program → ℕ → ℕ → List ℕ → ℕ → ℕ → Trees → Trees → Type 0
-Tailed p x f L n r old new = (ts : Trees) × IsPlace (TailOn p (tail_at p x f) L n) PartsBefore r ts × (new ≡ behind old ts)
+Tailed p x f L n r old new =
+    (ts : Trees) × IsPlace (TailOn p (tail_at p x f) L n) PartsBefore r ts × (new ≡ behind old ts)
 
 -- the label of an atom on these labels
 abbrev pub label_on : Universe → List ℕ → ℕ
@@ -62,11 +64,13 @@ work p rank x n = n * suc (length p.nodes) + rank x
 -- each of these trees is less work
 abbrev pub IsLess : Program → (ℕ → ℕ) → ℕ → Tail → Trees → Type 0
 IsLess p rank most tail none = Unit {0}
-IsLess p rank most tail (more t ts) = (work p rank (first_node tail) (size_of t) < most) × IsLess p rank most (behind_first tail) ts
+IsLess p rank most tail (more t ts) =
+    (work p rank (first_node tail) (size_of t) < most) × IsLess p rank most (behind_first tail) ts
 
 -- what stands at this place is less work
 abbrev pub IsUnder : Program → (ℕ → ℕ) → ℕ → Tail → List ℕ → ℕ → ℕ → Type 0
-IsUnder p rank most tail L n r = (ts : Trees) → IsPlace (TailOn p tail L n) PartsBefore r ts → IsLess p rank most tail ts
+IsUnder p rank most tail L n r =
+    (ts : Trees) → IsPlace (TailOn p tail L n) PartsBefore r ts → IsLess p rank most tail ts
 
 -- something is left
 abbrev pub IsLeft : Tail → ℕ → Type 0
@@ -101,7 +105,8 @@ rank_in ranks x = slice_index ranks x
 
 -- how many there are of what is left
 abbrev pub left_count : Looked → ℕ → ℕ → ℕ → ℕ
-left_count t x f n = tail_count t.program.universe (entry_of t.counts) (tail_at (plain_of t.program) x f) n
+left_count t x f n =
+    tail_count t.program.universe (entry_of t.counts) (tail_at (plain_of t.program) x f) n
 
 -- the most parts behind which something may be left
 abbrev pub top_of : Shape → ℕ → ℕ
@@ -111,34 +116,44 @@ top_of _ last = 0
 
 -- how many there are of what is left behind f parts, marked, as far as it stands
 abbrev pub IsRow : Looked → ℕ → ℕ → List ℕ → Type 0
-IsRow t x f row = (n : ℕ) → Stands (shape_of (plain_of t.program) x) t.last f n → n ≤ t.last → (n < length row) × (slice_index row n ≡ capped (left_count t x f n))
+IsRow t x f row =
+    (n : ℕ) → Stands (shape_of (plain_of t.program) x) t.last f n → n ≤ t.last
+    → (n < length row) × (slice_index row n ≡ capped (left_count t x f n))
 
 -- so many rows of a node stand, from the last part down
 pub record AreRows (t : Looked) (x done : ℕ) (rows : List (List ℕ)) : Type 0 where
   pub long : length rows ≡ done
-  pub right : (g : ℕ) → g < done → IsRow t x (top_of (shape_of (plain_of t.program) x) t.last - g) (slice_index_or rows g [])
+  pub right : (g : ℕ) → g < done
+      → IsRow t x (top_of (shape_of (plain_of t.program) x) t.last - g) (slice_index_or rows g [])
 
 -- the rows of a node whose parts don't stand by the order
 abbrev pub AreRests : Looked → ℕ → List (List ℕ) → Type 0
-AreRests t x rows = IsSpread (tail_of (shape_of (plain_of t.program) x)) → AreRows t x (suc (top_of (shape_of (plain_of t.program) x) t.last)) rows
+AreRests t x rows =
+    IsSpread (tail_of (shape_of (plain_of t.program) x))
+    → AreRows t x (suc (top_of (shape_of (plain_of t.program) x) t.last)) rows
 
--- cell n of row k is the number of collections of k components of sizes up to d, of size n, marked: so many rows stand
-pub record ArePlaneRows (kind : Kind) (a : ℕ → ℕ) (d last done : ℕ) (rows : List (List ℕ)) : Type 0 where
+-- cell n of row k is the number of collections of k components of sizes up to d, of size n, marked:
+-- so many rows stand
+pub record ArePlaneRows (kind : Kind) (a : ℕ → ℕ) (d last done : ℕ)
+    (rows : List (List ℕ)) : Type 0 where
   pub long : length rows ≡ done
   pub wide : (k : ℕ) → k < done → length (slice_index_or rows k []) ≡ suc last
-  pub right : (k n : ℕ) → k < done → n < suc last → slice_index (slice_index_or rows k []) n ≡ capped (plane kind a d k n)
+  pub right : (k n : ℕ) → k < done → n < suc last
+      → slice_index (slice_index_or rows k []) n ≡ capped (plane kind a d k n)
 
 abbrev pub IsPlane : Kind → (ℕ → ℕ) → ℕ → ℕ → List (List ℕ) → Type 0
 IsPlane kind a d last rows = ArePlaneRows kind a d last (suc last) rows
 
 -- the planes of the sizes below `done`
-pub record ArePlanes (kind : Kind) (a : ℕ → ℕ) (last done : ℕ) (planes : List (List (List ℕ))) : Type 0 where
+pub record ArePlanes (kind : Kind) (a : ℕ → ℕ) (last done : ℕ)
+    (planes : List (List (List ℕ))) : Type 0 where
   pub long : length planes ≡ done
   pub right : (d : ℕ) → d < done → IsPlane kind a d last (slice_index_or planes d [])
 
 -- the planes of a node of multisets or powersets
 abbrev pub HasPlanes : (ℕ → ℕ → ℕ) → ℕ → Shape → List (List (List ℕ)) → Type 0
-HasPlanes a last (Coll kind part low high) planes = IsBag kind → ArePlanes kind (a part.node) last (suc last) planes
+HasPlanes a last (Coll kind part low high) planes =
+    IsBag kind → ArePlanes kind (a part.node) last (suc last) planes
 HasPlanes a last _ planes = Unit {0}
 
 -- the program is well-founded, and its ranks and counts are right
@@ -150,7 +165,8 @@ pub record IsCounted (t : Looked) : Type 0 where
   pub ranked : AreRanks (plain_of t.program) (rank_in t.ranks)
   pub numbers : AreNumbers (plain_of t.program) (length t.program.nodes) t.last (entry_of t.counts)
   pub many : length t.counts ≡ length t.program.nodes
-  pub long : (x : ℕ) → x < length t.program.nodes → length (slice_index_or t.counts x []) ≡ suc t.last
+  pub long : (x : ℕ) → x < length t.program.nodes
+      → length (slice_index_or t.counts x []) ≡ suc t.last
   pub small : (x n : ℕ) → x < length t.program.nodes → n ≤ t.last → entry_of t.counts x n ≤ MAX
 
 -- and so is all that is made of them
@@ -159,14 +175,19 @@ pub record IsLooked (t : Looked) : Type 0 where
   pub rests_many : length t.rests ≡ length t.program.nodes
   pub rests : (x : ℕ) → x < length t.program.nodes → AreRests t x (slice_index_or t.rests x [])
   pub planes_many : length t.planes ≡ length t.program.nodes
-  pub planes : (x : ℕ) → x < length t.program.nodes → HasPlanes (entry_of t.counts) t.last (shape_of (plain_of t.program) x) (slice_index_or t.planes x [])
+  pub planes : (x : ℕ) → x < length t.program.nodes
+      → HasPlanes (entry_of t.counts) t.last (shape_of (plain_of t.program) x)
+      (slice_index_or t.planes x [])
 
 -- the first of what is left at a place
 abbrev pub IsFirstOf : Looked → ℕ → ℕ → ℕ → ℕ → ℕ → ℕ → ℕ → ℕ → Type 0
-IsFirstOf t x f n rank size q place back = IsFirst (plain_of t.program) (entry_of t.counts) (tail_at (plain_of t.program) x f) n rank size q place back
+IsFirstOf t x f n rank size q place back =
+    IsFirst (plain_of t.program) (entry_of t.counts)
+    (tail_at (plain_of t.program) x f) n rank size q place back
 
 -- S and T are labels of the first and of the rest
-pub record ArePartLabels (u : Universe) (tail : Tail) (L : List ℕ) (n size q : ℕ) (S T : List ℕ) : Type 0 where
+pub record ArePartLabels (u : Universe) (tail : Tail) (L : List ℕ) (n size q : ℕ)
+    (S T : List ℕ) : Type 0 where
   pub head : IsHead u tail L size q S T
   pub first : IsRoom u S size
   pub rest : IsRoom u T (n - size)
@@ -200,16 +221,22 @@ IsLedTail _ = ⊥
 
 -- the chosen labels stand behind those of `first`, and the others behind those of `rest`
 abbrev pub IsChosen : List ℕ → List ℕ → List ℕ → List ℕ → List ℕ → List ℕ → Type 0
-IsChosen labels chosen first first_new rest rest_new = (first_new ≡ first ++ chosen) × ((T : List ℕ) × In (chosen, T) (splits labels) × (rest_new ≡ rest ++ T))
+IsChosen labels chosen first first_new rest rest_new =
+    (first_new ≡ first ++ chosen)
+    × ((T : List ℕ) × In (chosen, T) (splits labels) × (rest_new ≡ rest ++ T))
 
 -- the choice at a place stands behind the labels of `first`, and the others are the rest
 abbrev pub ArePlaced : List ℕ → ℕ → ℕ → List ℕ → List ℕ → List ℕ → Type 0
-ArePlaced labels size place first first_new rest = (C : List ℕ) × (first_new ≡ first ++ C) × In (C, rest) (splits labels) × IsPlace (IsChoice labels size) Lexical place C
+ArePlaced labels size place first first_new rest =
+    (C : List ℕ) × (first_new ≡ first ++ C) × In (C, rest) (splits labels)
+    × IsPlace (IsChoice labels size) Lexical place C
 
 -- how many of what is left have a first of size k
 abbrev pub term_of : Looked → ℕ → ℕ → ℕ → ℕ → ℕ
 term_of t x f n k =
-    (entry_of t.counts (first_node (tail_at (plain_of t.program) x f)) k * tail_count t.program.universe (entry_of t.counts) (behind_first (tail_at (plain_of t.program) x f)) (n - k))
+    (entry_of t.counts
+    (first_node (tail_at (plain_of t.program) x f)) k * tail_count t.program.universe
+    (entry_of t.counts) (behind_first (tail_at (plain_of t.program) x f)) (n - k))
     * head_ways t.program.universe (tail_at (plain_of t.program) x f) n k
 
 -- the components stand by the order
@@ -227,11 +254,14 @@ below_of t x f n d i = below_in (entry_of t.counts) (tail_at (plain_of t.program
 
 -- the ways to take j components of size d, times the cell of the others: the sum over j
 abbrev pub with_size : List ℕ → List (List ℕ) → ℕ → ℕ → ℕ → ℕ
-with_size ways rows d k n = sum_below (λ j. slice_index ways j * back (j * d) (slice_index (slice_index_or rows (k - j) [])) n) (suc k)
+with_size ways rows d k n =
+    sum_below (λ j. slice_index ways j * back (j * d)
+    (slice_index (slice_index_or rows (k - j) [])) n) (suc k)
 
 -- the ways to take j of c components of size d, marked, as far as they fit into size n
 abbrev pub AreWays : Kind → ℕ → ℕ → ℕ → List ℕ → Type 0
-AreWays kind c d n ways = (j : ℕ) → j * d ≤ n → (j < length ways) × (slice_index ways j ≡ capped (chosen kind c j))
+AreWays kind c d n ways =
+    (j : ℕ) → j * d ≤ n → (j < length ways) × (slice_index ways j ≡ capped (chosen kind c j))
 
 -- what the bounds leave behind f components
 abbrev pub less_by : ℕ → Option ℕ → Option ℕ
@@ -273,17 +303,32 @@ pub record AreAllRests (t : Looked) (done : ℕ) (rests : List (List (List ℕ))
   pub long : length rests ≡ done
   pub each : (x : ℕ) → x < done → AreRests t x (slice_index_or rests x [])
 
-pub record AreAllPlanes (t : Looked) (done : ℕ) (planes : List (List (List (List ℕ)))) : Type 0 where
+pub record AreAllPlanes (t : Looked) (done : ℕ)
+    (planes : List (List (List (List ℕ)))) : Type 0 where
   pub long : length planes ≡ done
-  pub each : (x : ℕ) → x < done → HasPlanes (entry_of t.counts) t.last (shape_of (plain_of t.program) x) (slice_index_or planes x [])
+  pub each : (x : ℕ) → x < done
+      → HasPlanes (entry_of t.counts) t.last (shape_of (plain_of t.program) x)
+      (slice_index_or planes x [])
 
 -- the numbers before what is made of them
 abbrev pub counted : Held → ℕ → ℕ → List ℕ → List (List ℕ) → Looked
-counted program last reach ranks counts = record { program = program; last = last; reach = reach; ranks = ranks; counts = counts; rests = []; planes = [] }
+counted program last reach ranks counts =
+    record {
+      program = program;
+      last = last;
+      reach = reach;
+      ranks = ranks;
+      counts = counts;
+      rests = [];
+      planes = [];
+    }
 
 -- the plane of the sizes up to d of the components of a node
 abbrev pub HasPlane : Looked → ℕ → ℕ → List (List ℕ) → Type 0
-HasPlane t x d rows = (kind : Kind) (part : Part) (low : ℕ) (high : Option ℕ) → shape_of (plain_of t.program) x ≡ Coll kind part low high → IsPlane kind (entry_of t.counts part.node) d t.last rows
+HasPlane t x d rows =
+    (kind : Kind) (part : Part) (low : ℕ) (high : Option ℕ)
+    → shape_of (plain_of t.program) x ≡ Coll kind part low high
+    → IsPlane kind (entry_of t.counts part.node) d t.last rows
 
 -- these are looked up in for a node, at the last size
 pub record Looks (t : Looked) (labels : List ℕ) (node count : ℕ) : Type 0 where

@@ -3,7 +3,8 @@ use Rattle.std.specs.Prelude.{ℕ, zero, suc, ◌+◌, ◌-◌, ◌*◌, List, [
 use Rattle.luo_model.specs.Tree.{Tree, Trees, Atom, Inj, Tup, Coll, none, more, from_list}
 use Rattle.luo_read.specs.Nesting.{Open, Branch, Tuple, Collection}
 
--- what the last bytes belong to: nothing, where a structure begins or may begin as the first of a collection; a number; or a structure that isn't inside a branch
+-- what the last bytes belong to: nothing, where a structure begins or may begin as the first of a
+-- collection; a number; or a structure that isn't inside a branch
 pub data Stage : Type 0 where
   Begin First : Stage
   Weight Label : Option ℕ → Stage
@@ -21,7 +22,9 @@ is_digit b = if nat_le 48 b then nat_le b 57 else nat_le 1 0
 abbrev pub longer_number : Option ℕ → ℕ → Option ℕ
 longer_number None b = if is_digit b then Some (b - 48) else None
 longer_number (Some zero) b = None
-longer_number (Some (suc n)) b = if is_digit b then (if nat_le (suc n) 99999 then Some (10 * suc n + (b - 48)) else None) else None
+longer_number (Some (suc n)) b =
+    if is_digit b then (if nat_le (suc n) 99999 then Some
+    (10 * suc n + (b - 48)) else None) else None
 
 -- and the same for a number that is at least 1
 abbrev pub not_zero : Option ℕ → Option ℕ
@@ -48,7 +51,9 @@ abbrev pub begun : List Open → ℕ → Option State
 begun os b =
     if nat_eq b 40 then Some (state (Tuple [] ∷ os) Begin)
     else (if nat_eq b 91 then Some (state (Collection [] ∷ os) First)
-    else (if nat_eq b 97 then Some (state os (Weight None)) else (if nat_eq b 35 then Some (state os (Label None)) else numbered os (longer_count None b))))
+    else (if nat_eq b 97 then Some
+    (state os (Weight None)) else (if nat_eq b 35 then Some (state os (Label None)) else numbered os
+    (longer_count None b))))
 
 -- a tuple of at least two parts
 abbrev pub tuple_closed : List Open → List Tree → Tree → Option State
@@ -59,8 +64,14 @@ tuple_closed os (u ∷ us) t = Some (closed os (Tup (from_list ((u ∷ us) ++ t 
 abbrev pub passed : List Open → Tree → ℕ → Option State
 passed [] t b = None
 passed (Branch number ∷ os) t b = None
-passed (Tuple ts ∷ os) t b = if nat_eq b 44 then Some (state (Tuple (ts ++ t ∷ []) ∷ os) Begin) else (if nat_eq b 41 then tuple_closed os ts t else None)
-passed (Collection ts ∷ os) t b = if nat_eq b 44 then Some (state (Collection (ts ++ t ∷ []) ∷ os) Begin) else (if nat_eq b 93 then Some (closed os (Coll (from_list (ts ++ t ∷ [])))) else None)
+passed (Tuple ts ∷ os) t b =
+    if nat_eq b 44 then Some
+    (state (Tuple (ts ++ t ∷ [])
+    ∷ os) Begin) else (if nat_eq b 41 then tuple_closed os ts t else None)
+passed (Collection ts ∷ os) t b =
+    if nat_eq b 44 then Some
+    (state (Collection (ts ++ t ∷ []) ∷ os) Begin) else (if nat_eq b 93 then Some
+    (closed os (Coll (from_list (ts ++ t ∷ [])))) else None)
 
 -- the same, of a state that stands behind a structure
 abbrev pub passed_from : State → ℕ → Option State
@@ -93,7 +104,9 @@ step (state os Begin) b = begun os b
 step (state os First) b = if nat_eq b 93 then emptied os else begun os b
 step (state os (Weight o)) b = weighed os o b (longer_number o b)
 step (state os (Label o)) b = labelled os o b (longer_count o b)
-step (state os (Number number)) b = if nat_eq b 58 then Some (state (Branch number ∷ os) Begin) else numbered os (longer_number (Some number) b)
+step (state os (Number number)) b =
+    if nat_eq b 58 then Some (state (Branch number ∷ os) Begin) else numbered os
+    (longer_number (Some number) b)
 step (state os (Behind t)) b = passed os t b
 
 -- and all of a text further

@@ -55,7 +55,8 @@ Halts o stop.NoMemory = Unit {0}
 
 -- the next state is this one, and as many may be open as are
 abbrev pub Goes : Option State → Result Reader Stop → Type 0
-Goes o result = MatchResult result (λ r. (o ≡ Some (state_of r)) × (length r.frames ≤ NESTING_LIMIT)) (Halts o)
+Goes o result =
+    MatchResult result (λ r. (o ≡ Some (state_of r)) × (length r.frames ≤ NESTING_LIMIT)) (Halts o)
 
 -- a text of a structure ends here, or it doesn't
 abbrev pub Fails : State → Stop → Type 0
@@ -64,7 +65,8 @@ Fails s stop.Deep = ⊥
 Fails s stop.NoMemory = Unit {0}
 
 abbrev pub Finishes : State → Result Structure Stop → Type 0
-Finishes s result = MatchResult result (λ r. settled s ≡ state [] (machine.Behind (tree_of r))) (Fails s)
+Finishes s result =
+    MatchResult result (λ r. settled s ≡ state [] (machine.Behind (tree_of r))) (Fails s)
 
 abbrev pub stopped_as : Stop → ℕ → StructError
 stopped_as stop.Unreadable at = answer.S1 at

@@ -23,17 +23,20 @@ abbrev pub stmt_does : Setting → List Variable → ℕ → Stmt → plain.Body
 stmt_does s scope first stmt = plain.Does (stmt_own s stmt) (stmt_items s scope first stmt)
 
 abbrev pub list_does : Setting → List Variable → ℕ → List Stmt → plain.Body
-list_does s scope first stmts = plain.Does (sum_by (stmt_own s) stmts) (items_of s scope first stmts)
+list_does s scope first stmts =
+    plain.Does (sum_by (stmt_own s) stmts) (items_of s scope first stmts)
 
 -- the breaches of an arm that stands for this, in a case on this variable
 abbrev pub one_arm_breaches : Setting → Stand → Name → SourceArm → List Breach
-one_arm_breaches s stand var arm = arm_breaches s stand var arm.pattern (stmt_breaches s (bound s stand arm.pattern) arm.body)
+one_arm_breaches s stand var arm =
+    arm_breaches s stand var arm.pattern (stmt_breaches s (bound s stand arm.pattern) arm.body)
 
 -- those of arms that stand for these
 abbrev pub arm_list_breaches : Setting → List Stand → Name → List SourceArm → List Breach
 arm_list_breaches s stands var [] = []
 arm_list_breaches s [] var (arm ∷ arms) = []
-arm_list_breaches s (stand ∷ stands) var (arm ∷ arms) = one_arm_breaches s stand var arm ++ arm_list_breaches s stands var arms
+arm_list_breaches s (stand ∷ stands) var (arm ∷ arms) =
+    one_arm_breaches s stand var arm ++ arm_list_breaches s stands var arms
 
 abbrev pub arm_sites : SourceArm → ℕ
 arm_sites arm = stmt_sites arm.body
@@ -46,4 +49,5 @@ abbrev pub arm_list_core : Setting → List Stand → ℕ → List SourceArm →
 arm_list_core s stands first [] = plain.no_arms
 arm_list_core s [] first (arm ∷ arms) = plain.no_arms
 arm_list_core s (stand ∷ stands) first (arm ∷ arms) =
-    plain.arm (bind_of arm.pattern) (stmt_does s (bound s stand arm.pattern) first arm.body) (arm_list_core s stands (first + arm_sites arm) arms)
+    plain.arm (bind_of arm.pattern) (stmt_does s (bound s stand arm.pattern) first arm.body)
+    (arm_list_core s stands (first + arm_sites arm) arms)

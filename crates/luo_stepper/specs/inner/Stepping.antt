@@ -56,12 +56,17 @@ AreSome t x f ts = (L : List ℕ) × (n : ℕ) × AreHere t x f L n ts
 
 -- something is left behind f parts
 abbrev pub HasPart : Looked → ℕ → ℕ → Type 0
-HasPart t x f = (n : ℕ) × Stands (shape_of (plain_of t.program) x) t.last f n × IsLeft (tail_at (plain_of t.program) x f) n
+HasPart t x f =
+    (n : ℕ) × Stands (shape_of (plain_of t.program) x) t.last f n
+    × IsLeft (tail_at (plain_of t.program) x f) n
 
 -- the next structure; or s was the last, of this size and these labels; or nothing is told
 abbrev pub Stepped : Looked → ℕ → Tree → List ℕ → Step → Type 0
-Stepped t x s labels (step.Next u) = (L : List ℕ) (n : ℕ) → IsHere t x L n s → IsNext (Here t x L n) IsBefore s (tree_of u)
-Stepped t x s labels (step.Last m) = (L : List ℕ) (n : ℕ) → IsHere t x L n s → (m ≡ n) × (labels ≡ L) × IsLast (Here t x L n) IsBefore s
+Stepped t x s labels (step.Next u) =
+    (L : List ℕ) (n : ℕ) → IsHere t x L n s → IsNext (Here t x L n) IsBefore s (tree_of u)
+Stepped t x s labels (step.Last m) =
+    (L : List ℕ) (n : ℕ) → IsHere t x L n s
+    → (m ≡ n) × (labels ≡ L) × IsLast (Here t x L n) IsBefore s
 Stepped t x s labels step.Untold = Unit {0}
 
 -- the structures from place k on, and those before it
@@ -75,17 +80,21 @@ up_to zero xs = []
 up_to (suc k) [] = []
 up_to (suc k) (x ∷ xs) = x ∷ up_to k xs
 
--- behind those of `before` stand the next parts; or the parts were the last, and are taken off; or nothing is told
+-- behind those of `before` stand the next parts; or the parts were the last, and are taken off; or
+-- nothing is told
 abbrev pub Moved : Looked → ℕ → ℕ → List Structure → Trees → List Structure → List ℕ → Row → Type 0
 Moved t x f before ts new labels row.On = (L : List ℕ) (n : ℕ) → AreHere t x f L n ts
-    → (us : Trees) × IsNext (Left t x f L n) PartsBefore ts us × (tree_list new ≡ behind (tree_list before) us)
-Moved t x f before ts new labels (row.Ended m) = (new ≡ before) × ((L : List ℕ) (n : ℕ) → AreHere t x f L n ts
+    → (us : Trees) × IsNext (Left t x f L n) PartsBefore ts us
+    × (tree_list new ≡ behind (tree_list before) us)
+Moved t x f before ts new labels (row.Ended m) =
+    (new ≡ before) × ((L : List ℕ) (n : ℕ) → AreHere t x f L n ts
     → (m ≡ n) × (labels ≡ L) × IsLast (Left t x f L n) PartsBefore ts)
 Moved t x f before ts new labels row.Untold = Unit {0}
 
 -- behind the trees of `old` stand the first of what is left
 abbrev pub Began : Looked → ℕ → ℕ → List ℕ → ℕ → Trees → Trees → Type 0
-Began t x f L n old new = (us : Trees) × IsFirst (Left t x f L n) PartsBefore us × (new ≡ behind old us)
+Began t x f L n old new =
+    (us : Trees) × IsFirst (Left t x f L n) PartsBefore us × (new ≡ behind old us)
 
 -- the first number from a start on of which something holds, below a bound, or the bound
 pub record IsFirstFrom (P : ℕ → Type 0) (start bound found : ℕ) : Type 0 where
@@ -96,10 +105,12 @@ pub record IsFirstFrom (P : ℕ → Type 0) (start bound found : ℕ) : Type 0 w
 
 -- the first has a structure of size k, and the rest of the size that is left
 abbrev pub Fills : Looked → ℕ → ℕ → ℕ → ℕ → Type 0
-Fills t x f n k = HasSize (plain_of t.program) (entry_of t.counts) (tail_at (plain_of t.program) x f) n k
+Fills t x f n k =
+    HasSize (plain_of t.program) (entry_of t.counts) (tail_at (plain_of t.program) x f) n k
 
 abbrev pub Rooms : Looked → ℕ → ℕ → List ℕ → ℕ → ℕ × List ℕ → Type 0
-Rooms t x f L n room = HasRoom (plain_of t.program) (entry_of t.counts) (tail_at (plain_of t.program) x f) L n room
+Rooms t x f L n room =
+    HasRoom (plain_of t.program) (entry_of t.counts) (tail_at (plain_of t.program) x f) L n room
 
 -- a first of size i has the labels C
 pub record IsRoomOf (t : Looked) (x f : ℕ) (L : List ℕ) (n i : ℕ) (C : List ℕ) : Type 0 where
@@ -116,7 +127,8 @@ pub record AreParts (t : Looked) (L : List ℕ) (n k : ℕ) (D U : List ℕ) : T
   pub rest : AreLabels t.program.universe U (n - k)
 
 -- they are the next, in size and labels, behind i and C
-pub record IsNextRoom (t : Looked) (x f : ℕ) (L : List ℕ) (n i : ℕ) (C : List ℕ) (k : ℕ) (D U : List ℕ) : Type 0 where
+pub record IsNextRoom (t : Looked) (x f : ℕ) (L : List ℕ) (n i : ℕ) (C : List ℕ) (k : ℕ)
+    (D U : List ℕ) : Type 0 where
   pub parts : AreParts t L n k D U
   pub next : IsNext (Rooms t x f L n) RoomBefore (i, C) (k, D)
 
@@ -124,11 +136,14 @@ abbrev pub IsLastRoom : Looked → ℕ → ℕ → List ℕ → ℕ → ℕ → 
 IsLastRoom t x f L n i C = IsLast (Rooms t x f L n) RoomBefore (i, C)
 
 -- the first and the rest begin again in the next room, behind the trees of `old`; or there is none
-abbrev pub Turned : Looked → ℕ → ℕ → List ℕ → ℕ → ℕ → List ℕ → List Structure → List Structure → Bool → Type 0
+abbrev pub Turned : Looked → ℕ → ℕ → List ℕ → ℕ → ℕ → List ℕ → List Structure → List Structure
+    → Bool → Type 0
 Turned t x f L n i C old new false = IsLastRoom t x f L n i C × (new ≡ old)
 Turned t x f L n i C old new true = (k : ℕ) × (D U : List ℕ) × IsNextRoom t x f L n i C k D U
-    × (s : Tree) × (ts : Trees) × IsFirst (Here t (first_node (tail_at (plain_of t.program) x f)) D k) IsBefore s
-    × IsFirst (Left t x (f + 1) U (n - k)) PartsBefore ts × (tree_list new ≡ behind (tree_list old) (more s ts))
+    × (s : Tree) × (ts : Trees)
+    × IsFirst (Here t (first_node (tail_at (plain_of t.program) x f)) D k) IsBefore s
+    × IsFirst (Left t x (f + 1) U (n - k)) PartsBefore ts
+    × (tree_list new ≡ behind (tree_list old) (more s ts))
 
 -- the node of a branch
 abbrev pub node_of : List Part → ℕ → ℕ
@@ -136,9 +151,13 @@ node_of parts i = (slice_index_or parts i no_part).node
 
 -- the first of the next branch that has a structure of size n; or there is none
 abbrev pub Branched : Looked → List Part → ℕ → List ℕ → ℕ → Step → Type 0
-Branched t parts n L branch (step.Next u) = (j : ℕ) × (v : Tree) × (tree_of u ≡ Inj (suc j) v) × (j < length parts)
-    × IsFirstFrom (λ m. 1 ≤ part_entry t.counts parts n m) (branch + 1) (length parts) j × IsFirst (Here t (node_of parts j) L n) IsBefore v
-Branched t parts n L branch (step.Last m) = (m ≡ n) × IsFirstFrom (λ m. 1 ≤ part_entry t.counts parts n m) (branch + 1) (length parts) (length parts)
+Branched t parts n L branch (step.Next u) =
+    (j : ℕ) × (v : Tree) × (tree_of u ≡ Inj (suc j) v) × (j < length parts)
+    × IsFirstFrom (λ m. 1 ≤ part_entry t.counts parts n m) (branch + 1) (length parts) j
+    × IsFirst (Here t (node_of parts j) L n) IsBefore v
+Branched t parts n L branch (step.Last m) =
+    (m ≡ n) × IsFirstFrom (λ m. 1 ≤ part_entry t.counts parts n m) (branch + 1) (length parts)
+    (length parts)
 Branched t parts n L branch step.Untold = Unit {0}
 
 -- how many constructors stand in a tree

@@ -16,4 +16,5 @@ StandBeside Powerset s t = IsBefore t s
 abbrev pub EachStandsBeside : Kind → Trees → Type 0
 EachStandsBeside kind none = Unit {0}
 EachStandsBeside kind (more s none) = Unit {0}
-EachStandsBeside kind (more s (more t ts)) = StandBeside kind s t × EachStandsBeside kind (more t ts)
+EachStandsBeside kind (more s (more t ts)) =
+    StandBeside kind s t × EachStandsBeside kind (more t ts)

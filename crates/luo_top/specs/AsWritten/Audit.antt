@@ -73,4 +73,5 @@ audit_by source n w =
 -- the report of the source of a file for the sizes up to n, found again by so many workers
 abbrev pub audit_source : List ℕ → ℕ → ℕ → Told → Step (List ℕ)
 audit_source file n w told =
-    sound_source file told and_then λ source. founded_source source and_then λ _. audit_by source n w
+    sound_source file told and_then λ source. founded_source source
+    and_then λ _. audit_by source n w

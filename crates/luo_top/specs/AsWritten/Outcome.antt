@@ -1,4 +1,5 @@
--- The one answer to these words over what the source tells, by what programs mean as they are written.
+-- The one answer to these words over what the source tells, by what programs mean as they are
+-- written.
 use Rattle.std.specs.Prelude.{ℕ, List}
 use Rattle.luo_top.specs.Answer.{Answer}
 use Rattle.luo_top.specs.AsWritten.Audit.{audit_source}
@@ -22,4 +23,5 @@ steps_as_written (Audit file n workers) told = audit_source file n workers told
 
 -- in this order: what the words alone refuse, and the steps of their command
 unfoldable pub OutcomeAsWritten : Told → List (List ℕ) → Answer → Type 0
-OutcomeAsWritten told words = ends (asked_by words and_then λ command. steps_as_written command told)
+OutcomeAsWritten told words =
+    ends (asked_by words and_then λ command. steps_as_written command told)

@@ -8,8 +8,11 @@ use Rattle.luo_top.specs.declared.status.Status.TheVariants.{Overflow}
 use Rattle.luo_top.specs.Answer.{Answer, Refusal}
 use Rattle.luo_top.specs.Refusals.{line}
 
--- of the counts and totals up to a last size, the first past the last number is named: `overflow: count of t.0 at size 30`
+-- of the counts and totals up to a last size, the first past the last number is named: `overflow:
+-- count of t.0 at size 30`
 abbrev pub OverflowRefusalOf : Source → Fill → ℕ → Answer → Type 0
 OverflowRefusalOf source fill last answer =
-    (entry : Entry) × (n : ℕ) × (text : List ℕ) × IsFirstOver source last fill entry n × IsEntryText source entry text
-    × (answer ≡ Refusal Overflow (line (codes "overflow: " ++ text ++ codes " at size " ++ decimal n)))
+    (entry : Entry) × (n : ℕ) × (text : List ℕ) × IsFirstOver source last fill entry n
+    × IsEntryText source entry text
+    × (answer ≡ Refusal Overflow
+    (line (codes "overflow: " ++ text ++ codes " at size " ++ decimal n)))

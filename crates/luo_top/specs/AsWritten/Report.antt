@@ -19,16 +19,19 @@ equation_lines source = flat_map (equation_line (core source)) (system (core sou
 abbrev pub heading_of : ProcDef → List ℕ
 heading_of p = line (codes "analyze " ++ p.name.text ++ codes " on " ++ p.on.text)
 
--- for each of these names the heading of its procedure, and a row for each size from 0 to `last`: size, count, total and average
+-- for each of these names the heading of its procedure, and a row for each size from 0 to `last`:
+-- size, count, total and average
 abbrev pub AreSections : Source → ℕ → List Name → List ℕ → Type 0
 AreSections source last [] bytes = bytes ≡ []
 AreSections source last (name ∷ names) bytes =
-    (p : ProcDef) × (rows : List Row) × (rest : List ℕ) × DefinesProcedure source name.text p × (length rows ≡ last + 1) × AreRowsOf source p 0 rows
+    (p : ProcDef) × (rows : List Row) × (rest : List ℕ) × DefinesProcedure source name.text p
+    × (length rows ≡ last + 1) × AreRowsOf source p 0 rows
     × AreSections source last names rest × (bytes ≡ heading_of p ++ flat_map row_text rows ++ rest)
 
--- these bytes are the report of the source for the sizes up to `last`: the universe, the equations, which are true, and the sections of the
--- analyze lines
+-- these bytes are the report of the source for the sizes up to `last`: the universe, the equations,
+-- which are true, and the sections of the analyze lines
 abbrev pub IsReportOf : Source → ℕ → List ℕ → Type 0
 IsReportOf source last bytes =
     EquationsAreTrue (core source)
-    × ((sections : List ℕ) × AreSections source last source.analyses sections × (bytes ≡ universe_text source.universe ++ equation_lines source ++ sections))
+    × ((sections : List ℕ) × AreSections source last source.analyses sections
+    × (bytes ≡ universe_text source.universe ++ equation_lines source ++ sections))

@@ -25,10 +25,12 @@ sound_sample number = sound_text (Sample number)
 abbrev pub AreLinesOf : Source → ℕ → List Name → List ℕ → Type 0
 AreLinesOf source n [] bytes = bytes ≡ []
 AreLinesOf source n (name ∷ names) bytes =
-    (p : ProcDef) × (row : Row) × (rest : List ℕ) × DefinesProcedure source name.text p × (row.n ≡ n) × IsRowOf source p row
+    (p : ProcDef) × (row : Row) × (rest : List ℕ) × DefinesProcedure source name.text p
+    × (row.n ≡ n) × IsRowOf source p row
     × AreLinesOf source n names rest × (bytes ≡ p.name.text ++ codes " " ++ row_text row ++ rest)
 
--- these bytes are the summary: the number, the universe, the bytes of the text, and the lines of the analyze lines
+-- these bytes are the summary: the number, the universe, the bytes of the text, and the lines of
+-- the analyze lines
 abbrev pub IsSummaryOf : ℕ → Source → ℕ → List ℕ → Type 0
 IsSummaryOf number source n bytes =
     (lines : List ℕ) × AreLinesOf source n source.analyses lines
@@ -40,4 +42,5 @@ summary_of number source n = makes (IsSummaryOf number source n)
 -- the summary of a sample at size n
 abbrev pub sample_source : ℕ → ℕ → Step (List ℕ)
 sample_source number n =
-    sound_sample number and_then λ source. founded_source source and_then λ _. numbers source n and_then λ _. summary_of number source n
+    sound_sample number and_then λ source. founded_source source and_then λ _. numbers source n
+    and_then λ _. summary_of number source n

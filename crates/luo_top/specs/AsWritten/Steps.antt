@@ -1,5 +1,5 @@
--- The steps from a source on, by what it means as it is written. Its core form alone tells which rule of well-foundedness is
--- broken first.
+-- The steps from a source on, by what it means as it is written. Its core form alone tells which
+-- rule of well-foundedness is broken first.
 use Rattle.std.specs.Prelude.{◌≡◌, ◌<◌, ◌≤◌, ⊤, ℕ, List}
 use Rattle.luo_finite.specs.Steps.{◌or_else◌}
 use Rattle.luo_num.specs.declared.TheConstants.{MAX}
@@ -25,16 +25,19 @@ use Rattle.luo_top.specs.Told.{Told}
 -- the first breach of a rule is named, with the first byte of its token
 abbrev pub RuleRefusalOf : List ℕ → List Token → Source → Answer → Type 0
 RuleRefusalOf text tokens source answer =
-    (b : Breach) × IsFirstBrokenIn source b × (answer ≡ Refusal Refused (rule_line b.rule (byte_of_token text tokens b.token) b.names))
+    (b : Breach) × IsFirstBrokenIn source b
+    × (answer ≡ Refusal Refused (rule_line b.rule (byte_of_token text tokens b.token) b.names))
 
 -- more walks over multisets and powersets than the limit, where no rule is broken
 abbrev pub WalksRefusalOf : Source → Answer → Type 0
 WalksRefusalOf source answer =
-    BreaksNothingIn source × ((n : ℕ) × ProcsWalk source source.procs n × (WALK_LIMIT < n)) × (answer ≡ Refusal Limit (limit_line Walks))
+    BreaksNothingIn source × ((n : ℕ) × ProcsWalk source source.procs n × (WALK_LIMIT < n))
+    × (answer ≡ Refusal Limit (limit_line Walks))
 
 -- in this order: the first limit that is passed, the first breach of a rule, the limit on walks
 abbrev pub SourceRefusal : List ℕ → List Token → Source → Answer → Type 0
-SourceRefusal text tokens source = LimitRefusal source or_else RuleRefusalOf text tokens source or_else WalksRefusalOf source
+SourceRefusal text tokens source =
+    LimitRefusal source or_else RuleRefusalOf text tokens source or_else WalksRefusalOf source
 
 -- a limit or a breach, and else the source itself
 abbrev pub sound : List ℕ → List Token → Source → Step Source
@@ -43,9 +46,11 @@ sound text tokens source = SourceRefusal text tokens source or_makes λ it. it �
 -- the source of a file, where it passes no limit and breaks no rule
 abbrev pub sound_source : List ℕ → Told → Step Source
 sound_source file told =
-    text_of file told and_then λ text. tokens_of text and_then λ tokens. source_of text tokens and_then sound text tokens
+    text_of file told and_then λ text. tokens_of text and_then λ tokens. source_of text tokens
+    and_then sound text tokens
 
--- the first rule of well-foundedness that is broken, and else the source is founded: both of its core form
+-- the first rule of well-foundedness that is broken, and else the source is founded: both of its
+-- core form
 abbrev pub founded_source : Source → Step ⊤
 founded_source source = founded (core source)
 
@@ -76,4 +81,5 @@ report_of source n = makes (IsReportOf source n)
 -- the report of the source of a file for the sizes up to n
 abbrev pub analyse_source : List ℕ → ℕ → Told → Step (List ℕ)
 analyse_source file n told =
-    sound_source file told and_then λ source. founded_source source and_then λ _. sized n and_then λ size. numbers source size and_then λ _. report_of source size
+    sound_source file told and_then λ source. founded_source source and_then λ _. sized n
+    and_then λ size. numbers source size and_then λ _. report_of source size

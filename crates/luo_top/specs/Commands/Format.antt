@@ -7,4 +7,5 @@ use Rattle.luo_top.specs.Told.{Told}
 
 -- the canonical text of the source
 abbrev pub format : List ℕ → Told → Step (List ℕ)
-format file told = file_source file told and_then λ source. makes (λ bytes. bytes ≡ canonical source)
+format file told =
+    file_source file told and_then λ source. makes (λ bytes. bytes ≡ canonical source)

@@ -16,11 +16,14 @@ use Rattle.luo_top.specs.WordRefusals.{unknown_line, count_line}
 
 -- x is the node of the type of this name
 abbrev pub IsTypeNamed : Program → List ℕ → ℕ → Type 0
-IsTypeNamed p name x = (i : ℕ) × (d : Def) × (slice_get p.defs i ≡ Some d) × (d.name ≡ name) × (d.whole.node ≡ x)
+IsTypeNamed p name x =
+    (i : ℕ) × (d : Def) × (slice_get p.defs i ≡ Some d) × (d.name ≡ name) × (d.whole.node ≡ x)
 
 -- a word that names no type, and else the node of the type of this name
 abbrev pub type_of : Program → List ℕ → Step ℕ
-type_of p name = RefusedWhere ((x : ℕ) → IsTypeNamed p name x → ⊥) Refused (unknown_line name) or_makes IsTypeNamed p name
+type_of p name =
+    RefusedWhere ((x : ℕ) → IsTypeNamed p name x → ⊥) Refused
+    (unknown_line name) or_makes IsTypeNamed p name
 
 -- a number of structures past its limit is refused
 abbrev pub counted : ℕ → Step ℕ
@@ -35,16 +38,20 @@ list_lines r (t ∷ ts) = line (decimal r ++ codes " " ++ structure_text t) ++ l
 abbrev pub lines_from : ℕ → ℕ → List Tree → List ℕ
 lines_from start k l = list_lines start (take k (drop start l))
 
--- these bytes are the lines of the structures of node x of size n from place `start` on, at most k of them
+-- these bytes are the lines of the structures of node x of size n from place `start` on, at most k
+-- of them
 abbrev pub IsListText : Program → ℕ → ℕ → ℕ → ℕ → List ℕ → Type 0
-IsListText p x n start k bytes = (l : List Tree) × IsOrderedListing p x n l × (bytes ≡ lines_from start k l)
+IsListText p x n start k bytes =
+    (l : List Tree) × IsOrderedListing p x n l × (bytes ≡ lines_from start k l)
 
 abbrev pub listed : Program → ℕ → ℕ → ℕ → ℕ → Step (List ℕ)
 listed p x n start k = makes (IsListText p x n start k)
 
 -- from the type on
 abbrev pub list_of : Program → ℕ → ℕ → ℕ → ℕ → Step (List ℕ)
-list_of p n start k x = list_sized n and_then λ size. counted k and_then λ count. tables Counts p size and_then λ _. listed p x size start count
+list_of p n start k x =
+    list_sized n and_then λ size. counted k and_then λ count. tables Counts p size
+    and_then λ _. listed p x size start count
 
 -- from the program on
 abbrev pub list_named : List ℕ → ℕ → ℕ → ℕ → Program → Step (List ℕ)

@@ -23,7 +23,9 @@ IsProcedureNamed p name f = (P : Procedure) × (slice_get p.procs f ≡ Some P) 
 
 -- a word that names no procedure, and else the procedure of this name
 abbrev pub procedure_of : Program → List ℕ → Step ℕ
-procedure_of p name = RefusedWhere ((f : ℕ) → IsProcedureNamed p name f → ⊥) Refused (unknown_line name) or_makes IsProcedureNamed p name
+procedure_of p name =
+    RefusedWhere ((f : ℕ) → IsProcedureNamed p name f → ⊥) Refused
+    (unknown_line name) or_makes IsProcedureNamed p name
 
 -- the node of a procedure's parameter
 abbrev pub node_on : Option Procedure → ℕ
@@ -35,7 +37,8 @@ parameter_node p f = node_on (slice_get p.procs f)
 
 -- why a text gives no structure of node x
 abbrev pub StructureRefusal : Program → ℕ → List ℕ → Answer → Type 0
-StructureRefusal p x text answer = (e : StructError) × reading.Refusal p x text e × (answer ≡ refusal_of_structure e)
+StructureRefusal p x text answer =
+    (e : StructError) × reading.Refusal p x text e × (answer ≡ refusal_of_structure e)
 
 -- a text that gives no structure of node x, and else the structure of this text
 abbrev pub structure_of : Program → ℕ → List ℕ → Step Tree
@@ -43,7 +46,8 @@ structure_of p x text = StructureRefusal p x text or_makes Reads p x text
 
 -- a charge past the last number
 abbrev pub ChargeRefusal : Program → ℕ → Tree → Answer → Type 0
-ChargeRefusal p f t answer = (q : ℕ) × Charges p f t q × (MAX < q) × (answer ≡ Refusal Overflow charge_line)
+ChargeRefusal p f t answer =
+    (q : ℕ) × Charges p f t q × (MAX < q) × (answer ≡ Refusal Overflow charge_line)
 
 -- a charge past the last number, and else what procedure f charges on t
 abbrev pub charge_of : Program → ℕ → Tree → Step ℕ
@@ -52,7 +56,8 @@ charge_of p f t = ChargeRefusal p f t or_makes Charges p f t
 -- what stands behind the charge: where the procedure has a result, the text of what it makes of t
 abbrev pub IsTail : Program → ℕ → Tree → Option Result → List ℕ → Type 0
 IsTail p f t None tail = tail ≡ []
-IsTail p f t (Some result) tail = (made : Tree) × Makes p f t made × (tail ≡ line (structure_text made))
+IsTail p f t (Some result) tail =
+    (made : Tree) × Makes p f t made × (tail ≡ line (structure_text made))
 
 -- the tail of procedure f
 abbrev pub HasTail : Program → ℕ → Tree → List ℕ → Type 0
@@ -67,11 +72,14 @@ run_text p f t q = makes (IsRunText p f t q)
 
 -- from the procedure on
 abbrev pub run_on : Program → List ℕ → ℕ → Step (List ℕ)
-run_on p structure f = structure_of p (parameter_node p f) structure and_then λ t. charge_of p f t and_then run_text p f t
+run_on p structure f =
+    structure_of p (parameter_node p f) structure and_then λ t. charge_of p f t
+    and_then run_text p f t
 
 -- from the program on
 abbrev pub run_named : List ℕ → List ℕ → Program → Step (List ℕ)
-run_named procedure structure p = founded p and_then λ _. procedure_of p procedure and_then run_on p structure
+run_named procedure structure p =
+    founded p and_then λ _. procedure_of p procedure and_then run_on p structure
 
 -- what the procedure of this name charges on the structure of this text
 abbrev pub run : List ℕ → List ℕ → List ℕ → Told → Step (List ℕ)

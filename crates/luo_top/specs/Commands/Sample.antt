@@ -13,7 +13,8 @@ use Rattle.luo_top.specs.Steps.{tokens_of, source_of, core_of, founded, tables}
 
 -- the program of a text
 abbrev pub text_program : List ℕ → Step Program
-text_program text = tokens_of text and_then λ tokens. source_of text tokens and_then core_of text tokens
+text_program text =
+    tokens_of text and_then λ tokens. source_of text tokens and_then core_of text tokens
 
 -- the program of the sample of a number
 abbrev pub sampled : ℕ → Step Program
@@ -27,13 +28,15 @@ AreRowsAt p n _ _ = ⊥
 
 -- for each procedure its name and its row: `P n count total average`
 abbrev pub row_lines : Program → List ℕ → List Row → List ℕ
-row_lines p (f ∷ fs) (row ∷ rows) = procedure_name p f ++ codes " " ++ row_text row ++ row_lines p fs rows
+row_lines p (f ∷ fs) (row ∷ rows) =
+    procedure_name p f ++ codes " " ++ row_text row ++ row_lines p fs rows
 row_lines p _ _ = []
 
 -- the lines of the number, of the universe, and of the bytes of the text
 abbrev pub head_text : ℕ → Universe → ℕ → List ℕ
 head_text number universe bytes =
-    codes "number " ++ decimal number ++ codes "\n" ++ universe_text universe ++ codes "bytes " ++ decimal bytes ++ codes "\n"
+    codes "number " ++ decimal number ++ codes "\n" ++ universe_text universe ++ codes "bytes "
+    ++ decimal bytes ++ codes "\n"
 
 -- and the rows of the analyze lines
 abbrev pub summary_text : ℕ → ℕ → Program → List Row → List ℕ
@@ -41,7 +44,9 @@ summary_text number bytes p rows = head_text number p.universe bytes ++ row_line
 
 -- these bytes are the summary at size n
 abbrev pub IsSummary : ℕ → Program → ℕ → List ℕ → Type 0
-IsSummary number p n bytes = (rows : List Row) × AreRowsAt p n p.analyses rows × (bytes ≡ summary_text number (length (Sample number)) p rows)
+IsSummary number p n bytes =
+    (rows : List Row) × AreRowsAt p n p.analyses rows
+    × (bytes ≡ summary_text number (length (Sample number)) p rows)
 
 abbrev pub summary : ℕ → Program → ℕ → Step (List ℕ)
 summary number p n = makes (IsSummary number p n)

@@ -30,7 +30,8 @@ IsFew p f last false =
 abbrev pub Names : Program → ℕ → ℕ → answer.Answer → Type 0
 Names p f n a = a ≡ answer.Refusal way.Overflow (audit_line (procedure_name p f) n)
 
--- of the sizes up to `last`, n is the first at which the total of procedure f is past the last number
+-- of the sizes up to `last`, n is the first at which the total of procedure f is past the last
+-- number
 abbrev pub IsFirstOf : Program → ℕ → ℕ → ℕ → Type 0
 IsFirstOf p f last n =
     (n ≤ last) × IsOverAt p f n × ((m : ℕ) → m < n → IsOverAt p f m → ⊥)

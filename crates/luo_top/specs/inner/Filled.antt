@@ -7,7 +7,8 @@ use Rattle.luo_engine.specs.Run.{Run}
 
 -- so many sizes are filled, of those up to a last one
 abbrev pub filled_to : Held → Fill → ℕ → ℕ → Run
-filled_to p fill last k = record { program = p; last = last; fill = fill; filled = k; stopped = false }
+filled_to p fill last k =
+    record { program = p; last = last; fill = fill; filled = k; stopped = false }
 
 -- and all of them
 abbrev pub full : Held → Fill → ℕ → Run

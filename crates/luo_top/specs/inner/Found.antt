@@ -1,4 +1,5 @@
--- The type or the procedure of a name, found from the first one on; and the text of a run, put behind another.
+-- The type or the procedure of a name, found from the first one on; and the text of a run, put
+-- behind another.
 use Rattle.std.specs.Prelude.{◌≡◌, ℕ, suc, Bool, true, false, List, [], ◌∷◌, ◌++◌, if◌then◌else◌, Option, None, Some, slice_get}
 use Rattle.std.specs.Str.{bytes_eq}
 use Rattle.luo_model.specs.declared.program.Def.{Def}
@@ -9,7 +10,8 @@ use Rattle.luo_top.specs.Commands.Run.{HasTail}
 
 abbrev pub place_from : ℕ → List Proc → List ℕ → Option ℕ
 place_from f [] name = None
-place_from f (P ∷ procs) name = if bytes_eq P.name name then Some f else place_from (suc f) procs name
+place_from f (P ∷ procs) name =
+    if bytes_eq P.name name then Some f else place_from (suc f) procs name
 
 -- the place of the first procedure of a name
 abbrev pub place_of : List Proc → List ℕ → Option ℕ

@@ -10,9 +10,11 @@ use Rattle.luo_top.specs.Refusals.{line}
 -- a cursor answered a structure, whose line with this place was put behind a text
 abbrev pub Shows : Span → Span → ℕ → List ℕ → List ℕ → Type 0
 Shows before after place old new =
-    (s : Structure) × Answers before (Some s) after × (new ≡ old ++ line (decimal place ++ codes " " ++ structure_text (tree_of s)))
+    (s : Structure) × Answers before (Some s) after
+    × (new ≡ old ++ line (decimal place ++ codes " " ++ structure_text (tree_of s)))
 
--- from a cursor on so many structures were shown, the first with this place, and there the cursor stands now
+-- from a cursor on so many structures were shown, the first with this place, and there the cursor
+-- stands now
 pub record HasListed (first : Span) (start many : ℕ) (now : Span) (text : List ℕ) : Type 0 where
   pub shown : List Structure
   pub long : length shown ≡ many

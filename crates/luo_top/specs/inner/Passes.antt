@@ -50,7 +50,8 @@ AnswersOf view step (Ok y) = step.hands (view y)
 AnswersOf view step (Err e) = RefusedBy step.refuses e
 
 -- what a call of a step answers
-pub record Passes {X Y : Type 0} (view : Y → X) (step : Step X) (result : Result Y Refusal) : Type 0 where
+pub record Passes {X Y : Type 0} (view : Y → X) (step : Step X)
+    (result : Result Y Refusal) : Type 0 where
   pub answers : AnswersOf view step result
 
 -- a value is what it is seen as
@@ -70,11 +71,14 @@ pub record Seen : Type 0 where
 
 -- what a source tells, and its counts
 abbrev pub seen : {F : Type 0} → (F → List ℕ → Option (List ℕ)) → (F → List ℕ → ℕ) → F → F → Seen
-seen named faults old new = record { told = named old; told_new = named new; old = faults old; new = faults new }
+seen named faults old new =
+    record { told = named old; told_new = named new; old = faults old; new = faults new }
 
 -- the count of a file rose, without which the step doesn't tell
 abbrev pub Failed : {X : Type 0} → List (List ℕ) → (Told → Step X) → Seen → Type 0
-Failed files step s = (file : List ℕ) × In file files × (step (without file s.told)).refuses answer.Untold × Rose (s.old file) (s.new file)
+Failed files step s =
+    (file : List ℕ) × In file files × (step (without file s.told)).refuses answer.Untold
+    × Rose (s.old file) (s.new file)
 
 -- the step doesn't tell, or gives this answer
 abbrev pub Tells : {X : Type 0} → Step X → answer.Answer → Type 0
@@ -90,12 +94,15 @@ StopsOver files step s ReadFault = Failed files step s
 StopsOver files step s NoMemory = Unit {0}
 
 -- the step hands on what the view shows of the value, where it tells, or stops so
-abbrev pub AnswersOver : {X Y : Type 0} → (Y → X) → List (List ℕ) → (Told → Step X) → Seen → Result Y Refusal → Type 0
-AnswersOver view files step s (Ok y) = (step s.told).refuses answer.Untold ⊎ (step s.told).hands (view y)
+abbrev pub AnswersOver : {X Y : Type 0} → (Y → X) → List (List ℕ) → (Told → Step X) → Seen
+    → Result Y Refusal → Type 0
+AnswersOver view files step s (Ok y) =
+    (step s.told).refuses answer.Untold ⊎ (step s.told).hands (view y)
 AnswersOver view files step s (Err e) = StopsOver files step s e
 
 -- what a call of a step answers that reads files
-pub record PassesOver {X Y : Type 0} (view : Y → X) (files : List (List ℕ)) (step : Told → Step X) (s : Seen) (result : Result Y Refusal) : Type 0 where
+pub record PassesOver {X Y : Type 0} (view : Y → X) (files : List (List ℕ)) (step : Told → Step X)
+    (s : Seen) (result : Result Y Refusal) : Type 0 where
   pub answers : AnswersOver view files step s result
   pub same_told : (name : List ℕ) → s.told_new name ≡ s.told name
   pub none_fell : NoneFell s.old s.new

@@ -20,10 +20,14 @@ IsNumber word (Some v) = (n : ℕ) × (number_of word ≡ Some n) × (v ≡ min 
 
 -- the request is that of the command, with its number up to the cap
 abbrev pub IsRequest : words'.Command → Request → Type 0
-IsRequest command (Analyse file last) = (n : ℕ) × (command ≡ words'.Analyse file.now n) × (last ≡ min n NUMBER_CAP)
+IsRequest command (Analyse file last) =
+    (n : ℕ) × (command ≡ words'.Analyse file.now n) × (last ≡ min n NUMBER_CAP)
 IsRequest command (Format file) = command ≡ words'.Format file.now
-IsRequest command (Run file procedure structure) = command ≡ words'.Run file.now procedure.now structure.now
-IsRequest command (Sample number last) = (k : ℕ) × (n : ℕ) × (command ≡ words'.Sample k n) × (number ≡ min k NUMBER_CAP) × (last ≡ min n NUMBER_CAP)
+IsRequest command (Run file procedure structure) =
+    command ≡ words'.Run file.now procedure.now structure.now
+IsRequest command (Sample number last) =
+    (k : ℕ) × (n : ℕ) × (command ≡ words'.Sample k n) × (number ≡ min k NUMBER_CAP)
+    × (last ≡ min n NUMBER_CAP)
 IsRequest command (Listing file name last start most) =
     (n : ℕ) × (s : ℕ) × (k : ℕ) × (command ≡ words'.Listing file.now name.now n s k)
     × (last ≡ min n NUMBER_CAP) × (start ≡ min s NUMBER_CAP) × (most ≡ min k NUMBER_CAP)
@@ -31,7 +35,8 @@ IsRequest command (Audit file last workers) =
     (n : ℕ) × (w : ℕ) × (command ≡ words'.Audit file.now n w)
     × (last ≡ min n NUMBER_CAP) × (workers ≡ min w NUMBER_CAP)
 
--- the request goes on, where the words of its command pass no limit by themselves, and else their limit refuses it
+-- the request goes on, where the words of its command pass no limit by themselves, and else their
+-- limit refuses it
 abbrev pub Keeps : words'.Command → Request → Result Request Refusal → Type 0
 Keeps c request (Ok r) = (r ≡ request) × HasNone (LimitOfWords c)
 Keeps c request (Err Usage) = ⊥
@@ -51,18 +56,23 @@ IsRequestOf command request = ⊥
 abbrev pub RefusedByWords : List (List ℕ) → Refusal → Type 0
 RefusedByWords words Usage = HasNoForm words
 RefusedByWords words (Refused l) = ⊥
-RefusedByWords words (Limit l) = (c : words'.Command) × (command_of words ≡ Some c) × LimitOfWords c (answer.Refusal way.Limit (bytes_of l))
+RefusedByWords words (Limit l) =
+    (c : words'.Command) × (command_of words ≡ Some c)
+    × LimitOfWords c (answer.Refusal way.Limit (bytes_of l))
 RefusedByWords words (Overflow l) = ⊥
 RefusedByWords words ReadFault = ⊥
 RefusedByWords words NoMemory = ⊥
 
 -- the command that the words ask for, or their refusal
 abbrev pub Asks : List (List ℕ) → Result Request Refusal → Type 0
-Asks words (Ok request) = (c : words'.Command) × (command_of words ≡ Some c) × HasNone (LimitOfWords c) × IsRequest c request
+Asks words (Ok request) =
+    (c : words'.Command) × (command_of words ≡ Some c) × HasNone (LimitOfWords c)
+    × IsRequest c request
 Asks words (Err e) = RefusedByWords words e
 
 -- the answer to the words: their refusal, or that of the steps of their command
 abbrev pub IsAnswer : List (List ℕ) → Seen → Result (List ℕ) Refusal → Type 0
 IsAnswer words s result =
     ((e : Refusal) × (result ≡ Err e) × RefusedByWords words e)
-    ⊎ ((c : words'.Command) × (command_of words ≡ Some c) × HasNone (LimitOfWords c) × PassesOver itself (files_of c) (steps_of c) s result)
+    ⊎ ((c : words'.Command) × (command_of words ≡ Some c) × HasNone (LimitOfWords c)
+    × PassesOver itself (files_of c) (steps_of c) s result)

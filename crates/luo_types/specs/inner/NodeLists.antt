@@ -16,7 +16,8 @@ MeanBelow names n = (text : List ℕ) (i : ℕ) → definition_meant (meaning na
 
 -- these are the nodes of the definitions
 abbrev pub AreNodes : List (List ℕ × Meaning) → List Definition → List ℕ → Type 0
-AreNodes names defs nodes = (i : ℕ) → i < length defs → slice_get nodes i ≡ Some (node_of names defs i)
+AreNodes names defs nodes =
+    (i : ℕ) → i < length defs → slice_get nodes i ≡ Some (node_of names defs i)
 
 module _ (names : List (List ℕ × Meaning)) (defs : List Definition) where
   -- the parts that stand for type expressions, one behind the other
@@ -27,4 +28,5 @@ module _ (names : List (List ℕ × Meaning)) (defs : List Definition) where
   -- the nodes of type expressions of definition `owner`, one behind the other
   abbrev pub nodes_of : ℕ → Spot → List TypeExpr → List Node
   nodes_of owner at [] = []
-  nodes_of owner at (e ∷ es) = nodes_at names defs owner at e ++ nodes_of owner (behind at (own_nodes e)) es
+  nodes_of owner at (e ∷ es) =
+      nodes_at names defs owner at e ++ nodes_of owner (behind at (own_nodes e)) es

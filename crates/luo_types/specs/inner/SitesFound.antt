@@ -1,4 +1,5 @@
--- What is found in finished bodies: the nodes of their sites, and their walks over multisets and powersets.
+-- What is found in finished bodies: the nodes of their sites, and their walks over multisets and
+-- powersets.
 use Rattle.std.specs.Prelude.{◌≡◌, ℕ, ◌+◌, List, [], ◌∷◌, ◌++◌, map}
 use Rattle.luo_model.specs.declared.program.Site.{Site}
 use Rattle.luo_model.specs.Invariant.{sites_from}
@@ -18,7 +19,8 @@ pub record IsFound (nodes : List ℕ) (walks : ℕ) (old new : Found) : Type 0 w
 -- sites of these nodes, by their places in a procedure from this one on
 abbrev pub sites_at : ℕ → ℕ → List ℕ → List Site
 sites_at caller place [] = []
-sites_at caller place (node ∷ nodes) = record { node = node; caller = caller; place = place } ∷ sites_at caller (place + 1) nodes
+sites_at caller place (node ∷ nodes) =
+    record { node = node; caller = caller; place = place } ∷ sites_at caller (place + 1) nodes
 
 -- the sites of procedures from the one of this number on
 abbrev pub sites_in : Program → ℕ → List Procedure → List Site

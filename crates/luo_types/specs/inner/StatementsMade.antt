@@ -20,38 +20,47 @@ use Rattle.luo_rules.specs.StatementCore.{stmt_sites}
 use Rattle.luo_rules.specs.inner.StatementLists.{list_breaches, stmt_does, list_does, one_arm_breaches, arm_list_breaches, arm_sites, arm_list_core}
 
 -- nothing is broken; what is done stands behind the old body; and so many sites are the next ones
-pub record IsAdded (breaches : List Breach) (does : plain.Body) (sites : ℕ) (old new : Body) (first next : ℕ) : Type 0 where
+pub record IsAdded (breaches : List Breach) (does : plain.Body) (sites : ℕ) (old new : Body)
+    (first next : ℕ) : Type 0 where
   pub unbroken : breaches ≡ []
   pub behind : body_of new ≡ extended (body_of old) does
   pub numbered : next ≡ first + sites
 
 -- a body with this item behind what it has
 abbrev pub HasItem : plain.Item → Body → Body → Type 0
-HasItem i old new = body_of new ≡ extended (body_of old) (plain.Does 0 (plain.item i plain.no_items))
+HasItem i old new =
+    body_of new ≡ extended (body_of old) (plain.Does 0 (plain.item i plain.no_items))
 
 -- a statement was checked and added
 abbrev pub IsStmtAdded : Setting → List Variable → Stmt → Body → Body → ℕ → ℕ → Type 0
-IsStmtAdded s scope stmt old new first next = IsAdded (stmt_breaches s scope stmt) (stmt_does s scope first stmt) (stmt_sites stmt) old new first next
+IsStmtAdded s scope stmt old new first next =
+    IsAdded (stmt_breaches s scope stmt) (stmt_does s scope first stmt)
+    (stmt_sites stmt) old new first next
 
 -- statements were checked and added, one behind the other
 abbrev pub AreStmtsAdded : Setting → List Variable → List Stmt → Body → Body → ℕ → ℕ → Type 0
-AreStmtsAdded s scope stmts old new first next = IsAdded (list_breaches s scope stmts) (list_does s scope first stmts) (sum_by stmt_sites stmts) old new first next
+AreStmtsAdded s scope stmts old new first next =
+    IsAdded (list_breaches s scope stmts) (list_does s scope first stmts)
+    (sum_by stmt_sites stmts) old new first next
 
 -- an arm was checked and made
-pub record IsArmMade (s : Setting) (stand : Stand) (var : Name) (arm : SourceArm) (made : Arm) (first next : ℕ) : Type 0 where
+pub record IsArmMade (s : Setting) (stand : Stand) (var : Name) (arm : SourceArm) (made : Arm)
+    (first next : ℕ) : Type 0 where
   pub unbroken : one_arm_breaches s stand var arm ≡ []
   pub binds : made.bind ≡ bind_of arm.pattern
   pub does : body_of made.body ≡ stmt_does s (bound s stand arm.pattern) first arm.body
   pub numbered : next ≡ first + arm_sites arm
 
 -- arms were checked and made
-pub record AreArmsMade (s : Setting) (stands : List Stand) (var : Name) (arms : List SourceArm) (made : List Arm) (first next : ℕ) : Type 0 where
+pub record AreArmsMade (s : Setting) (stands : List Stand) (var : Name) (arms : List SourceArm)
+    (made : List Arm) (first next : ℕ) : Type 0 where
   pub unbroken : arm_list_breaches s stands var arms ≡ []
   pub formed : arm_list made ≡ arm_list_core s stands first arms
   pub numbered : next ≡ first + sum_by arm_sites arms
 
 -- a walk may go over a variable: its place, and the node of its components
-pub record IsWalked (s : Setting) (there : Option (ℕ × ℕ)) (source : Name) (walk : ℕ × ℕ) : Type 0 where
+pub record IsWalked (s : Setting) (there : Option (ℕ × ℕ)) (source : Name)
+    (walk : ℕ × ℕ) : Type 0 where
   pub place : walk.0 ≡ place_of there
   pub node : walk.1 ≡ walked s there
   pub into : (inner : List Breach) → walk_breaches s there source inner ≡ inner

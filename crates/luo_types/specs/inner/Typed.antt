@@ -9,9 +9,11 @@ use Rattle.luo_rules.specs.Nodes.{setting_of}
 use Rattle.luo_rules.specs.Whole.{breaches, procs_core}
 use Rattle.luo_types.specs.declared.checking.Typed.{Typed}
 
--- no rule is broken; the setting is that of the source, and the procedures and analyze lines are those of its core form
+-- no rule is broken; the setting is that of the source, and the procedures and analyze lines are
+-- those of its core form
 pub record IsTyped (source : Source) (t : Typed) : Type 0 where
   pub unbroken : breaches source ≡ []
   pub setting : t.setting ≡ setting_of source
   pub procs : map procedure_of t.procs ≡ procs_core (setting_of source) 0 source.procs
-  pub analyses : t.analyses ≡ map (λ name. meanings.procedure_of (meant (setting_of source) name)) source.analyses
+  pub analyses : t.analyses
+      ≡ map (λ name. meanings.procedure_of (meant (setting_of source) name)) source.analyses

@@ -19,7 +19,9 @@ sized kind a (suc d) m = stepped (chosen kind (a (suc d))) (sized kind a d) (suc
 -- and the charges over them
 abbrev pub sized_totals : Kind → (ℕ → ℕ) → (ℕ → ℕ) → ℕ → ℕ → ℕ
 sized_totals kind a b zero m = 0
-sized_totals kind a b (suc d) m = stepped (chosen_totals kind (a (suc d)) (b (suc d))) (sized kind a d) (suc d) m + stepped (chosen kind (a (suc d))) (sized_totals kind a b d) (suc d) m
+sized_totals kind a b (suc d) m =
+    stepped (chosen_totals kind (a (suc d)) (b (suc d))) (sized kind a d) (suc d) m
+    + stepped (chosen kind (a (suc d))) (sized_totals kind a b d) (suc d) m
 
 -- the same step over cells
 abbrev pub from_cells : List ℕ → List ℕ → ℕ → ℕ → ℕ
@@ -40,15 +42,18 @@ abbrev pub count_fold : List ℕ → ℕ → List ℕ → ℕ → ℕ
 count_fold ways d cells m = capped (from_cells ways cells d m)
 
 abbrev pub total_fold : List ℕ → List ℕ → List ℕ → ℕ → List ℕ → ℕ → ℕ
-total_fold ways charges counts d cells m = capped (from_cells charges counts d m + from_cells ways cells d m)
+total_fold ways charges counts d cells m =
+    capped (from_cells charges counts d m + from_cells ways cells d m)
 
--- the number of collections of size n of at least `low` components, where low is at most 2: those of components below n, and those of one component
--- of size n, of which there is none where low is 2
+-- the number of collections of size n of at least `low` components, where low is at most 2: those
+-- of components below n, and those of one component of size n, of which there is none where low is
+-- 2
 abbrev pub count_any : ℕ → Kind → (ℕ → ℕ) → ℕ → ℕ → ℕ
 count_any low kind a here zero = 1 - low
 count_any low kind a here (suc n) = sized kind a n (suc n) + here
 
--- after so many calls the row has the sizes up to that before the last but one, and the ways are those of that before the last
+-- after so many calls the row has the sizes up to that before the last but one, and the ways are
+-- those of that before the last
 pub record IsUnbounded (kind : Kind) (low n_max calls : ℕ) (comp ways cells : List ℕ) : Type 0 where
   pub parts : IsOfParts kind
   pub bounds : AreBounds low None n_max
@@ -62,7 +67,8 @@ pub record IsUnbounded (kind : Kind) (low n_max calls : ℕ) (comp ways cells : 
   pub holds : HoldsSizes (n_max + 1) (sized kind (slice_index comp) (calls - 3)) cells
 
 -- after so many calls the row of charges has the sizes up to that before the last
-pub record IsUnboundedWalk (kind : Kind) (low n_max calls : ℕ) (comp body charges cells : List ℕ) : Type 0 where
+pub record IsUnboundedWalk (kind : Kind) (low n_max calls : ℕ)
+    (comp body charges cells : List ℕ) : Type 0 where
   pub parts : IsOfParts kind
   pub bounds : AreBounds low None n_max
   pub any : low ≤ 2
@@ -73,4 +79,5 @@ pub record IsUnboundedWalk (kind : Kind) (low n_max calls : ℕ) (comp body char
   pub row : length cells ≡ n_max + 1
   pub none_empty : slice_index comp 0 ≡ 0
   pub none_charged : slice_index body 0 ≡ 0
-  pub holds : HoldsSizes (n_max + 1) (sized_totals kind (slice_index comp) (slice_index body) (calls - 2)) cells
+  pub holds : HoldsSizes (n_max + 1)
+      (sized_totals kind (slice_index comp) (slice_index body) (calls - 2)) cells

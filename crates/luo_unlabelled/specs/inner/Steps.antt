@@ -11,10 +11,12 @@ use Rattle.luo_unlabelled.specs.declared.steps.Steps.{Steps}
 
 -- the sum over j from 1 to n of number j times cell n - j of a row
 abbrev pub convolved : List ℕ → List ℕ → ℕ → ℕ → ℕ
-convolved numbers cells row n = sum_below (λ j. slice_index numbers (suc j) * slice_index cells (row + (n - suc j))) n
+convolved numbers cells row n =
+    sum_below (λ j. slice_index numbers (suc j) * slice_index cells (row + (n - suc j))) n
 
 abbrev pub steps_of : ℕ → Option ℕ → ℕ → Steps
-steps_of low (Some high) n_max = record { free = high - low; last = high; bounded = true; wide = n_max + 1 }
+steps_of low (Some high) n_max =
+    record { free = high - low; last = high; bounded = true; wide = n_max + 1 }
 steps_of low None n_max = record { free = 0; last = low; bounded = false; wide = n_max + 1 }
 
 -- the greatest number of components at step i
@@ -56,22 +58,27 @@ HasSource s f (suc i) n cells = HoldsRow s f i n cells
 abbrev pub HoldsBelow : Steps → (ℕ → ℕ → ℕ) → ℕ → List ℕ → Type 0
 HoldsBelow s f n cells = (i : ℕ) → i < s.last → HoldsRow s f i n cells
 
--- the numbers of size m have been written at the steps below i, and the row of the last step is as it was
+-- the numbers of size m have been written at the steps below i, and the row of the last step is as
+-- it was
 pub record Settled (s : Steps) (f : ℕ → ℕ → ℕ) (m i : ℕ) (old new : List ℕ) : Type 0 where
   pub long : length new ≡ length old
   pub before : HoldsBelow s f m new
   pub written : (k : ℕ) → k < i → slice_index new (k * s.wide + m) ≡ capped (f k m)
-  pub others : (x : ℕ) → x < s.wide → slice_index new (s.last * s.wide + x) ≡ slice_index old (s.last * s.wide + x)
+  pub others : (x : ℕ) → x < s.wide
+      → slice_index new (s.last * s.wide + x) ≡ slice_index old (s.last * s.wide + x)
 
--- after so many calls the row of the last step has their answers, and the others have the numbers of the sizes below the last one
+-- after so many calls the row of the last step has their answers, and the others have the numbers
+-- of the sizes below the last one
 pub record HoldsTable (s : Steps) (f : ℕ → ℕ → ℕ) (calls : ℕ) (cells : List ℕ) : Type 0 where
-  pub below : (i m : ℕ) → i < s.last → suc m < calls → slice_index cells (i * s.wide + m) ≡ capped (f i m)
+  pub below : (i m : ℕ) → i < s.last → suc m < calls
+      → slice_index cells (i * s.wide + m) ≡ capped (f i m)
   pub answers : HoldsRow s f s.last calls cells
 
 -- the numbers of a call go on from those that are kept
 pub record Follows (s : Steps) (kept numbers : List ℕ) : Type 0 where
   pub agree : (m : ℕ) → suc m < length numbers → slice_index numbers m ≡ slice_index kept m
-  pub last_agrees : (m : ℕ) → suc m ≡ length numbers → TakesOne s → slice_index numbers m ≡ slice_index kept m
+  pub last_agrees : (m : ℕ) → suc m ≡ length numbers → TakesOne s
+      → slice_index numbers m ≡ slice_index kept m
 
 pub record IsLine (low : ℕ) (high : Option ℕ) (n_max calls : ℕ) (comp cells : List ℕ) : Type 0 where
   pub bounds : AreBounds low high n_max
@@ -79,14 +86,16 @@ pub record IsLine (low : ℕ) (high : Option ℕ) (n_max calls : ℕ) (comp cell
   pub sizes : length comp ≡ n_max + 1
   pub rows : length cells ≡ ((steps_of low high n_max).last + 1) * (n_max + 1)
   pub none_empty : slice_index comp 0 ≡ 0
-  pub holds : HoldsTable (steps_of low high n_max) (step_count (steps_of low high n_max) (slice_index comp)) calls cells
+  pub holds : HoldsTable (steps_of low high n_max)
+      (step_count (steps_of low high n_max) (slice_index comp)) calls cells
 
 -- the rows of all steps have the numbers of the sizes below n
 pub record HoldsAll (s : Steps) (f : ℕ → ℕ → ℕ) (n : ℕ) (cells : List ℕ) : Type 0 where
   pub below : HoldsBelow s f n cells
   pub last : HoldsRow s f s.last n cells
 
-pub record IsLineWalk (low : ℕ) (high : Option ℕ) (n_max calls : ℕ) (comp body cells : List ℕ) : Type 0 where
+pub record IsLineWalk (low : ℕ) (high : Option ℕ) (n_max calls : ℕ)
+    (comp body cells : List ℕ) : Type 0 where
   pub bounds : AreBounds low high n_max
   pub reached : calls ≤ n_max + 1
   pub sizes : length comp ≡ n_max + 1
@@ -94,4 +103,5 @@ pub record IsLineWalk (low : ℕ) (high : Option ℕ) (n_max calls : ℕ) (comp 
   pub rows : length cells ≡ ((steps_of low high n_max).last + 1) * (n_max + 1)
   pub none_empty : slice_index comp 0 ≡ 0
   pub none_charged : slice_index body 0 ≡ 0
-  pub holds : HoldsTable (steps_of low high n_max) (step_total (steps_of low high n_max) (slice_index comp) (slice_index body)) calls cells
+  pub holds : HoldsTable (steps_of low high n_max)
+      (step_total (steps_of low high n_max) (slice_index comp) (slice_index body)) calls cells

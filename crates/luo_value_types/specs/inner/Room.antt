@@ -9,13 +9,16 @@ use Rattle.luo_rules.specs.Settings.{shape_at}
 
 -- no measure is above the greatest charge
 abbrev pub HasMeasuresWithin : Setting → Type 0
-HasMeasuresWithin s = (text : List ℕ) (number value : ℕ) → meaning s.names text ≡ Some (Measure number value) → value ≤ NUMBER_LIMIT
+HasMeasuresWithin s =
+    (text : List ℕ) (number value : ℕ) → meaning s.names text ≡ Some (Measure number value)
+    → value ≤ NUMBER_LIMIT
 
 -- the branches of each union have numbers of 32 bits
 abbrev pub HasFewBranches : Setting → Type 0
 HasFewBranches s = (x : ℕ) → length (inner_parts (shape_at s x)) < 2 ^ 32
 
--- so many statements may still come in a body that charges so much, with sites from this number on: 1,024 in all
+-- so many statements may still come in a body that charges so much, with sites from this number on:
+-- 1,024 in all
 pub record HasRoom (statements own next : ℕ) : Type 0 where
   pub charges : own + statements * NUMBER_LIMIT ≤ STATEMENT_LIMIT * NUMBER_LIMIT
   pub sites : next + 2 * statements ≤ 2 ^ 32

@@ -7,7 +7,7 @@ use Rattle.luo_model.specs.declared.body.Arm.{Arm}
 use Rattle.luo_model.specs.declared.program.Part.{Part}
 use Rattle.luo_model.specs.declared.value.Value.{Value}
 use Rattle.luo_model.specs.declared.value.ValueArm.{ValueArm}
-use Rattle.luo_model.specs.Scopes.{Stand, stands}
+use Rattle.luo_model.specs.Scopes.Stands.{Stand, stands}
 use Rattle.luo_rules.specs.declared.rule.Stop.{Stop}
 use Rattle.luo_rules.specs.declared.setting.Setting.{Setting}
 use Rattle.luo_rules.specs.declared.setting.Variable.{Variable}
