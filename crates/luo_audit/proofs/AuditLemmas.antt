@@ -34,7 +34,7 @@ use Rattle.luo_audit.specs.declared.auditing.Audited.{Audited}
 use Rattle.luo_audit.specs.declared.auditing.AuditError.{AuditError}
 use Rattle.luo_audit.specs.declared.auditing.AuditError.TheVariants.{TooMany, Over, NoMemory}
 use Rattle.luo_audit.proofs.Cuts.{pieces_add_up}
-use Rattle.luo_audit.proofs.WholeSites.{whole_site}
+use Rattle.luo_model.proofs.WholeSites.{whole_site}
 
 zip_at : {A : Type 0} (R : A → ℕ → Type 0) (l : List A) (qs : List ℕ) (i : ℕ) (x : A) → AllZip R l qs → slice_get l i ≡ Some x → (q : ℕ) × (slice_get qs i ≡ Some q) × R x q
 zip_at R [] qs i x z e = absurd (none_some x e)

@@ -1,4 +1,3 @@
 pub mod Cuts
-pub mod WholeSites
 pub mod AuditLemmas
 pub mod WalkLemmas

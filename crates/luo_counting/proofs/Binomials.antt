@@ -1,10 +1,11 @@
 -- The numbers of collections by binomials.
-use Rattle.std.proofs.Common.{◌≡◌, ℕ, zero, suc, ◌+◌, ◌*◌, refl, sym, ◌∙◌, ap, arith}
+use Rattle.std.proofs.Common.{◌≡◌, ℕ, zero, suc, ◌+◌, ◌*◌, ◌-◌, refl, sym, ◌∙◌, ap, arith}
+use Rattle.luo_num.specs.Mark.{capped}
 use Rattle.luo_finite.specs.Binomial.{choose}
 use Rattle.luo_model.specs.declared.program.Universe.TheVariants.{Labelled}
 use Rattle.luo_counting.specs.Numbers.{rows, row_totals, sets, set_totals, repeats, repeat_totals}
 use Rattle.luo_counting.specs.Laws.{RowsAreBinomial, SetsAreBinomial, CyclesAreBinomial, RepeatsAreBinomial}
-use Rattle.luo_finite.proofs.Binomials.{choose-self}
+use Rattle.luo_finite.proofs.Binomials.{choose-self, choose-past}
 use Rattle.luo_counting.proofs.Two.{share-is_binomial}
 
 ones_repeat : (j : ℕ) → repeats 1 j ≡ 1
@@ -48,3 +49,13 @@ cycles_binomial a b k n = (
 
 pub repeats_binomial : RepeatsAreBinomial
 repeats_binomial = (repeats_is, repeat_totals-is)
+
+pub repeats_none : (c j : ℕ) → j ≡ 0 → 1 ≡ capped (repeats c j)
+repeats_none zero zero e = omega arith
+repeats_none (suc c) zero e = omega arith
+repeats_none c (suc j) e = absurd (omega (arith, e))
+
+pub repeats_some : (c j : ℕ) → (j ≡ 0 → ⊥) → repeats c j ≡ choose (c + (j - 1)) j
+repeats_some c zero o = absurd (o refl)
+repeats_some zero (suc i) o = sym (choose-past (0 + (suc i - 1)) (suc i) (omega arith))
+repeats_some (suc a) (suc i) o = repeats_is a (suc i) ∙ ap (λ n. choose n (suc i)) (let q : a + suc i ≡ suc a + (suc i - 1) = omega arith in q)

@@ -23,3 +23,4 @@ pub mod Binomials
 pub mod PlaneTops
 pub mod FactLemmas
 pub mod Atoms
+pub mod OfPrograms

@@ -15,31 +15,9 @@ use Rattle.luo_model.specs.Invariant.{IsProgram}
 use Rattle.luo_founded.proofs.Bounded.{height_for, members_among}
 use Rattle.luo_model.specs.Founded.{IsFounded}
 use Rattle.luo_finite.proofs.Decided.{Listed-by}
+use Rattle.luo_model.proofs.Unlabelled.{no_labels}
 use Rattle.luo_model.proofs.AllTrees.{trees_to}
 use Rattle.luo_model.proofs.Decisions.{same_tree, structure_decided}
-
--- no structure of the unlabelled universe has a label
-module _ (p : Program) (u : p.universe ≡ Unlabelled) where
-  mutual
-    no_labels : (t : Tree) (s : Shape) → Fits p s t → (y : ℕ) → In y (labels_of t) → ⊥
-    no_labels (Atom w l) (shape.Atom weight) m y i = subst (λ k. In y (label_list k)) (subst (λ v. IsLabel v w l) u m.1) i
-    no_labels (Inj zero t) (shape.Union parts) m y i = absurd m
-    no_labels (Inj (suc k) t) (shape.Union parts) m y i = no_labels t (shape_of p m.0.node) m.2 y i
-    no_labels (Tup ts) (shape.Product parts) m y i = none_of_all ts parts m y i
-    no_labels (Coll ts) (shape.Coll kind part low high) m y i = none_of_each ts part m.1 y i
-    no_labels t s m y i = absurd m
-
-    none_of_all : (ts : Trees) (parts : List Part) → FitAll p parts ts → (y : ℕ) → In y (all_labels_of ts) → ⊥
-    none_of_all none [] m y i = i
-    none_of_all none (part ∷ parts) m y i = absurd m
-    none_of_all (more t ts) [] m y i = absurd m
-    none_of_all (more t ts) (part ∷ parts) m y i =
-        ⊎_elim (λ j. no_labels t (shape_of p part.node) m.0 y j) (λ j. none_of_all ts parts m.1 y j) (In-append_cases y (labels_of t) (all_labels_of ts) i)
-
-    none_of_each : (ts : Trees) (part : Part) → FitEach p part ts → (y : ℕ) → In y (all_labels_of ts) → ⊥
-    none_of_each none part m y i = i
-    none_of_each (more t ts) part m y i =
-        ⊎_elim (λ j. no_labels t (shape_of p part.node) m.0 y j) (λ j. none_of_each ts part m.1 y j) (In-append_cases y (labels_of t) (all_labels_of ts) i)
 
 labels_within : (p : Program) (v : Universe) → p.universe ≡ v → (x : ℕ) (t : Tree) (L : List ℕ) → Member p x t → Carries v L t → (y : ℕ) → In y (labels_of t) → In y (0 ∷ L)
 labels_within p Unlabelled u x t L m c y i = absurd (no_labels p u t (shape_of p x) m y i)

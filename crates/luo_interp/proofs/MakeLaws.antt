@@ -19,6 +19,7 @@ use Rattle.luo_model.specs.Invariant.{IsProgram}
 use Rattle.luo_model.specs.Member.{IsLabel, Fits, FitAll, FitEach, Member}
 use Rattle.luo_model.specs.Scopes.Stands.{inside, itself, stands, factors, IsProductOf, MayBind, bound_parts}
 use Rattle.luo_model.specs.Scopes.Fits.{FitsValue, FitsValues, FitsValueArms}
+use Rattle.luo_model.proofs.Unlabelled.{no_labels, nothing_in}
 use Rattle.luo_founded.proofs.Charged.{parts_in, all_parts_in, Bound}
 use Rattle.luo_interp.specs.Laws.{EachMakesOne}
 use Rattle.luo_interp.specs.Makes.{ValueMakes, ValuesMake, ArmsMake, MakesWithin, Makes}
@@ -124,41 +125,7 @@ within_one p (suc d) (suc e) f s u w m n =
     let r : n.1 ≡ m.1 = some_same n.1 m.1 (sym n.3 ∙ ap (λ (z : Procedure). z.result) P ∙ m.3) in
     value_one (MakesWithin p.procs d) (MakesWithin p.procs e) (within_one p d e) m.1.value (s ∷ []) u w m.4 (subst (λ (z : Result). ValueMakes (MakesWithin p.procs e) z.value (s ∷ []) w) r n.4)
 
--- members of an unlabelled program have no labels
 module _ (p : Program) (plain_atoms : p.universe ≡ Unlabelled) where
-  none_is : (l : ℕ) → l ≡ 0 → label_list l ≡ []
-  none_is l e = ap label_list e
-
-  mutual
-    no_labels : (s : Shape) (t : Tree) → Fits p s t → labels_of t ≡ []
-    no_labels (shape.Atom weight) (Atom w l) m = none_is l (subst (λ u. IsLabel u w l) plain_atoms m.1)
-    no_labels (shape.Atom weight) (Inj i t) m = absurd m
-    no_labels (shape.Atom weight) (Tup ts) m = absurd m
-    no_labels (shape.Atom weight) (Coll ts) m = absurd m
-    no_labels (shape.Union parts) (Atom w l) m = absurd m
-    no_labels (shape.Union parts) (Inj zero t) m = absurd m
-    no_labels (shape.Union parts) (Inj (suc i) t) m = no_labels (shape_of p m.0.node) t m.2
-    no_labels (shape.Union parts) (Tup ts) m = absurd m
-    no_labels (shape.Union parts) (Coll ts) m = absurd m
-    no_labels (shape.Product parts) (Atom w l) m = absurd m
-    no_labels (shape.Product parts) (Inj i t) m = absurd m
-    no_labels (shape.Product parts) (Tup ts) m = none_of_all parts ts m
-    no_labels (shape.Product parts) (Coll ts) m = absurd m
-    no_labels (shape.Coll kind part low high) (Atom w l) m = absurd m
-    no_labels (shape.Coll kind part low high) (Inj i t) m = absurd m
-    no_labels (shape.Coll kind part low high) (Tup ts) m = absurd m
-    no_labels (shape.Coll kind part low high) (Coll ts) m = none_of_each part ts m.1
-
-    none_of_all : (parts : List Part) (ts : Trees) → FitAll p parts ts → all_labels_of ts ≡ []
-    none_of_all [] none m = refl
-    none_of_all [] (more t ts) m = absurd m
-    none_of_all (part ∷ parts) none m = refl
-    none_of_all (part ∷ parts) (more t ts) m = ap (λ l. l ++ all_labels_of ts) (no_labels (shape_of p part.node) t m.0) ∙ none_of_all parts ts m.1
-
-    none_of_each : (part : Part) (ts : Trees) → FitEach p part ts → all_labels_of ts ≡ []
-    none_of_each part none m = refl
-    none_of_each part (more t ts) m = ap (λ l. l ++ all_labels_of ts) (no_labels (shape_of p part.node) t m.0) ∙ none_of_each part ts m.1
-
   -- a structure of this node that a scope of structures with at most so many parts makes
   bound_at : (b : ℕ) (xs : List Part) (ts : List Tree) (var : ℕ) (x : Part) → Bound p b xs ts → slice_get xs var ≡ Some x → (t : Tree) × (slice_get ts var ≡ Some t) × Member p x.node t × (parts_in t ≤ b)
   bound_at b [] [] var x h e = absurd (none_some x e)
@@ -305,4 +272,4 @@ pub each_makes_one : EachMakesOne
 each_makes_one p q founded f P r e k s m =
     let unlabelled = (result_fits p q f P r e k).1 in
     let x = made_exists p unlabelled q founded.no_endless f P r e k s m in
-    (x.0, x.1, x.2, no_labels p unlabelled (shape_of p r.on.node) x.0 x.2, λ other o. within_one p o.0 x.1.0 f s other x.0 o.1 x.1.1)
+    (x.0, x.1, x.2, nothing_in (labels_of x.0) (no_labels p unlabelled x.0 (shape_of p r.on.node) x.2), λ other o. within_one p o.0 x.1.0 f s other x.0 o.1 x.1.1)

@@ -8,7 +8,6 @@ pub mod Steps
 pub mod StatementsKept
 pub mod ValuesKept
 pub mod ProceduresKept
-pub mod SiteNodes
 pub mod RowsKept
 pub mod NodesKept
 pub mod ValueSites

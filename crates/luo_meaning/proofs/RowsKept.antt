@@ -38,7 +38,7 @@ use Rattle.luo_meaning.proofs.Sits.{Sits}
 use Rattle.luo_meaning.proofs.StructuresKept.{member_is_of, of_is_member}
 use Rattle.luo_meaning.proofs.ProceduresKept.{charges_kept}
 use Rattle.luo_model.proofs.WorkLemmas.{sites_are_apart}
-use Rattle.luo_meaning.proofs.SiteNodes.{whole_node_of}
+use Rattle.luo_model.proofs.WholeSites.{whole_site}
 
 -- a source without breach, and its measures
 pub clean_source : (source : Source) → IsSource source → breaches source ≡ [] → Clean source
@@ -131,7 +131,7 @@ module _ (source : Source) (c : Clean source) where
       row_kept row =
           let p = core source in
           let g = proc_get (setting_of source) 0 source.procs f d there in
-          let same_node : (P : Procedure) → slice_get p.procs f ≡ Some P → site_node p P.site ≡ P.on.node = λ P e. whole_node_of p is f P e in (
+          let same_node : (P : Procedure) → slice_get p.procs f ≡ Some P → site_node p P.site ≡ P.on.node = λ P e. whole_site p is f P e in (
             λ h. (
               counts_same (IsStructure p h.0.on.node row.n) (IsStructureOf source (Named d.on) row.n) row.count (structure_same h.0 h.1 row.n) h.2,
               totals_same (IsStructure p h.0.on.node row.n) (IsStructureOf source (Named d.on) row.n) (SiteCharges p h.0.site) (ProcCharges source d.name.text) row.total (structure_same h.0 h.1 row.n) (λ t q. (site_same h.0 h.1 t q).0)

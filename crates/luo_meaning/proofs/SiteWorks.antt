@@ -13,7 +13,7 @@ use Rattle.luo_model.specs.Scopes.Fits.{FitsBody, FitsItems, FitsItem, FitsArms}
 use Rattle.luo_model.specs.Scopes.Sites.{body_sites, items_sites, item_sites, arms_sites}
 use Rattle.luo_model.specs.Invariant.{IsProgram, procedure_sites, placed, sites_from}
 use Rattle.luo_model.proofs.WorkLemmas.{sites_are_apart, works_length, work_at}
-use Rattle.luo_meaning.proofs.SiteNodes.{numbered_get}
+use Rattle.luo_model.proofs.WholeSites.{numbered_get}
 use Rattle.luo_rules.proofs.Lists.{index_get, below_get, get_below, In_get}
 
 -- Q holds of a site, the node of its variable and what is done there

@@ -19,3 +19,5 @@ pub mod MemberFacts
 pub mod ChargeFacts
 pub mod TotalFacts
 pub mod OrderFacts
+pub mod Unlabelled
+pub mod WholeSites

@@ -19,6 +19,7 @@ use Rattle.luo_model.specs.Program.{Program, shape_of}
 use Rattle.luo_model.specs.Member.{Fits, FitAll, FitEach, Member, IsLabel}
 use Rattle.luo_model.specs.Structures.{IsStructureOn, Carries}
 use Rattle.luo_model.specs.Collections.{Bears}
+use Rattle.luo_model.proofs.Unlabelled.{no_labels, nothing_in}
 use Rattle.luo_counting.specs.Sharing.{IsRoom, shares}
 use Rattle.luo_counting.specs.Items.{On}
 use Rattle.luo_counting.specs.Counted.{CountsAt, AreLight}
@@ -33,11 +34,6 @@ use Rattle.luo_places.proofs.Orderings.{then_cases, then_less, then_more, sorted
 use Rattle.luo_places.proofs.Pairs.{both_counted}
 use Rattle.luo_places.proofs.Both.{Place-two}
 
--- no structure of the unlabelled universe has a label
-nothing_in : (l : List ℕ) → ((y : ℕ) → In y l → ⊥) → l ≡ []
-nothing_in [] h = refl
-nothing_in (x ∷ l) h = absurd (h x (inl refl))
-
 -- lists of structures, and trees in a row
 pub list_order : (xs ys : List Tree) → by_parts (from_list xs) (from_list ys) ≡ Less → ListBefore IsBefore xs ys
 list_order [] [] e = absurd (cc)
@@ -50,28 +46,6 @@ order_list [] [] e = absurd e
 order_list [] (y ∷ ys) e = refl
 order_list (x ∷ xs) [] e = absurd e
 order_list (x ∷ xs) (y ∷ ys) e = lex_parts x y (from_list xs) (from_list ys) (⊎_elim (λ l. inl l) (λ k. inr (k.0, order_list xs ys k.1)) e)
-
-module _ (p : Program) (u : p.universe ≡ Unlabelled) where
-  mutual
-    no_labels : (t : Tree) (s : Shape) → Fits p s t → (y : ℕ) → In y (labels_of t) → ⊥
-    no_labels (Atom w l) (shape.Atom weight) m y i = subst (λ k. In y (label_list k)) (subst (λ v. IsLabel v w l) u m.1) i
-    no_labels (Inj zero t) (shape.Union parts) m y i = absurd m
-    no_labels (Inj (suc k) t) (shape.Union parts) m y i = no_labels t (shape_of p m.0.node) m.2 y i
-    no_labels (Tup ts) (shape.Product parts) m y i = none_of_all ts parts m y i
-    no_labels (Coll ts) (shape.Coll kind part low high) m y i = none_of_each ts part m.1 y i
-    no_labels t s m y i = absurd m
-
-    none_of_all : (ts : Trees) (parts : List Part) → FitAll p parts ts → (y : ℕ) → In y (all_labels_of ts) → ⊥
-    none_of_all none [] m y i = i
-    none_of_all none (part ∷ parts) m y i = absurd m
-    none_of_all (more t ts) [] m y i = absurd m
-    none_of_all (more t ts) (part ∷ parts) m y i =
-        ⊎_elim (λ j. no_labels t (shape_of p part.node) m.0 y j) (λ j. none_of_all ts parts m.1 y j) (In-append_cases y (labels_of t) (all_labels_of ts) i)
-
-    none_of_each : (ts : Trees) (part : Part) → FitEach p part ts → (y : ℕ) → In y (all_labels_of ts) → ⊥
-    none_of_each none part m y i = i
-    none_of_each (more t ts) part m y i =
-        ⊎_elim (λ j. no_labels t (shape_of p part.node) m.0 y j) (λ j. none_of_each ts part m.1 y j) (In-append_cases y (labels_of t) (all_labels_of ts) i)
 
 -- structures of a node on the same labels have the same sorted labels
 same_labels : (p : Program) (v : Universe) → p.universe ≡ v → (x n : ℕ) (L : List ℕ) → IsRoom v L n → (s t : Tree) → Member p x s → Member p x t → Carries v L s → Carries v L t → sorted (labels_of s) ≡ sorted (labels_of t)

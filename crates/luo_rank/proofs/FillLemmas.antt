@@ -20,6 +20,7 @@ use Rattle.luo_model.specs.Tables.{IsCount}
 use Rattle.luo_model.proofs.NodeLemmas.{node_at_place}
 use Rattle.luo_counting.specs.Counted.{AreLight, IsLight}
 use Rattle.luo_counting.proofs.Numbered.{room_of}
+use Rattle.luo_counting.proofs.OfPrograms.{light_program}
 use Rattle.luo_founded.proofs.StepsGraph.{step_there, step_within}
 use Rattle.luo_places.specs.Tails.{IsBag}
 use Rattle.luo_relabelling.proofs.LabelMaps.{counts_at}
@@ -65,16 +66,6 @@ module _ (p : Program) where
   pub tables_all : (last m n : ℕ) (rows : List (List ℕ)) → m ≡ n → AreCountRows p last m rows → AreCountRows p last n rows
   tables_all last m n rows e r = subst (λ i. AreCountRows p last i rows) e r
 
-  light : IsProgram p → AreLight p
-  light q e x = ⊎_elim (λ n. subst IsLight (sym n.2) (light_shape p.universe n.0.shape e (q.allowed x n.0 n.1))) (λ s. subst IsLight (sym s) tt) (node_at_place p x)
-    where
-      light_shape : (u : Universe) (s : Shape) → u ≡ Labelled → IsAllowed u s → IsLight s
-      light_shape Labelled (shape.Atom weight) e a = a
-      light_shape Unlabelled (shape.Atom weight) e a = absurd (cc)
-      light_shape u (shape.Union parts) e a = tt
-      light_shape u (shape.Product parts) e a = tt
-      light_shape u (shape.Coll kind part low high) e a = tt
-
   index_past : (xs : List ℕ) (i : ℕ) → length xs ≤ i → slice_index xs i ≡ 0
   index_past [] i h = refl
   index_past (x ∷ xs) zero h = absurd (omega (arith, h))
@@ -103,7 +94,7 @@ counted_is p last reach ranks counts rests planes proper founded few e r c = rec
   reached = omega (arith, e);
   ranked = ranked (plain_of p) proper founded ranks r;
   numbers = record {
-    light = light (plain_of p) proper;
+    light = light_program (plain_of p) proper;
     right = λ x n l h. counts_at (plain_of p) x n (entry_of counts x n) ((c.each x l).right n (omega (arith, h)));
   };
   many = c.long;

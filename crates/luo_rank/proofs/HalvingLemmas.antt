@@ -21,6 +21,7 @@ use Rattle.luo_model.specs.Program.{Program, shape_of}
 use Rattle.luo_model.specs.Member.{Fits, FitAll, FitEach, Member, IsLabel}
 use Rattle.luo_model.specs.Structures.{IsStructure}
 use Rattle.luo_model.specs.Tables.{IsCount}
+use Rattle.luo_model.proofs.Unlabelled.{no_labels, nothing_in}
 use Rattle.luo_counting.specs.Counted.{AreLight}
 use Rattle.luo_counting.proofs.Orders.{trees_ordered}
 use Rattle.luo_counting.proofs.Two.{IsSized}
@@ -29,38 +30,12 @@ use Rattle.luo_struct.specs.Small.{IsSmall}
 use Rattle.luo_rank.specs.inner.Halving.{IsWithin, IsHalf}
 use Rattle.luo_rank.proofs.ListLemmas.{le_or}
 
--- SMALL structures: no structure of the unlabelled universe has a label
-module _ (p : Program) (u : p.universe ≡ Unlabelled) where
-  mutual
-    no_labels : (t : Tree) (s : Shape) → Fits p s t → (y : ℕ) → In y (labels_of t) → ⊥
-    no_labels (Atom w l) (shape.Atom weight) m y i = subst (λ k. In y (label_list k)) (subst (λ v. IsLabel v w l) u m.1) i
-    no_labels (Inj zero t) (shape.Union parts) m y i = absurd m
-    no_labels (Inj (suc k) t) (shape.Union parts) m y i = no_labels t (shape_of p m.0.node) m.2 y i
-    no_labels (Tup ts) (shape.Product parts) m y i = none_of_all ts parts m y i
-    no_labels (Coll ts) (shape.Coll kind part low high) m y i = none_of_each ts part m.1 y i
-    no_labels t s m y i = absurd m
-
-    none_of_all : (ts : Trees) (parts : List Part) → FitAll p parts ts → (y : ℕ) → In y (all_labels_of ts) → ⊥
-    none_of_all none [] m y i = i
-    none_of_all none (part ∷ parts) m y i = absurd m
-    none_of_all (more t ts) [] m y i = absurd m
-    none_of_all (more t ts) (part ∷ parts) m y i =
-        ⊎_elim (λ j. no_labels t (shape_of p part.node) m.0 y j) (λ j. none_of_all ts parts m.1 y j) (In-append_cases y (labels_of t) (all_labels_of ts) i)
-
-    none_of_each : (ts : Trees) (part : Part) → FitEach p part ts → (y : ℕ) → In y (all_labels_of ts) → ⊥
-    none_of_each none part m y i = i
-    none_of_each (more t ts) part m y i =
-        ⊎_elim (λ j. no_labels t (shape_of p part.node) m.0 y j) (λ j. none_of_each ts part m.1 y j) (In-append_cases y (labels_of t) (all_labels_of ts) i)
-
-none_long : (ls : List ℕ) → ((y : ℕ) → In y ls → ⊥) → length ls ≡ 0
-none_long [] h = refl
-none_long (l ∷ ls) h = absurd (h l (inl refl))
-
+-- SMALL structures
 pub small_structure : (p : Program) → AreLight p → (x n : ℕ) (s : Tree) → n ≤ 40 → IsStructure p x n s → IsSmall s
 small_structure p light x n s l m = (omega (arith, m.1, l), by p.universe refl)
   where
     by : (u : Universe) → p.universe ≡ u → length (labels_of s) < 2 ^ 64 - 1
-    by Unlabelled e = let q = none_long (labels_of s) (λ y i. no_labels p e s (shape_of p x) m.0 y i) in omega (arith, q)
+    by Unlabelled e = let q : length (labels_of s) ≡ 0 = ap length (nothing_in (labels_of s) (no_labels p e s (shape_of p x) m.0)) in omega (arith, q)
     by Labelled e =
         let sized : IsSized Labelled (Member p x) size_of labels_of = subst (λ (u : Universe). IsSized u (Member p x) size_of labels_of) e (members_sized p light x) in
         let q : size_of s ≡ length (labels_of s) = sized s m.0 in

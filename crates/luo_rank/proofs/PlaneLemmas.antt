@@ -11,7 +11,7 @@ use Rattle.luo_model.specs.declared.program.Kind.TheVariants.{Sequence, Set, Cyc
 use Rattle.luo_model.specs.declared.program.Universe.TheVariants.{Unlabelled}
 use Rattle.luo_counting.specs.Numbers.{plane, back, chosen, repeats, terms, coll_count}
 use Rattle.luo_counting.proofs.Planes.{back-yes, back-no}
-use Rattle.luo_counting.proofs.Binomials.{repeats_is}
+use Rattle.luo_counting.proofs.Binomials.{repeats_none, repeats_some}
 use Rattle.luo_places.specs.Numbers.{cut}
 use Rattle.luo_places.specs.Tails.{IsBag}
 use Rattle.luo_places.proofs.BagPlaces.{bag_number, cut-number}
@@ -28,16 +28,6 @@ multiset_of Powerset b h = absurd (h refl)
 multiset_of Sequence b h = absurd b
 multiset_of Set b h = absurd b
 multiset_of Cycle b h = absurd b
-
-repeats_none : (c j : ℕ) → j ≡ 0 → 1 ≡ capped (repeats c j)
-repeats_none zero zero e = omega arith
-repeats_none (suc c) zero e = omega arith
-repeats_none c (suc j) e = absurd (omega (arith, e))
-
-repeats_some : (c j : ℕ) → (j ≡ 0 → ⊥) → repeats c j ≡ choose (c + (j - 1)) j
-repeats_some c zero o = absurd (o refl)
-repeats_some zero (suc i) o = sym (choose-past (0 + (suc i - 1)) (suc i) (omega arith))
-repeats_some (suc a) (suc i) o = repeats_is a (suc i) ∙ ap (λ n. choose n (suc i)) (let q : a + suc i ≡ suc a + (suc i - 1) = omega arith in q)
 
 pub chosen_none : (kind : Kind) (c j : ℕ) → IsBag kind → (kind ≡ Powerset → ⊥) → j ≡ 0 → 1 ≡ capped (chosen kind c j)
 chosen_none kind c j b h z = repeats_none c j z ∙ ap (λ (k : Kind). capped (chosen k c j)) (sym (multiset_of kind b h))

@@ -34,6 +34,7 @@ use Rattle.luo_founded.proofs.MadeLemmas.{zero_of_member}
 use Rattle.luo_founded.proofs.OtherParts.{others_by_place}
 use Rattle.luo_recipes.specs.Obeys.{atom_count, Falls, OtherHasNone, Obeys}
 use Rattle.luo_counting.proofs.Atoms.{CountsAt-atom, CountsAt-no_atom}
+use Rattle.luo_counting.proofs.OfPrograms.{light_program, suits_program}
 use Rattle.luo_relabelling.proofs.LabelMaps.{sums_at}
 
 no_part : Part
@@ -42,26 +43,6 @@ no_part = record { node = 0; name = Option.None }
 sums_plain : (c : Part → ℕ → ℕ) (parts : List Part) → sums_in (plain c parts) ≡ map c parts
 sums_plain c [] = refl
 sums_plain c (part ∷ parts) = ap (λ l. c part ∷ l) (sums_plain c parts)
-
-light_of : (s : Shape) → IsAllowed Labelled s → IsLight s
-light_of (shape.Atom weight) h = h
-light_of (shape.Union parts) h = tt
-light_of (shape.Product parts) h = tt
-light_of (shape.Coll kind part low high) h = tt
-
-other_universe : Unlabelled ≡ Labelled → ⊥
-other_universe e = absurd (cc)
-
-suits_of : (u : Universe) (kind : Kind) (low : ℕ) → IsKind u kind → IsLow kind low → Suits u kind low
-suits_of u Sequence low k l = tt
-suits_of Labelled Set low k l = tt
-suits_of Labelled Cycle low k l = l
-suits_of Unlabelled Multiset low k l = tt
-suits_of Unlabelled Powerset low k l = tt
-suits_of Unlabelled Set low k l = absurd (other_universe k)
-suits_of Unlabelled Cycle low k l = absurd (other_universe k)
-suits_of Labelled Multiset low k l = absurd (other_universe (sym k))
-suits_of Labelled Powerset low k l = absurd (other_universe (sym k))
 
 some_tree : {A : Type 0} (l : List A) → (sum_by (λ a. 1) l ≡ 0 → ⊥) → (a : A) × In a l
 some_tree [] n = absurd (n refl)
@@ -86,15 +67,10 @@ module _ (p : Program) (q : IsProgram p) (f : IsFounded p) where
   number_is x n c h = let r = room_of p.universe n in Sums-unique (IsStructureOn p x (labels_from 1 n) n) (λ t. 1) (number x n) c (number_known x n (labels_from 1 n) r) (h (labels_from 1 n) r)
 
   pub light : AreLight p
-  light e x = ⊎_elim (λ n. subst IsLight (sym n.2) (light_of n.0.shape (subst (λ u. IsAllowed u n.0.shape) e (q.allowed x n.0 n.1)))) (λ o. subst IsLight (sym o) tt) (node_at_place p x)
+  light = light_program p q
 
   pub suits : (x low : ℕ) (kind : Kind) (part : Part) (high : Option ℕ) → shape_of p x ≡ shape.Coll kind part low high → Suits p.universe kind low
-  suits x low kind part high is = ⊎_elim
-      (λ n. let a : IsAllowed p.universe (shape.Coll kind part low high) = subst (IsAllowed p.universe) (sym n.2 ∙ is) (q.allowed x n.0 n.1) in suits_of p.universe kind low a.0 a.1)
-      (λ o. absurd (never (sym o ∙ is))) (node_at_place p x)
-    where
-      never : shape.Union [] ≡ shape.Coll kind part low high → ⊥
-      never e = absurd (cc)
+  suits x low kind part high is = suits_program p q x kind part low high is
 
   -- a component has no structure of size 0
   pub solid : (x low : ℕ) (kind : Kind) (part : Part) (high : Option ℕ) → shape_of p x ≡ shape.Coll kind part low high → (t : Tree) → Member p part.node t → size_of t ≡ 0 → ⊥

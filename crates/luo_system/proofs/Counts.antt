@@ -31,6 +31,7 @@ use Rattle.luo_counting.specs.Sharing.{products}
 use Rattle.luo_counting.specs.Items.{Suits}
 use Rattle.luo_counting.specs.Numbers.{coll_count, back}
 use Rattle.luo_counting.specs.Counted.{CountsAt, IsLight, AreLight}
+use Rattle.luo_counting.proofs.OfPrograms.{light_program, suits_program}
 use Rattle.luo_counting.proofs.Two.{IsSized}
 use Rattle.luo_counting.proofs.TreeCollections.{node_known, members_sized, count_of_all}
 use Rattle.luo_counting.proofs.TreeParts.{Factor, parts_in, HasNoEmpty, SomeHasNoEmpty, AreBelow, AreAt, SumsAt-union}
@@ -43,29 +44,6 @@ use Rattle.luo_equation.proofs.CountLaws.{coll-pos}
 use Rattle.luo_model.specs.Scopes.Stands.{no_part}
 use Rattle.luo_system.proofs.Steps.{by_size_and_step}
 use Rattle.luo_system.proofs.Values.{sums_in, products_in, shape_value}
-
--- ---- what every program keeps
-pub light_program : (p : Program) → IsProgram p → AreLight p
-light_program p q e x = ⊎_elim (λ n. subst IsLight (sym n.2) (light_shape p.universe n.0.shape e (q.allowed x n.0 n.1))) (λ s. subst IsLight (sym s) tt) (node_at_place p x)
-  where
-    light_shape : (u : Universe) (s : Shape) → u ≡ Labelled → IsAllowed u s → IsLight s
-    light_shape Labelled (shape.Atom weight) e a = a
-    light_shape Unlabelled (shape.Atom weight) e a = absurd (cc)
-    light_shape u (shape.Union parts) e a = tt
-    light_shape u (shape.Product parts) e a = tt
-    light_shape u (shape.Coll kind part low high) e a = tt
-
-pub suits_program : (p : Program) → IsProgram p → (x : ℕ) (kind : Kind) (part : Part) (low : ℕ) (high : Option ℕ) → shape_of p x ≡ shape.Coll kind part low high → Suits p.universe kind low
-suits_program p q x kind part low high is = ⊎_elim
-    (λ n. let a = subst (IsAllowed p.universe) (sym n.2 ∙ is) (q.allowed x n.0 n.1) in suits p.universe kind low a.0 a.1)
-    (λ s. absurd (let e : shape.Union [] ≡ shape.Coll kind part low high = sym s ∙ is in cc)) (node_at_place p x)
-  where
-    suits : (u : Universe) (kind : Kind) (low : ℕ) → IsKind u kind → IsLow kind low → Suits u kind low
-    suits u Sequence low k l = tt
-    suits u Set low k l = subst (λ v. Suits v Set low) (sym k) tt
-    suits u Cycle low k l = subst (λ v. Suits v Cycle low) (sym k) l
-    suits u Multiset low k l = subst (λ v. Suits v Multiset low) (sym k) tt
-    suits u Powerset low k l = subst (λ v. Suits v Powerset low) (sym k) tt
 
 module _ (p : Program) (q : IsProgram p) (f : IsFounded p) where
   light : AreLight p

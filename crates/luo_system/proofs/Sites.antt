@@ -90,36 +90,6 @@ numbered_apart : (k : ℕ) (l : List Site) → NoDouble (firsts (numbered_from k
 numbered_apart k [] = tt
 numbered_apart k (s ∷ l) = ((λ i. let h : k + 1 ≤ k = numbered_above (k + 1) l k i in omega (arith, h)), numbered_apart (k + 1) l)
 
-numbered_get : (k : ℕ) (l : List Site) (x : ℕ) (s : Site) → In (x, s) (numbered_from k l) → (j : ℕ) × (x ≡ k + j) × (slice_get l j ≡ Some s)
-numbered_get k [] x s i = absurd i
-numbered_get k (y ∷ l) x s (inl e) = (0, ap (λ w. w.0) e ∙ (let z : k ≡ k + 0 = omega arith in z), ap Some (sym (ap (λ w. w.1) e)))
-numbered_get k (y ∷ l) x s (inr i) = let r = numbered_get (k + 1) l x s i in (suc r.0, omega (arith, r.1), r.2)
-
-placed_in : (caller place : ℕ) (l : List (ℕ × ℕ)) (x y : ℕ) → In (x, y) l → (k : ℕ) × In (x, record { node = y; caller = caller; place = k }) (placed caller place l)
-placed_in caller place [] x y i = absurd i
-placed_in caller place (w ∷ l) x y (inl e) = (place, inl (λ i. ((e i).0, record { node = (e i).1; caller = caller; place = place })))
-placed_in caller place (w ∷ l) x y (inr i) = let r = placed_in caller (place + 1) l x y i in (r.0, inr r.1)
-
-site_in : (p : Program) (Ps : List Procedure) (k g : ℕ) (P : Procedure) → slice_get Ps g ≡ Some P → (s : Site) × In (P.site, s) (sites_from p k Ps) × (s.node ≡ P.on.node)
-site_in p [] k g P e = absurd (none_some P e)
-site_in p (Q ∷ Ps) k zero P e =
-    let same : Q ≡ P = some_same Q P e in
-    let r = placed_in k 0 (procedure_sites p Q) Q.site Q.on.node (In-append_right (Q.site, Q.on.node) (body_sites p (Q.on ∷ []) Q.body) ((Q.site, Q.on.node) ∷ []) (inl refl)) in
-    let s : Site = record { node = Q.on.node; caller = k; place = r.0 } in (
-      s,
-      subst (λ (R : Procedure). In (R.site, s) (sites_from p k (Q ∷ Ps))) same (In-append_left (Q.site, s) (placed k 0 (procedure_sites p Q)) (sites_from p (k + 1) Ps) r.1),
-      ap
-          (λ (R : Procedure). R.on.node) same,
-    )
-site_in p (Q ∷ Ps) k (suc g) P e = let r = site_in p Ps (k + 1) g P e in (r.0, In-append_right (P.site, r.0) (placed k 0 (procedure_sites p Q)) (sites_from p (k + 1) Ps) r.1, r.2)
-
 -- THE LAWS
 pub sites_apart : (p : Program) → IsProgram p → SitesAreApart p
 sites_apart p q = subst NoDouble (sym (all_firsts p p.procs 0 (λ g P e. (q.procedures g P e).1) ∙ ap firsts q.sites)) (numbered_apart 0 p.sites)
-
-pub whole_site : (p : Program) → IsProgram p → (g : ℕ) (P : Procedure) → slice_get p.procs g ≡ Some P → site_node p P.site ≡ P.on.node
-whole_site p q g P e =
-    let r = site_in p p.procs 0 g P e in
-    let n = numbered_get 0 p.sites P.site r.0 (subst (In (P.site, r.0)) q.sites r.1) in
-    let at : slice_get p.sites P.site ≡ Some r.0 = subst (λ j. slice_get p.sites j ≡ Some r.0) (let z : n.0 ≡ P.site = omega (arith, n.1) in z) n.2 in
-    ap (λ (s : Site). s.node) (get_or_from_slice_get p.sites P.site r.0 (record { node = 0; caller = 0; place = 0 }) at) ∙ r.2

@@ -28,7 +28,8 @@ use Rattle.luo_system.proofs.Counts.{count_of, count_is, count_one}
 use Rattle.luo_system.proofs.Unique.{one_table}
 use Rattle.luo_system.proofs.Right.{total_of, right_of, right_series, right_tau, other_series, other_tau, right_parts, taus_right, series_right, all_right}
 use Rattle.luo_system.proofs.Charging.{charge_of, charge_is}
-use Rattle.luo_system.proofs.Sites.{sites_apart, whole_site}
+use Rattle.luo_model.proofs.WholeSites.{whole_site}
+use Rattle.luo_system.proofs.Sites.{sites_apart}
 use Rattle.luo_system.specs.Truth.{RightTablesHold, RightTablesExist, HoldingTablesAreRight, SystemsDescribe, RightTablesHaveRows, SystemsHaveTables}
 use Rattle.luo_system.proofs.Exact.{part_exact, body_exact}
 

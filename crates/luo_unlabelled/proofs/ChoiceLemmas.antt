@@ -7,16 +7,6 @@ use Rattle.luo_counting.specs.Numbers.{repeats, repeat_totals, subset_totals}
 use Rattle.luo_finite.proofs.Binomials.{choose-past}
 use Rattle.luo_counting.proofs.Binomials.{repeats_is}
 
-pub repeats_none : (c j : ℕ) → j ≡ 0 → 1 ≡ capped (repeats c j)
-repeats_none zero zero e = omega arith
-repeats_none (suc c) zero e = omega arith
-repeats_none c (suc j) e = absurd (omega (arith, e))
-
-pub repeats_some : (c j : ℕ) → (j ≡ 0 → ⊥) → repeats c j ≡ choose (c + (j - 1)) j
-repeats_some c zero o = absurd (o refl)
-repeats_some zero (suc i) o = sym (choose-past (0 + (suc i - 1)) (suc i) (omega arith))
-repeats_some (suc a) (suc i) o = repeats_is a (suc i) ∙ ap (λ n. choose n (suc i)) (let q : a + suc i ≡ suc a + (suc i - 1) = omega arith in q)
-
 times_marked : (t x c : ℕ) → x ≡ capped c → capped (t * x) ≡ capped (t * c)
 times_marked t x c e = ap (λ i. capped (t * i)) e ∙ sym (capped-mul t (capped c)) ∙ (let q : capped (capped c) ≡ capped c = omega arith in ap (λ i. capped (capped t * i)) q) ∙ capped-mul t c
 

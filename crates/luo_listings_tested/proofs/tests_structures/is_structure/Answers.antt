@@ -4,7 +4,7 @@ use Rattle.luo_model.specs.Tree.{size_of}
 use Rattle.luo_model.specs.View.{Held, plain_of}
 use Rattle.luo_struct.specs.View.{tree_of}
 use Rattle.luo_rank.proofs.HalvingLemmas.{small_structure}
-use Rattle.luo_system.proofs.Counts.{light_program}
+use Rattle.luo_counting.proofs.OfPrograms.{light_program}
 use Rattle.luo_listings_tested.proofs.tests_structures.is_structure.Goals as goal
 
 pub returns-clause-small : goal.returns-clause-small

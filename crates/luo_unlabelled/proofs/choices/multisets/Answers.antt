@@ -1,6 +1,6 @@
 use Rattle.std.proofs.Common.{ap, sym, ◌∙◌}
 use Rattle.luo_num.specs.Mark.{capped}
-use Rattle.luo_unlabelled.proofs.ChoiceLemmas.{repeats_none, repeats_some}
+use Rattle.luo_counting.proofs.Binomials.{repeats_none, repeats_some}
 use Rattle.luo_unlabelled.proofs.choices.multisets.Goals as goal
 
 pub returns-then-j-eq0 : goal.returns-then-j-eq0

@@ -9,7 +9,7 @@ use Rattle.luo_model.specs.Program.{Program, Procedure, site_node}
 use Rattle.luo_model.specs.Scopes.Sites.{body_sites}
 use Rattle.luo_model.specs.Invariant.{IsProgram, procedure_sites, placed, sites_from, numbered_from}
 
-numbered_get : (k : ℕ) (l : List Site) (x : ℕ) (s : Site) → In (x, s) (numbered_from k l) → (j : ℕ) × (x ≡ k + j) × (slice_get l j ≡ Some s)
+pub numbered_get : (k : ℕ) (l : List Site) (x : ℕ) (s : Site) → In (x, s) (numbered_from k l) → (j : ℕ) × (x ≡ k + j) × (slice_get l j ≡ Some s)
 numbered_get k [] x s i = absurd i
 numbered_get k (y ∷ l) x s (inl e) = (0, ap (λ w. w.0) e ∙ (let z : k ≡ k + 0 = omega arith in z), ap Some (sym (ap (λ w. w.1) e)))
 numbered_get k (y ∷ l) x s (inr i) = let r = numbered_get (k + 1) l x s i in (suc r.0, omega (arith, r.1), r.2)
