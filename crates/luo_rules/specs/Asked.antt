@@ -2,6 +2,7 @@
 -- the scope in which it stands.
 use Rattle.std.specs.Prelude.{ℕ, suc, ◌+◌, List, [], ◌∷◌, ◌++◌, map, flat_map, length, Option, Some, None, Bool, nat_eq, if◌then◌else◌, codes, decimal}
 use Rattle.luo_model.specs.declared.program.Kind.{Kind}
+use Rattle.luo_model.specs.declared.program.Part.{Part}
 use Rattle.luo_model.specs.declared.program.Shape.{Shape}
 use Rattle.luo_model.specs.declared.program.Shape.TheVariants as shape
 use Rattle.luo_model.specs.Scopes.Stands.{Stand}
@@ -121,7 +122,7 @@ arm_asked s stand var p body =
     ++ (matches stand var p
     ∷ (repeats_asked [] (factor_names p) ++ (if fits s stand p then body else [])))
 
-abbrev pub arms_inside : Setting → Option (ℕ × ℕ) → ℕ → List Asked → List Asked
+abbrev pub arms_inside : Setting → Option (ℕ × Part) → ℕ → List Asked → List Asked
 arms_inside s None arms inner = []
 arms_inside s (Some variable) arms inner =
     if nat_eq arms (length (case_stands s (Some variable))) then inner else []
@@ -134,9 +135,9 @@ abbrev pub of_collection : Shape → List Asked → List Asked
 of_collection (shape.Coll kind part low high) inner = inner
 of_collection _ inner = []
 
-abbrev pub walk_inside : Setting → Option (ℕ × ℕ) → List Asked → List Asked
+abbrev pub walk_inside : Setting → Option (ℕ × Part) → List Asked → List Asked
 walk_inside s None inner = []
-walk_inside s (Some variable) inner = of_collection (shape_at s variable.1) inner
+walk_inside s (Some variable) inner = of_collection (shape_at s variable.1.node) inner
 
 -- ---- statements
 
@@ -153,7 +154,7 @@ abbrev mutual
   stmt_asked s scope (Forall' var source size body) =
       reads scope source ∷ (walks scope source
       ∷ walk_inside s (found scope source)
-      (stmts_asked s (record { name = var.text; node = walked s (found scope source) } ∷ []) body))
+      (stmts_asked s (record { name = var.text; part = walked s (found scope source) } ∷ []) body))
 
   pub stmts_asked : Setting → List Variable → {n : _} → Row_of-Stmt n → List Asked
   stmts_asked s scope end_of-Stmt = []

@@ -4,6 +4,7 @@ use Rattle.luo_finite.specs.Listing.{In}
 use Rattle.luo_model.specs.declared.program.Universe.TheVariants.{Unlabelled, Labelled}
 use Rattle.luo_model.specs.declared.program.Kind.{Kind}
 use Rattle.luo_model.specs.declared.program.Kind.TheVariants.{Cycle}
+use Rattle.luo_model.specs.declared.program.Part.{Part}
 use Rattle.luo_model.specs.declared.program.Shape.{Shape}
 use Rattle.luo_model.specs.Scopes.Stands.{Stand, IsCollection}
 use Rattle.luo_model.specs.Invariant.{IsKind, IsLow, greatest_weight}
@@ -87,22 +88,22 @@ pub data Breaks (defs : List Definition) (s : Setting) : Asked → Breach → Ty
   heavy : {weight at : ℕ} → greatest_weight s.universe < weight
       → Breaks defs s (weighs weight at) (at_token Y8 at (decimal weight))
   -- an argument is of another node than the parameter
-  other_argument : {scope : List Variable} {arg callee : Name} (variable : ℕ × ℕ) (node : ℕ)
+  other_argument : {scope : List Variable} {arg callee : Name} (variable : ℕ × Part) (node : ℕ)
       → found scope arg ≡ Some variable → (signature_meant s (meant s callee)).on ≡ Some node
-      → (variable.1 ≡ node → ⊥)
+      → (variable.1.node ≡ node → ⊥)
       → Breaks defs s (hands scope arg callee)
       (record { rule = Y9; token = arg.at; names = arg.text ∷ callee.text ∷ [] })
   -- a case has not as many arms as there are things for them to stand for: branches of a union, one
   -- for a product, and nothing else
-  other_arms : {scope : List Variable} {var : Name} {arms : ℕ} (variable : ℕ × ℕ)
+  other_arms : {scope : List Variable} {var : Name} {arms : ℕ} (variable : ℕ × Part)
       → found scope var ≡ Some variable → (arms ≡ length (case_stands s (Some variable)) → ⊥)
       → Breaks defs s (cases scope var arms) (at_name Y10 var)
   -- a pattern doesn't fit
   misfit : {stand : Stand} {var : Name} {p : Pattern} → IsTyped s p → IsFalse (fits s stand p)
       → Breaks defs s (matches stand var p) (at_token Y11 (first_token p) var.text)
   -- a walk is over what is no collection
-  no_collection : {scope : List Variable} {var : Name} (variable : ℕ × ℕ)
-      → found scope var ≡ Some variable → (IsCollection (shape_at s variable.1) → ⊥)
+  no_collection : {scope : List Variable} {var : Name} (variable : ℕ × Part)
+      → found scope var ≡ Some variable → (IsCollection (shape_at s variable.1.node) → ⊥)
       → Breaks defs s (walks scope var) (at_name Y12 var)
   -- a variable isn't bound by its scope
   unbound : {scope : List Variable} {var : Name} → found scope var ≡ None
@@ -112,8 +113,8 @@ pub data Breaks (defs : List Definition) (s : Setting) : Asked → Breach → Ty
       → Breaks defs s (results colon name) (at_token Y14 colon name.text)
   -- where a structure of a node is expected, there is a variable of another, a procedure with
   -- another result or with none, or a construct that isn't the node's
-  other_variable : {scope : List Variable} {var : Name} (node : ℕ) (variable : ℕ × ℕ)
-      → found scope var ≡ Some variable → (variable.1 ≡ node → ⊥)
+  other_variable : {scope : List Variable} {var : Name} (node : ℕ) (variable : ℕ × Part)
+      → found scope var ≡ Some variable → (variable.1.node ≡ node → ⊥)
       → Breaks defs s (gives scope (Some node) var) (at_name Y15 var)
   no_result : {callee : Name} (node : ℕ) → IsProcedure s callee
       → (signature_meant s (meant s callee)).result ≡ None

@@ -6,6 +6,7 @@ use Rattle.luo_source.specs.declared.statements.Pattern.{Pattern}
 use Rattle.luo_source.specs.declared.statements.Pattern.TheVariants.{Named, NamedWhole, NamedParts, Parts, Any, AnyWhole}
 use Rattle.luo_model.specs.declared.body.Bind.{Bind}
 use Rattle.luo_model.specs.declared.body.Bind.TheVariants as bind
+use Rattle.luo_model.specs.declared.program.Part.{Part}
 use Rattle.luo_model.specs.declared.program.Shape.{Shape}
 use Rattle.luo_model.specs.declared.program.Shape.TheVariants as shape
 use Rattle.luo_model.specs.Scopes.Stands.{Stand, inside, itself, stand_part, factors}
@@ -47,8 +48,8 @@ fits_product s x (Any at) = true
 fits_product s x _ = false
 
 abbrev pub fits : Setting → Stand → Pattern → Bool
-fits s (inside y) pattern = fits_branch s y pattern
-fits s (itself x) pattern = fits_product s x pattern
+fits s (inside part) pattern = fits_branch s part.node pattern
+fits s (itself part) pattern = fits_product s part.node pattern
 
 -- the first token of a pattern
 abbrev pub first_token : Pattern → ℕ
@@ -102,20 +103,20 @@ bind_of (Parts names at) = bind.Parts (length names)
 bind_of (Any at) = bind.Nothing
 bind_of (AnyWhole name at) = bind.Whole
 
--- variables of these names and nodes, one of each
-abbrev pub variables : List Name → List ℕ → List Variable
-variables (name ∷ names) (node ∷ nodes) =
-    record { name = name.text; node = node } ∷ variables names nodes
+-- variables of these names and parts, one of each
+abbrev pub variables : List Name → List Part → List Variable
+variables (name ∷ names) (part ∷ parts) =
+    record { name = name.text; part = part } ∷ variables names parts
 variables _ _ = []
 
 -- the variables that the pattern binds, in an arm that stands for this
 abbrev pub bound : Setting → Stand → Pattern → List Variable
 bound s stand (Named type) = []
-bound s stand (NamedWhole type name) = record { name = name.text; node = stand_node stand } ∷ []
-bound s stand (NamedParts type names) = variables names (factors (shape_at s (stand_node stand)))
-bound s stand (Parts names at) = variables names (factors (shape_at s (stand_node stand)))
+bound s stand (NamedWhole type name) = record { name = name.text; part = stand_part stand } ∷ []
+bound s stand (NamedParts type names) = variables names (factors (shape_at s (stand_part stand).node))
+bound s stand (Parts names at) = variables names (factors (shape_at s (stand_part stand).node))
 bound s stand (Any at) = []
-bound s stand (AnyWhole name at) = record { name = name.text; node = stand_node stand } ∷ []
+bound s stand (AnyWhole name at) = record { name = name.text; part = stand_part stand } ∷ []
 
 -- the breaches of an arm: those of its pattern, and those of its body, which are spoken of where
 -- the pattern fits
@@ -125,7 +126,7 @@ arm_breaches s stand var pattern body =
 
 -- the breaches of a case on a variable: it is bound, there are as many arms as things to stand for,
 -- and then those of the arms
-abbrev pub case_breaches : Setting → Option (ℕ × ℕ) → Name → ℕ → List Breach → List Breach
+abbrev pub case_breaches : Setting → Option (ℕ × Part) → Name → ℕ → List Breach → List Breach
 case_breaches s None var arms inner = broken_at Y13 var
 case_breaches s (Some variable) var arms inner =
     if nat_eq arms (length (case_stands s (Some variable))) then inner else broken_at Y10 var

@@ -1,8 +1,9 @@
 -- The breaches of statements, in text order.
 use Rattle.std.specs.Prelude.{ℕ, suc, List, [], ◌∷◌, ◌++◌, Option, Some, None}
+use Rattle.luo_model.specs.declared.program.Part.{Part}
 use Rattle.luo_model.specs.declared.program.Shape.{Shape}
 use Rattle.luo_model.specs.declared.program.Shape.TheVariants as shape
-use Rattle.luo_model.specs.Scopes.Stands.{Stand, component}
+use Rattle.luo_model.specs.Scopes.Stands.{Stand, component, no_part}
 use Rattle.luo_source.specs.declared.names.Name.{Name}
 use Rattle.luo_source.specs.declared.statements.Stmt.{Stmt, Skip, Charge, Call, Block', Case', Forall', Row_of-Stmt, end_of-Stmt, more_of-Stmt, Row_of-SourceArm, end_of-SourceArm, more_of-SourceArm}
 use Rattle.luo_rules.specs.declared.rule.Breach.{Breach}
@@ -18,10 +19,10 @@ abbrev pub count_arms : {n : _} → Row_of-SourceArm n → ℕ
 count_arms end_of-SourceArm = 0
 count_arms (more_of-SourceArm pattern body rest) = suc (count_arms rest)
 
--- the node of what a walk over a variable binds
-abbrev pub walked : Setting → Option (ℕ × ℕ) → ℕ
-walked s None = 0
-walked s (Some variable) = component (shape_at s variable.1)
+-- the part of what a walk over a variable binds
+abbrev pub walked : Setting → Option (ℕ × Part) → Part
+walked s None = no_part
+walked s (Some variable) = component (shape_at s variable.1.node)
 
 -- a walk over a variable of this construct: it is a collection, and then the breaches of the body
 abbrev pub walk_into : Shape → Name → List Breach → List Breach
@@ -29,9 +30,9 @@ walk_into (shape.Coll kind part low high) source inner = inner
 walk_into _ source inner = broken_at Y12 source
 
 -- a walk over a variable: it is bound, and of a collection
-abbrev pub walk_breaches : Setting → Option (ℕ × ℕ) → Name → List Breach → List Breach
+abbrev pub walk_breaches : Setting → Option (ℕ × Part) → Name → List Breach → List Breach
 walk_breaches s None source inner = broken_at Y13 source
-walk_breaches s (Some variable) source inner = walk_into (shape_at s variable.1) source inner
+walk_breaches s (Some variable) source inner = walk_into (shape_at s variable.1.node) source inner
 
 abbrev mutual
   -- the breaches of a statement in a scope
@@ -48,7 +49,7 @@ abbrev mutual
   stmt_breaches s scope (Forall' var source size body) =
       walk_breaches s (found scope source) source
       (stmts_breaches s
-      (record { name = var.text; node = walked s (found scope source) } ∷ []) body)
+      (record { name = var.text; part = walked s (found scope source) } ∷ []) body)
 
   pub stmts_breaches : Setting → List Variable → {n : _} → Row_of-Stmt n → List Breach
   stmts_breaches s scope end_of-Stmt = []

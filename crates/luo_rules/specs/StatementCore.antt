@@ -60,7 +60,7 @@ abbrev mutual
       plain.item (plain.Forall (variable scope source)
       (plain.Does (stmts_own s body)
       (stmts_items s
-      (record { name = var.text; node = walked s (found scope source) } ∷ []) first body))
+      (record { name = var.text; part = walked s (found scope source) } ∷ []) first body))
       (first + stmts_sites body) (first + stmts_sites body + 1)) plain.no_items
   stmt_items s scope first _ = plain.no_items
 

@@ -1,5 +1,5 @@
 -- The breaches of a value, in text order.
-use Rattle.std.specs.Prelude.{ℕ, zero, suc, List, [], ◌∷◌, ◌++◌, Option, Some, None, is_some, Bool, true, false, not, nat_eq, if◌then◌else◌, codes, decimal}
+use Rattle.std.specs.Prelude.{ℕ, zero, suc, List, [], ◌∷◌, ◌++◌, map, Option, Some, None, is_some, Bool, true, false, not, nat_eq, if◌then◌else◌, codes, decimal}
 use Rattle.luo_source.specs.declared.names.Name.{Name}
 use Rattle.luo_source.specs.declared.values.SourceValue.{SourceValue, Given, Made, Atom, Tuple', Branch', Case', Row_of-SourceValue, end_of-SourceValue, more_of-SourceValue, Row_of-SourceValueArm, end_of-SourceValueArm, more_of-SourceValueArm}
 use Rattle.luo_model.specs.declared.program.Part.{Part}
@@ -21,10 +21,10 @@ differs None node = false
 differs (Some expected) node = not (nat_eq node expected)
 
 -- a variable that is handed on: it is bound, and of the node that is expected
-abbrev pub given_breaches : Option (ℕ × ℕ) → Option ℕ → Name → List Breach
+abbrev pub given_breaches : Option (ℕ × Part) → Option ℕ → Name → List Breach
 given_breaches None expected name = broken_at Y13 name
 given_breaches (Some variable) expected name =
-    if differs expected variable.1 then broken_at Y15 name else []
+    if differs expected variable.1.node then broken_at Y15 name else []
 
 -- a callee has a result of the node that is expected, where both are known
 abbrev pub result_breaches : Option ℕ → Option (Option ℕ) → Name → List Breach
@@ -51,7 +51,8 @@ may_stand s (Some expected) test = test (shape_at s expected)
 abbrev pub part_nodes : Setting → Option ℕ → ℕ → List ℕ
 part_nodes s None k = []
 part_nodes s (Some expected) k =
-    if has_factors k (shape_at s expected) then factors (shape_at s expected) else []
+    if has_factors k (shape_at s expected) then map (λ part. part.node) (factors (shape_at s expected))
+    else []
 
 -- the node of a part
 abbrev pub branch_at : List Part → ℕ → Option ℕ

@@ -33,21 +33,21 @@ abbrev pub result_breaches : Universe → ℕ → Name → List Breach
 result_breaches Unlabelled colon name = []
 result_breaches Labelled colon name = broken Y14 colon name.text
 
--- the scope of a procedure: its parameter, of this node
-abbrev pub parameter : Name → ℕ → List Variable
-parameter name node = record { name = name.text; node = node } ∷ []
+-- the scope of a procedure: its parameter, of the type that its name means
+abbrev pub parameter : Setting → ProcDef → List Variable
+parameter s p = record { name = p.param.text; part = part_meant s (meant s p.on) } ∷ []
 
 -- the breaches of a procedure's body; those inside are spoken of where the type of the parameter is
 -- known
 abbrev pub body_breaches : Setting → ProcDef → Option ℕ → ProcBody → List Breach
 body_breaches s p None (Statements stmts) = []
 body_breaches s p (Some node) (Statements stmts) =
-    flat_map (stmt_breaches s (parameter p.param node)) stmts
+    flat_map (stmt_breaches s (parameter s p)) stmts
 body_breaches s p None (Value colon result value) =
     result_breaches s.universe colon p.name ++ type_use (meant s result) result
 body_breaches s p (Some node) (Value colon result value) =
     result_breaches s.universe colon p.name ++ type_use (meant s result) result
-    ++ value_breaches s (parameter p.param node) (type_node s result) value
+    ++ value_breaches s (parameter s p) (type_node s result) value
 
 -- the breaches of procedure f
 abbrev pub proc_breaches : Setting → ℕ → ProcDef → List Breach
@@ -74,37 +74,31 @@ items_of s scope first [] = plain.no_items
 items_of s scope first (stmt ∷ stmts) =
     join_items (stmt_items s scope first stmt) (items_of s scope (first + stmt_sites stmt) stmts)
 
-abbrev pub node_or : Option ℕ → ℕ
-node_or None = 0
-node_or (Some node) = node
-
 -- the value that a procedure with a result makes
 abbrev pub made_value : Setting → ProcDef → ProcBody → Option plain.Value
 made_value s p (Statements stmts) = None
 made_value s p (Value colon result value) =
-    Some (value_core s (parameter p.param (node_or (type_node s p.on))) (type_node s result) value)
+    Some (value_core s (parameter s p) (type_node s result) value)
 
 abbrev pub body_core : Setting → ProcDef → ℕ → ProcBody → plain.Body
 body_core s p first (Statements stmts) =
     plain.Does (sum_by (stmt_own s) stmts)
-    (items_of s (parameter p.param (node_or (type_node s p.on))) first stmts)
+    (items_of s (parameter s p) first stmts)
 body_core s p first (Value colon result value) =
     value_body first
-    (value_core s (parameter p.param (node_or (type_node s p.on))) (type_node s result) value)
+    (value_core s (parameter s p) (type_node s result) value)
 
 abbrev pub sites_of : Setting → ProcDef → ProcBody → ℕ
 sites_of s p (Statements stmts) = sum_by stmt_sites stmts
 sites_of s p (Value colon result value) =
-    value_sites (value_core s (parameter p.param (node_or (type_node s p.on)))
-    (type_node s result) value)
+    value_sites (value_core s (parameter s p) (type_node s result) value)
 
 abbrev pub result_core : Setting → ProcDef → ProcBody → Option plain.Result
 result_core s p (Statements stmts) = None
 result_core s p (Value colon result value) =
     Some (record {
       on = part_meant s (meant s result);
-      value = value_core s
-          (parameter p.param (node_or (type_node s p.on))) (type_node s result) value;
+      value = value_core s (parameter s p) (type_node s result) value;
     })
 
 -- a procedure whose sites have numbers from this one on, its whole last

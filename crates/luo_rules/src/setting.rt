@@ -26,11 +26,11 @@ pub struct Setting {
     pub signatures: Items<Signature>,
 }
 
-/// A variable of a scope, and the node of its structure.
+/// A variable of a scope, and the part that stands there: the node of its structure, with the name of a type where one is written.
 #[derive(Debug, Drop)]
 pub struct Variable {
     pub name: Text,
-    pub node: usize,
+    pub part: Part,
 }
 
 impl Setting {
