@@ -4,6 +4,7 @@ use Rattle.std.specs.Prelude.{if◌then◌else◌, codes, decimal, flat_map}
 use Rattle.std.proofs.lemmas.Grind.{flat_map-append}
 use Rattle.std.proofs.lemmas.List.Folds.{flat_map-map}
 use Rattle.luo_model.specs.declared.program.Kind.{Kind}
+use Rattle.luo_model.specs.declared.program.Part.{Part}
 use Rattle.luo_model.specs.declared.program.Shape.{Shape}
 use Rattle.luo_model.specs.declared.program.Shape.TheVariants as shape
 use Rattle.luo_model.specs.Invariant.{greatest_weight}
@@ -52,7 +53,7 @@ use_of a_measure m name = measure_use m name
 use_of a_procedure m name = procedure_use m name
 
 -- what is broken where a variable is bound
-abbrev pub if_bound : Option (ℕ × ℕ) → List Breach → List Breach
+abbrev pub if_bound : Option (ℕ × Part) → List Breach → List Breach
 if_bound None bs = []
 if_bound (Some variable) bs = bs
 
@@ -187,7 +188,7 @@ module _ (defs : List Definition) (s : Setting) where
   agreed true bs qs ten e = e
   agreed false bs qs ten e = sym (append_nil ten)
 
-  case_by : (o : Option (ℕ × ℕ)) (var : Name) (arms : ℕ) (bs : List Breach) (qs : List Asked) → bs ≡ all defs s qs
+  case_by : (o : Option (ℕ × Part)) (var : Name) (arms : ℕ) (bs : List Breach) (qs : List Asked) → bs ≡ all defs s qs
       → case_breaches s o var arms bs ≡ variable_use o var ++ (if_bound o (case_breaches s o var arms []) ++ all defs s (arms_inside s o arms qs))
   case_by None var arms bs qs e = refl
   case_by (Some variable) var arms bs qs e = agreed (nat_eq arms (length (case_stands s (Some variable)))) bs qs (broken_at Y10 var) e
@@ -201,16 +202,16 @@ module _ (defs : List Definition) (s : Setting) where
   into_all (shape.Union parts) var bs qs e = refl
   into_all (shape.Product parts) var bs qs e = refl
 
-  walk_by : (o : Option (ℕ × ℕ)) (var : Name) (bs : List Breach) (qs : List Asked) → bs ≡ all defs s qs
+  walk_by : (o : Option (ℕ × Part)) (var : Name) (bs : List Breach) (qs : List Asked) → bs ≡ all defs s qs
       → walk_breaches s o var bs ≡ variable_use o var ++ (if_bound o (walk_breaches s o var []) ++ all defs s (walk_inside s o qs))
   walk_by None var bs qs e = refl
-  walk_by (Some variable) var bs qs e = into_all (shape_at s variable.1) var bs qs e
+  walk_by (Some variable) var bs qs e = into_all (shape_at s variable.1.node) var bs qs e
 
-  handed : (o : Option (ℕ × ℕ)) (on : Option ℕ) (arg callee : Name) → argument_breaches o on arg callee ≡ variable_use o arg ++ (if_bound o (argument_breaches o on arg callee) ++ [])
+  handed : (o : Option (ℕ × Part)) (on : Option ℕ) (arg callee : Name) → argument_breaches o on arg callee ≡ variable_use o arg ++ (if_bound o (argument_breaches o on arg callee) ++ [])
   handed None on arg callee = refl
   handed (Some variable) on arg callee = sym (append_nil (argument_breaches (Some variable) on arg callee))
 
-  given : (o : Option (ℕ × ℕ)) (expected : Option ℕ) (var : Name) → given_breaches o expected var ≡ variable_use o var ++ (if_bound o (given_breaches o expected var) ++ [])
+  given : (o : Option (ℕ × Part)) (expected : Option ℕ) (var : Name) → given_breaches o expected var ≡ variable_use o var ++ (if_bound o (given_breaches o expected var) ++ [])
   given None expected var = refl
   given (Some variable) expected var = sym (append_nil (given_breaches (Some variable) expected var))
 
@@ -224,7 +225,7 @@ module _ (defs : List Definition) (s : Setting) where
     stmt_all scope (Case' var size arms) =
         case_all scope var (count_arms arms) (arms_breaches s (case_stands s (found scope var)) var arms) (arms_asked s (case_stands s (found scope var)) var arms) (arms_all (case_stands s (found scope var)) var arms)
     stmt_all scope (Forall' var source size body) =
-        let inner : List Variable = record { name = var.text; node = walked s (found scope source) } ∷ [] in
+        let inner : List Variable = record { name = var.text; part = walked s (found scope source) } ∷ [] in
         walk_by (found scope source) source (stmts_breaches s inner body) (stmts_asked s inner body) (stmts_all inner body)
 
     stmts_all : (scope : List Variable) {n : _} (row : Row_of-Stmt n) → stmts_breaches s scope row ≡ all defs s (stmts_asked s scope row)
@@ -295,11 +296,11 @@ module _ (defs : List Definition) (s : Setting) where
 
   body_all : (p : ProcDef) (node : Option ℕ) (body : ProcBody) → body_breaches s p node body ≡ all defs s (body_asked s p node body)
   body_all p None (Statements stmts) = refl
-  body_all p (Some node) (Statements stmts) = list_all (parameter p.param node) stmts
+  body_all p (Some node) (Statements stmts) = list_all (parameter s p) stmts
   body_all p None (Value colon result value) = ap (λ z. result_breaches s.universe colon p.name ++ z) (sym (append_nil (type_use (meant s result) result)))
   body_all p (Some node) (Value colon result value) =
-      append_assoc (result_breaches s.universe colon p.name) (type_use (meant s result) result) (value_breaches s (parameter p.param node) (type_node s result) value)
-      ∙ ap (λ z. result_breaches s.universe colon p.name ++ (type_use (meant s result) result ++ z)) (value_all (parameter p.param node) (type_node s result) value)
+      append_assoc (result_breaches s.universe colon p.name) (type_use (meant s result) result) (value_breaches s (parameter s p) (type_node s result) value)
+      ∙ ap (λ z. result_breaches s.universe colon p.name ++ (type_use (meant s result) result ++ z)) (value_all (parameter s p) (type_node s result) value)
 
   pub procs_all : (f : ℕ) (ps : List ProcDef) → procs_breaches s f ps ≡ all defs s (procs_asked s f ps)
   procs_all f [] = refl

@@ -8,6 +8,7 @@ use Rattle.luo_model.specs.declared.program.Universe.{Universe}
 use Rattle.luo_model.specs.declared.program.Universe.TheVariants.{Unlabelled, Labelled}
 use Rattle.luo_model.specs.declared.program.Kind.{Kind}
 use Rattle.luo_model.specs.declared.program.Kind.TheVariants.{Sequence, Set, Cycle, Multiset, Powerset}
+use Rattle.luo_model.specs.declared.program.Part.{Part}
 use Rattle.luo_model.specs.declared.program.Shape.{Shape}
 use Rattle.luo_model.specs.declared.program.Shape.TheVariants as shape
 use Rattle.luo_model.specs.Invariant.{IsKind, IsLow, greatest_weight}
@@ -153,40 +154,40 @@ module _ (defs : List Definition) (s : Setting) where
   result_breaks colon name b Unlabelled e i = absurd i
   result_breaks colon name b Labelled e i = subst (Breaks defs s (results colon name)) (one_is _ b i) (labelled_result e)
 
-  read_breaks : (scope : List Variable) (var : Name) (b : Breach) (o : Option (ℕ × ℕ)) → found scope var ≡ o → In b (variable_use o var) → Breaks defs s (reads scope var) b
+  read_breaks : (scope : List Variable) (var : Name) (b : Breach) (o : Option (ℕ × Part)) → found scope var ≡ o → In b (variable_use o var) → Breaks defs s (reads scope var) b
   read_breaks scope var b None e i = subst (Breaks defs s (reads scope var)) (one_is _ b i) (unbound e)
   read_breaks scope var b (Some v) e i = absurd i
 
-  hand_breaks : (scope : List Variable) (arg callee : Name) (b : Breach) (o : Option (ℕ × ℕ)) (on : Option ℕ) → found scope arg ≡ o → (signature_meant s (meant s callee)).on ≡ on
+  hand_breaks : (scope : List Variable) (arg callee : Name) (b : Breach) (o : Option (ℕ × Part)) (on : Option ℕ) → found scope arg ≡ o → (signature_meant s (meant s callee)).on ≡ on
       → In b (if_bound o (argument_breaches o on arg callee)) → Breaks defs s (hands scope arg callee) b
   hand_breaks scope arg callee b None on e f i = absurd i
   hand_breaks scope arg callee b (Some v) None e f i = absurd i
   hand_breaks scope arg callee b (Some v) (Some node) e f i =
-      let r = in_else (nat_eq v.1 node) _ b i in
-      subst (Breaks defs s (hands scope arg callee)) r.1 (other_argument v node e f (differ v.1 node r.0))
+      let r = in_else (nat_eq v.1.node node) _ b i in
+      subst (Breaks defs s (hands scope arg callee)) r.1 (other_argument v node e f (differ v.1.node node r.0))
 
-  cased_breaks : (scope : List Variable) (var : Name) (arms : ℕ) (b : Breach) (o : Option (ℕ × ℕ)) → found scope var ≡ o → In b (if_bound o (case_breaches s o var arms [])) → Breaks defs s (cases scope var arms) b
+  cased_breaks : (scope : List Variable) (var : Name) (arms : ℕ) (b : Breach) (o : Option (ℕ × Part)) → found scope var ≡ o → In b (if_bound o (case_breaches s o var arms [])) → Breaks defs s (cases scope var arms) b
   cased_breaks scope var arms b None e i = absurd i
   cased_breaks scope var arms b (Some v) e i =
       let r = in_else (nat_eq arms (length (case_stands s (Some v)))) _ b i in
       subst (Breaks defs s (cases scope var arms)) r.1 (other_arms v e (differ arms (length (case_stands s (Some v))) r.0))
 
-  into_breaks : (scope : List Variable) (var : Name) (b : Breach) (v : ℕ × ℕ) (form : Shape) → found scope var ≡ Some v → shape_at s v.1 ≡ form → In b (walk_into form var []) → Breaks defs s (walks scope var) b
+  into_breaks : (scope : List Variable) (var : Name) (b : Breach) (v : ℕ × Part) (form : Shape) → found scope var ≡ Some v → shape_at s v.1.node ≡ form → In b (walk_into form var []) → Breaks defs s (walks scope var) b
   into_breaks scope var b v (shape.Coll kind part low high) e f i = absurd i
   into_breaks scope var b v (shape.Atom weight) e f i = subst (Breaks defs s (walks scope var)) (one_is _ b i) (no_collection v e (λ c. subst IsCollection f c))
   into_breaks scope var b v (shape.Union parts) e f i = subst (Breaks defs s (walks scope var)) (one_is _ b i) (no_collection v e (λ c. subst IsCollection f c))
   into_breaks scope var b v (shape.Product parts) e f i = subst (Breaks defs s (walks scope var)) (one_is _ b i) (no_collection v e (λ c. subst IsCollection f c))
 
-  walk_breaks : (scope : List Variable) (var : Name) (b : Breach) (o : Option (ℕ × ℕ)) → found scope var ≡ o → In b (if_bound o (walk_breaches s o var [])) → Breaks defs s (walks scope var) b
+  walk_breaks : (scope : List Variable) (var : Name) (b : Breach) (o : Option (ℕ × Part)) → found scope var ≡ o → In b (if_bound o (walk_breaches s o var [])) → Breaks defs s (walks scope var) b
   walk_breaks scope var b None e i = absurd i
-  walk_breaks scope var b (Some v) e i = into_breaks scope var b v (shape_at s v.1) e refl i
+  walk_breaks scope var b (Some v) e i = into_breaks scope var b v (shape_at s v.1.node) e refl i
 
-  give_breaks : (scope : List Variable) (expected : Option ℕ) (var : Name) (b : Breach) (o : Option (ℕ × ℕ)) → found scope var ≡ o → In b (if_bound o (given_breaches o expected var)) → Breaks defs s (gives scope expected var) b
+  give_breaks : (scope : List Variable) (expected : Option ℕ) (var : Name) (b : Breach) (o : Option (ℕ × Part)) → found scope var ≡ o → In b (if_bound o (given_breaches o expected var)) → Breaks defs s (gives scope expected var) b
   give_breaks scope expected var b None e i = absurd i
   give_breaks scope None var b (Some v) e i = absurd i
   give_breaks scope (Some node) var b (Some v) e i =
-      let r = in_then (not (nat_eq v.1 node)) _ b i in
-      subst (Breaks defs s (gives scope (Some node) var)) r.1 (other_variable node v e (differ v.1 node (opposite (nat_eq v.1 node) r.0)))
+      let r = in_then (not (nat_eq v.1.node node)) _ b i in
+      subst (Breaks defs s (gives scope (Some node) var)) r.1 (other_variable node v e (differ v.1.node node (opposite (nat_eq v.1.node node) r.0)))
 
   type_known : (name : Name) (m : Option Meaning) (rest : List Breach) (b : Breach) → meant s name ≡ m → In b (silent (type_use m name) rest) → IsType s name × In b rest
   type_known name None rest b e i = absurd i
@@ -339,18 +340,18 @@ module _ (defs : List Definition) (s : Setting) where
   breaks_own (hands scope arg callee) b (other_argument v node e f n) =
       let told : Breach = record { rule = Y9; token = arg.at; names = arg.text ∷ callee.text ∷ [] } in
       subst (λ o. In told (if_bound o (argument_breaches o (signature_meant s (meant s callee)).on arg callee))) (sym e)
-      (subst (λ on. In told (argument_breaches (Some v) on arg callee)) (sym f) (else_in (nat_eq v.1 node) told (apart v.1 node n)))
+      (subst (λ on. In told (argument_breaches (Some v) on arg callee)) (sym f) (else_in (nat_eq v.1.node node) told (apart v.1.node node n)))
   breaks_own (cases scope var arms) b (other_arms v e n) =
       subst (λ o. In (at_name Y10 var) (if_bound o (case_breaches s o var arms []))) (sym e) (else_in (nat_eq arms (length (case_stands s (Some v)))) (at_name Y10 var) (apart arms (length (case_stands s (Some v))) n))
   breaks_own (matches stand var p) b (break.misfit h n) =
       let told : Breach = at_token Y11 (first_token p) var.text in
       behind_typed p (misfit (fits s stand p) p var) told h (subst (λ t. In told (misfit t p var)) (sym n) (inl refl))
   breaks_own (walks scope var) b (no_collection v e n) =
-      subst (λ o. In (at_name Y12 var) (if_bound o (walk_breaches s o var []))) (sym e) (no_walk (shape_at s v.1) var n)
+      subst (λ o. In (at_name Y12 var) (if_bound o (walk_breaches s o var []))) (sym e) (no_walk (shape_at s v.1.node) var n)
   breaks_own (reads scope var) b (unbound e) = subst (λ o. In (at_name Y13 var) (variable_use o var)) (sym e) (inl refl)
   breaks_own (results colon name) b (labelled_result e) = subst (λ u. In (at_token Y14 colon name.text) (result_breaches u colon name)) (sym e) (inl refl)
   breaks_own (gives scope expected var) b (other_variable node v e n) =
-      subst (λ o. In (at_name Y15 var) (if_bound o (given_breaches o (Some node) var))) (sym e) (then_in (not (nat_eq v.1 node)) (at_name Y15 var) (opposite_of (nat_eq v.1 node) (apart v.1 node n)))
+      subst (λ o. In (at_name Y15 var) (if_bound o (given_breaches o (Some node) var))) (sym e) (then_in (not (nat_eq v.1.node node)) (at_name Y15 var) (opposite_of (nat_eq v.1.node node) (apart v.1.node node n)))
   breaks_own (makes expected callee) b (no_result node h e) =
       behind_procedure callee (value.result_breaches (Some node) (signature_meant s (meant s callee)).result callee) (at_name Y15 callee) h
       (subst (λ o. In (at_name Y15 callee) (value.result_breaches (Some node) o callee)) (sym e) (inl refl))

@@ -169,7 +169,7 @@ module _ (source : Source) (c : Clean source) where
   by_result p (Statements stmts) node none o e = absurd (none_some o e)
   by_result p (Value colon result value) node none o e =
       let s = setting_of source in
-      let t = clean_result source c colon p.name result (value_breaches s (parameter p.param node) (type_node s result) value) none in
+      let t = clean_result source c colon p.name result (value_breaches s (parameter s p) (type_node s result) value) none in
       (_, refl, sym (some_same (named_node (names_of source) (definitions source) result) o e) ∙ node_named result t.i t.on t.below)
 
   -- the names of a source mean what its core form has

@@ -13,7 +13,8 @@ use Rattle.luo_model.specs.declared.program.Part.{Part}
 use Rattle.luo_model.specs.declared.program.Node.{Node}
 use Rattle.luo_model.specs.declared.program.Shape.{Shape}
 use Rattle.luo_model.specs.declared.program.Shape.TheVariants as shape
-use Rattle.luo_model.specs.Invariant.{IsKind, IsLow, greatest_weight, IsAllowed, multiset_of}
+use Rattle.luo_model.specs.Scopes.Walks.{multiset_of}
+use Rattle.luo_model.specs.Invariant.{IsKind, IsLow, greatest_weight, IsAllowed}
 use Rattle.luo_source.specs.declared.names.Name.{Name}
 use Rattle.luo_source.specs.declared.types.Range.{Range}
 use Rattle.luo_source.specs.declared.types.Range.TheVariants.{Exactly, AtMost, AtLeast, Between}

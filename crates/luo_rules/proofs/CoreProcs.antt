@@ -6,6 +6,7 @@ use Rattle.luo_num.specs.declared.limits.TheConstants.{NUMBER_LIMIT, STATEMENT_L
 use Rattle.luo_model.specs.declared.program.Universe.{Universe}
 use Rattle.luo_model.specs.declared.program.Universe.TheVariants.{Unlabelled, Labelled}
 use Rattle.luo_model.specs.declared.program.Site.{Site}
+use Rattle.luo_model.specs.declared.program.Part.{Part}
 use Rattle.luo_model.specs.Program as plain
 use Rattle.luo_model.specs.Program.{Program, Procedure, Result}
 use Rattle.luo_model.specs.Scopes.Fits.{FitsBody, FitsValue}
@@ -27,7 +28,7 @@ use Rattle.luo_rules.specs.ValueCore.{value_core}
 use Rattle.luo_rules.specs.Counted.{stmt_statements, body_statements}
 use Rattle.luo_rules.specs.StatementCore.{stmt_own, stmt_sites}
 use Rattle.luo_rules.specs.Nodes.{setting_of}
-use Rattle.luo_rules.specs.Whole.{result_breaches, parameter, body_breaches, items_of, node_or, body_core, sites_of, result_core, proc_core, procs_core}
+use Rattle.luo_rules.specs.Whole.{result_breaches, parameter, body_breaches, items_of, body_core, sites_of, result_core, proc_core, procs_core}
 use Rattle.luo_rules.proofs.Lists.{none_some, some_same}
 use Rattle.luo_rules.proofs.PatternFacts.{program_over}
 use Rattle.luo_rules.proofs.ProperSource.{ProperBody, ProperProc}
@@ -39,7 +40,7 @@ use Rattle.luo_rules.proofs.CleanSource.{Clean, clean_proc, clean_result, type_n
 use Rattle.luo_rules.proofs.CoreSites.{SitesFrom, sites_append, placed_from, placed_length}
 
 -- a body that fits, with so many sites from this number on
-pub record GoodBody (p : Program) (vars : List ℕ) (first count : ℕ) (body : plain.Body) : Type 0 where
+pub record GoodBody (p : Program) (vars : List Part) (first count : ℕ) (body : plain.Body) : Type 0 where
   pub fits : FitsBody p vars body
   pub many : length (body_sites p vars body) ≡ count
   pub numbers : NumbersFrom first (body_sites p vars body)
@@ -58,64 +59,62 @@ abbrev pub program_for : Source → List Site → List ℕ → Program
 program_for source sites analyses = program_over (setting_of source) (procs_core (setting_of source) 0 source.procs) sites analyses
 
 module _ (source : Source) (c : Clean source) (sites : List Site) (analyses : List ℕ) where
+  -- the scope of a procedure: its parameter's part
+  abbrev scope_of : ProcDef → List Part
+  scope_of p = part_meant (setting_of source) (meant (setting_of source) p.on) ∷ []
+
   value_fit : (p : ProcDef) (i : ℕ) (colon : ℕ) (result : Name) (value : _) → body_breaches (setting_of source) p (Some (def_node (setting_of source) i)) (Value colon result value) ≡ [] → ProperBody (Value colon result value)
       → (j : ℕ) → meant (setting_of source) result ≡ Some (mean.Definition j)
-      → FitsValue (program_for source sites analyses) (def_node (setting_of source) i ∷ []) (def_node (setting_of source) j) (value_core (setting_of source) (parameter p.param (def_node (setting_of source) i)) (Some (def_node (setting_of source) j)) value)
+      → FitsValue (program_for source sites analyses) (scope_of p) (def_node (setting_of source) j) (value_core (setting_of source) (parameter (setting_of source) p) (Some (def_node (setting_of source) j)) value)
   value_fit p i colon result value none proper j e =
       let s = setting_of source in
       let procs = procs_core s 0 source.procs in
-      let scope = parameter p.param (def_node s i) in
+      let scope = parameter s p in
       let t = clean_result source c colon p.name result (value_breaches s scope (type_node s result) value) none in
       value_fits s procs sites analyses (sound_setting source c) scope (def_node s j) value proper (subst (λ m. value_breaches s scope (node_meant s m) value ≡ []) e t.value)
 
   -- the body of a procedure on definition i
   body_good : (p : ProcDef) (i at : ℕ) (body : ProcBody) → meant (setting_of source) p.on ≡ Some (mean.Definition i) → body_breaches (setting_of source) p (Some (def_node (setting_of source) i)) body ≡ [] → ProperBody body → body_statements body ≤ STATEMENT_LIMIT
-      → GoodBody (program_for source sites analyses) ((part_meant (setting_of source) (meant (setting_of source) p.on)).node ∷ []) at (sites_of (setting_of source) p body) (body_core (setting_of source) p at body)
+      → GoodBody (program_for source sites analyses) (scope_of p) at (sites_of (setting_of source) p body) (body_core (setting_of source) p at body)
   body_good p i at (Statements stmts) on none proper few =
       let s = setting_of source in
       let procs = procs_core s 0 source.procs in
-      let n = def_node s i in
-      let g = list_good s procs sites analyses (sound_setting source c) (parameter p.param n) at stmts proper few none in
+      let g = list_good s procs sites analyses (sound_setting source c) (parameter s p) at stmts proper few none in
       let own = own_within (sum_by (stmt_own s) stmts) (sum_by stmt_statements stmts) NUMBER_LIMIT (list_own s procs sites analyses (sound_setting source c) stmts) few in
-      let P : Option Meaning → Type 0 = λ m.
-      GoodBody (program_for source sites analyses) ((part_meant s m).node ∷ []) at (sum_by stmt_sites stmts) (plain.Does (sum_by (stmt_own s) stmts) (items_of s (parameter p.param (node_or (node_meant s m))) at stmts)) in
-      let good : P (Some (mean.Definition i)) = record { fits = (own, g.fits); many = g.many; numbers = g.numbers } in
-      subst P (sym on) good
+      record { fits = (own, g.fits); many = g.many; numbers = g.numbers }
   body_good p i at (Value colon result value) on none proper few =
       let s = setting_of source in
-      let scope = parameter p.param (def_node s i) in
+      let scope = parameter s p in
       let t = clean_result source c colon p.name result (value_breaches s scope (type_node s result) value) none in
       let v = value_core s scope (Some (def_node s t.i)) value in
       let fit = value_fit p i colon result value none proper t.i t.on in
       let small : value_size v ≤ STATEMENT_LIMIT = omega (arith, core_small s scope (Some (def_node s t.i)) value, few) in
-      let g = value_good (program_for source sites analyses) (def_node s i ∷ []) (def_node s t.i) at v fit small in
-      let own = value_within (program_for source sites analyses) (def_node s i ∷ []) (def_node s t.i) v fit small in
-      let P : Option Meaning → Option Meaning → Type 0 = λ m r.
-      GoodBody (program_for source sites analyses) ((part_meant s m).node ∷ []) at (value_sites (value_core s (parameter p.param (node_or (node_meant s m))) (node_meant s r) value))
-      (value_body at (value_core s (parameter p.param (node_or (node_meant s m))) (node_meant s r) value)) in
-      let good : P (Some (mean.Definition i)) (Some (mean.Definition t.i)) = record { fits = (own, g.fits); many = g.many; numbers = g.numbers } in
-      subst (λ m. P m (meant s result)) (sym on) (subst (P (Some (mean.Definition i))) (sym t.on) good)
+      let g = value_good (program_for source sites analyses) (scope_of p) (def_node s t.i) at v fit small in
+      let own = value_within (program_for source sites analyses) (scope_of p) (def_node s t.i) v fit small in
+      let P : Option Meaning → Type 0 = λ r.
+      GoodBody (program_for source sites analyses) (scope_of p) at (value_sites (value_core s scope (node_meant s r) value)) (value_body at (value_core s scope (node_meant s r) value)) in
+      let good : P (Some (mean.Definition t.i)) = record { fits = (own, g.fits); many = g.many; numbers = g.numbers } in
+      subst P (sym t.on) good
 
   -- the result of a procedure on definition i
   result_good : (p : ProcDef) (i at : ℕ) (body : ProcBody) → meant (setting_of source) p.on ≡ Some (mean.Definition i) → body_breaches (setting_of source) p (Some (def_node (setting_of source) i)) body ≡ [] → ProperBody body
       → IfSome (result_core (setting_of source) p body) (λ (r : Result). IsNamed (program_for source sites analyses) r.on × (source.universe ≡ Unlabelled)
-      × FitsValue (program_for source sites analyses) ((part_meant (setting_of source) (meant (setting_of source) p.on)).node ∷ []) r.on.node r.value × ((first : ℕ) × (body_core (setting_of source) p at body ≡ value_body first r.value)))
+      × FitsValue (program_for source sites analyses) (scope_of p) r.on.node r.value × ((first : ℕ) × (body_core (setting_of source) p at body ≡ value_body first r.value)))
   result_good p i at (Statements stmts) on none proper = tt
   result_good p i at (Value colon result value) on none proper =
       let s = setting_of source in
       let procs = procs_core s 0 source.procs in
-      let scope = parameter p.param (def_node s i) in
+      let scope = parameter s p in
       let t = clean_result source c colon p.name result (value_breaches s scope (type_node s result) value) none in
-      let P : Option Meaning → Option Meaning → Type 0 = λ m r.
-      FitsValue (program_for source sites analyses) ((part_meant s m).node ∷ []) (part_meant s r).node (value_core s (parameter p.param (node_or (node_meant s m))) (node_meant s r) value) in
-      let fit : P (Some (mean.Definition i)) (Some (mean.Definition t.i)) = value_fit p i colon result value none proper t.i t.on in
-      let fit' : P (meant s p.on) (meant s result) = subst (λ m. P m (meant s result)) (sym on) (subst (P (Some (mean.Definition i))) (sym t.on) fit) in
+      let P : Option Meaning → Type 0 = λ r. FitsValue (program_for source sites analyses) (scope_of p) (part_meant s r).node (value_core s scope (node_meant s r) value) in
+      let fit : P (Some (mean.Definition t.i)) = value_fit p i colon result value none proper t.i t.on in
+      let fit' : P (meant s result) = subst P (sym t.on) fit in
       let named : IsNamed (program_for source sites analyses) (part_meant s (meant s result)) =
       subst (λ m. IsNamed (program_for source sites analyses) (part_meant s m)) (sym t.on) (type_named source c procs sites analyses t.i t.below) in
       (named, unlabelled source.universe colon p.name t.universe, fit', (at, refl))
 
   pub proc_good : (f : ℕ) (p : ProcDef) → slice_get source.procs f ≡ Some p → ProperProc p → body_statements p.body ≤ STATEMENT_LIMIT → (at : ℕ)
-      → GoodBody (program_for source sites analyses) ((part_meant (setting_of source) (meant (setting_of source) p.on)).node ∷ []) at (sites_of (setting_of source) p p.body) (body_core (setting_of source) p at p.body)
+      → GoodBody (program_for source sites analyses) (scope_of p) at (sites_of (setting_of source) p p.body) (body_core (setting_of source) p at p.body)
   proc_good f p e proper few at = let q = clean_proc source c f p e in body_good p q.i at p.body q.on q.body proper few
 
   pub is_procedure : (f : ℕ) (p : ProcDef) → slice_get source.procs f ≡ Some p → ProperProc p → body_statements p.body ≤ STATEMENT_LIMIT → (at : ℕ) → IsProcedure (program_for source sites analyses) (proc_core (setting_of source) at p)
@@ -128,14 +127,14 @@ module _ (source : Source) (c : Clean source) (sites : List Site) (analyses : Li
 
   -- the sites of procedures, from the one of this number on
   pub sites_good : (f first : ℕ) (ps : List ProcDef)
-      → ((k : ℕ) (p : ProcDef) → slice_get ps k ≡ Some p → (at : ℕ) → GoodBody (program_for source sites analyses) ((part_meant (setting_of source) (meant (setting_of source) p.on)).node ∷ []) at (sites_of (setting_of source) p p.body) (body_core (setting_of source) p at p.body))
+      → ((k : ℕ) (p : ProcDef) → slice_get ps k ≡ Some p → (at : ℕ) → GoodBody (program_for source sites analyses) (scope_of p) at (sites_of (setting_of source) p p.body) (body_core (setting_of source) p at p.body))
       → SitesFrom first (sites_from (program_for source sites analyses) f (procs_core (setting_of source) first ps))
   sites_good f first [] h = tt
   sites_good f first (p ∷ ps) h =
       let s = setting_of source in
       let g = h zero p refl first in
       let n = (part_meant s (meant s p.on)).node in
-      let inner : List (ℕ × ℕ) = body_sites (program_for source sites analyses) (n ∷ []) (body_core s p first p.body) in
+      let inner : List (ℕ × ℕ) = body_sites (program_for source sites analyses) (scope_of p) (body_core s p first p.body) in
       let own : List (ℕ × ℕ) = (first + sites_of s p p.body, n) ∷ [] in
       let last : NumbersFrom (first + sites_of s p p.body) own = (refl, tt) in
       let numbers : NumbersFrom first (inner ++ own) = numbers_append first (first + sites_of s p p.body) inner own (omega (arith, g.many)) g.numbers last in
@@ -145,9 +144,9 @@ module _ (source : Source) (c : Clean source) (sites : List Site) (analyses : Li
 
 module _ (s : Setting) where
   body_few : (p : ProcDef) (at : ℕ) (body : ProcBody) → body_items (body_core s p at body) ≤ body_statements body
-  body_few p at (Statements stmts) = list_few s (parameter p.param (node_or (type_node s p.on))) at stmts
+  body_few p at (Statements stmts) = list_few s (parameter s p) at stmts
   body_few p at (Value colon result value) =
-      let scope = parameter p.param (node_or (type_node s p.on)) in
+      let scope = parameter s p in
       omega (arith, items_few at (value_core s scope (type_node s result) value), core_small s scope (type_node s result) value)
 
   pub procs_few : (first : ℕ) (ps : List ProcDef) → sum_by (λ P. body_items P.body) (procs_core s first ps) ≤ sum_by (λ p. body_statements p.body) ps

@@ -1,6 +1,7 @@
 -- The sites of a core form depend on its types alone, and are numbered in order.
 use Rattle.std.proofs.Common.{◌≡◌, ℕ, suc, ◌+◌, List, [], ◌∷◌, ◌++◌, map, length, refl, sym, ap, ◌∙◌, subst, arith}
 use Rattle.luo_model.specs.declared.program.Site.{Site}
+use Rattle.luo_model.specs.declared.program.Part.{Part}
 use Rattle.luo_model.specs.Program.{Procedure, Body, Does, Items, no_items, item, Item, Call, Case, Forall, Arms, no_arms, arm, shape_of}
 use Rattle.luo_model.specs.Scopes.Stands.{Stand, stands, component, bound_parts, part_at}
 use Rattle.luo_model.specs.Scopes.Sites.{body_sites, items_sites, item_sites, arms_sites}
@@ -11,35 +12,35 @@ use Rattle.luo_rules.proofs.GoodItems.{NumbersFrom}
 
 module _ (s : Setting) (procs others : List Procedure) (sites more : List Site) (analyses lines : List ℕ) where
   mutual
-    body_same : (vars : List ℕ) (b : Body) → body_sites (program_over s procs sites analyses) vars b ≡ body_sites (program_over s others more lines) vars b
+    body_same : (vars : List Part) (b : Body) → body_sites (program_over s procs sites analyses) vars b ≡ body_sites (program_over s others more lines) vars b
     body_same vars (Does own items) = items_same vars items
 
-    items_same : (vars : List ℕ) (is : Items) → items_sites (program_over s procs sites analyses) vars is ≡ items_sites (program_over s others more lines) vars is
+    items_same : (vars : List Part) (is : Items) → items_sites (program_over s procs sites analyses) vars is ≡ items_sites (program_over s others more lines) vars is
     items_same vars no_items = refl
     items_same vars (item i is) = ap (λ l. l ++ items_sites (program_over s procs sites analyses) vars is) (item_same vars i) ∙ ap (λ l. item_sites (program_over s others more lines) vars i ++ l) (items_same vars is)
 
-    item_same : (vars : List ℕ) (i : Item) → item_sites (program_over s procs sites analyses) vars i ≡ item_sites (program_over s others more lines) vars i
+    item_same : (vars : List Part) (i : Item) → item_sites (program_over s procs sites analyses) vars i ≡ item_sites (program_over s others more lines) vars i
     item_same vars (Call var callee site) = refl
     item_same vars (Case var arms site) =
-        let x = node_at vars var in
-        ap (λ l. l ++ (site, x) ∷ []) (arms_same (stands x (shape_of (program_over s others more lines) x)) arms)
+        let x = part_at vars var in
+        ap (λ l. l ++ (site, x.node) ∷ []) (arms_same (stands x (shape_of (program_over s others more lines) x.node)) arms)
     item_same vars (Forall var body body_site site) =
-        let x = node_at vars var in
-        let y = component (shape_of (program_over s others more lines) x) in
-        ap (λ l. l ++ (body_site, y) ∷ (site, x) ∷ []) (body_same (y ∷ []) body)
+        let x = part_at vars var in
+        let y = component (shape_of (program_over s others more lines) x.node) in
+        ap (λ l. l ++ (body_site, y.node) ∷ (site, x.node) ∷ []) (body_same (y ∷ []) body)
 
     arms_same : (ss : List Stand) (arms : Arms) → arms_sites (program_over s procs sites analyses) ss arms ≡ arms_sites (program_over s others more lines) ss arms
     arms_same [] no_arms = refl
     arms_same (stand ∷ ss) no_arms = refl
     arms_same [] (arm bind body arms) = refl
     arms_same (stand ∷ ss) (arm bind body arms) =
-        ap (λ l. l ++ arms_sites (program_over s procs sites analyses) ss arms) (body_same (bound_nodes (program_over s others more lines) stand bind) body)
-        ∙ ap (λ l. body_sites (program_over s others more lines) (bound_nodes (program_over s others more lines) stand bind) body ++ l) (arms_same ss arms)
+        ap (λ l. l ++ arms_sites (program_over s procs sites analyses) ss arms) (body_same (bound_parts (program_over s others more lines) stand bind) body)
+        ∙ ap (λ l. body_sites (program_over s others more lines) (bound_parts (program_over s others more lines) stand bind) body ++ l) (arms_same ss arms)
 
   pub sites_same : (f : ℕ) (Ps : List Procedure) → sites_from (program_over s procs sites analyses) f Ps ≡ sites_from (program_over s others more lines) f Ps
   sites_same f [] = refl
   sites_same f (P ∷ Ps) =
-      ap (λ l. placed f 0 (l ++ (P.site, P.on.node) ∷ []) ++ sites_from (program_over s procs sites analyses) (f + 1) Ps) (body_same (P.on.node ∷ []) P.body)
+      ap (λ l. placed f 0 (l ++ (P.site, P.on.node) ∷ []) ++ sites_from (program_over s procs sites analyses) (f + 1) Ps) (body_same (P.on ∷ []) P.body)
       ∙ ap (λ l. placed f 0 (procedure_sites (program_over s others more lines) P) ++ l) (sites_same (f + 1) Ps)
 
 -- sites with numbers from this one on

@@ -8,6 +8,7 @@ use Rattle.luo_source.specs.declared.names.Name.{Name}
 use Rattle.luo_source.specs.declared.statements.Pattern.{Pattern}
 use Rattle.luo_source.specs.declared.statements.Pattern.TheVariants as pattern
 use Rattle.luo_source.specs.GrammarStatements.{IsPattern, pattern_named, pattern_whole, pattern_named_parts, pattern_parts, pattern_any, pattern_any_whole}
+use Rattle.luo_model.specs.declared.program.Part.{Part}
 use Rattle.luo_rules.specs.declared.rule.Breach.{Breach}
 use Rattle.luo_rules.specs.declared.setting.Setting.{Setting}
 use Rattle.luo_rules.specs.Settings.{meant, argument_breaches, case_stands}
@@ -62,16 +63,16 @@ emptied one = record { next = one.next; left = one.left; within = nothing (borde
 pub arm_spans : (s : Setting) (stand : Stand) (var : Name) (p : Pattern) {low j : ℕ} {kind : TokenKind} {bytes : List ℕ} {mid to : List Lexeme} {body : List Breach} → Spans low (lexeme kind bytes j ∷ mid) (pattern_breaches s stand var p) → Spans (j + 1) to body → Spans low to (arm_breaches s stand var p body)
 arm_spans s stand var p one body = behind one (spans_if (fits s stand p) body)
 
-pub argument_at : (there : Option (ℕ × ℕ)) (on : Option ℕ) (arg callee : Name) → At arg.at (argument_breaches there on arg callee)
+pub argument_at : (there : Option (ℕ × Part)) (on : Option ℕ) (arg callee : Name) → At arg.at (argument_breaches there on arg callee)
 argument_at None on arg callee = single refl
 argument_at (Some variable) None arg callee = none
-argument_at (Some variable) (Some node) arg callee = at_if (nat_eq variable.1 node) none (single refl)
+argument_at (Some variable) (Some node) arg callee = at_if (nat_eq variable.1.node node) none (single refl)
 
 -- a case on a variable before its arms
 case_if : {low mid at : ℕ} {to : List Lexeme} {inner other : List Breach} (test : Bool) → low ≤ at → at < mid → At at other → Spans mid to inner → Spans low to (if test then inner else other)
 case_if true l m p one = from_lower (omega (arith, l, m)) one
 case_if false l m p one = in_place p l m one
 
-pub case_spans : (s : Setting) (there : Option (ℕ × ℕ)) (var : Name) (arms : ℕ) {low mid : ℕ} {to : List Lexeme} {inner : List Breach} → low ≤ var.at → var.at < mid → Spans mid to inner → Spans low to (case_breaches s there var arms inner)
+pub case_spans : (s : Setting) (there : Option (ℕ × Part)) (var : Name) (arms : ℕ) {low mid : ℕ} {to : List Lexeme} {inner : List Breach} → low ≤ var.at → var.at < mid → Spans mid to inner → Spans low to (case_breaches s there var arms inner)
 case_spans s None var arms l m one = in_place (single refl) l m one
 case_spans s (Some variable) var arms l m one = case_if (nat_eq arms (length (case_stands s (Some variable)))) l m (single refl) one

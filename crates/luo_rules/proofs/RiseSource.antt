@@ -48,7 +48,7 @@ result_at Labelled colon name = single refl
 
 body_spans : (s : Setting) (p : ProcDef) (node : Option ℕ) (low : ℕ) {from to : List Lexeme} {body : ProcBody} → IsProcBody from to body → From low from → Spans low to (body_breaches s p node body)
 body_spans s p None low (statements_body {k = j} q) h = emptied (from_lower (omega (arith, h.0)) (block_spans s [] (j + 1) q h.1))
-body_spans s p (Some node) low (statements_body {k = j} q) h = from_lower (omega (arith, h.0)) (block_spans s (parameter p.param node) (j + 1) q h.1)
+body_spans s p (Some node) low (statements_body {k = j} q) h = from_lower (omega (arith, h.0)) (block_spans s (parameter s p) (j + 1) q h.1)
 body_spans s p None low (value_body {text} {colon} {at} {k = j} q) h =
     let result : Name = record { text = text; at = at } in
     let value = value_spans s [] None (j + 1) q h.1.1.1 in
@@ -56,7 +56,7 @@ body_spans s p None low (value_body {text} {colon} {at} {k = j} q) h =
     record { next = value.next; left = value.left; within = higher (led (result_at s.universe colon p.name) h.0 typed) (borders value.within) }
 body_spans s p (Some node) low (value_body {text} {colon} {at} {k = j} q) h =
     let result : Name = record { text = text; at = at } in
-    let value = value_spans s (parameter p.param node) (type_node s result) (j + 1) q h.1.1.1 in
+    let value = value_spans s (parameter s p) (type_node s result) (j + 1) q h.1.1.1 in
     let typed = placed (type_use_at (meant s result) result) h.1.0 (omega (arith, h.1.1.0)) in
     follows (j + 1) (led (result_at s.universe colon p.name) h.0 typed) value
 

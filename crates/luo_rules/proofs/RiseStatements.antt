@@ -1,6 +1,7 @@
 -- The breaches of statements stand at rising tokens.
 use Rattle.std.proofs.Common.{ℕ, ◌+◌, ◌<◌, ◌≤◌, List, [], ◌∷◌, length, refl, sym, subst, Option, Some, None, arith}
-use Rattle.luo_model.specs.Scopes.Stands.{Stand, inside}
+use Rattle.luo_model.specs.Scopes.Stands.{Stand, inside, no_part}
+use Rattle.luo_model.specs.declared.program.Part.{Part}
 use Rattle.luo_model.specs.declared.program.Shape.{Shape}
 use Rattle.luo_model.specs.declared.program.Shape.TheVariants as shape
 use Rattle.luo_scan.specs.Lexemes.{Lexeme}
@@ -25,9 +26,9 @@ walk_into_spans : (form : Shape) (source : Name) {low mid : ℕ} {to : List Lexe
 walk_into_spans (shape.Coll kind part least greatest) source l m one = from_lower (omega (arith, l, m)) one
 walk_into_spans _ source l m one = in_place (single refl) l m one
 
-walk_spans : (s : Setting) (there : Option (ℕ × ℕ)) (source : Name) {low mid : ℕ} {to : List Lexeme} {inner : List Breach} → low ≤ source.at → source.at < mid → Spans mid to inner → Spans low to (walk_breaches s there source inner)
+walk_spans : (s : Setting) (there : Option (ℕ × Part)) (source : Name) {low mid : ℕ} {to : List Lexeme} {inner : List Breach} → low ≤ source.at → source.at < mid → Spans mid to inner → Spans low to (walk_breaches s there source inner)
 walk_spans s None source l m one = in_place (single refl) l m one
-walk_spans s (Some variable) source l m one = walk_into_spans (shape_at s variable.1) source l m one
+walk_spans s (Some variable) source l m one = walk_into_spans (shape_at s variable.1.node) source l m one
 
 mutual
   pub block_spans : (s : Setting) (scope : List Variable) (low : ℕ) {from to : List Lexeme} {stmts : List Stmt} → IsBlock from to stmts → From low from → Spans low to (list_breaches s scope stmts)
@@ -65,10 +66,10 @@ mutual
       record { next = l + 1; left = h.1.1.1.1; within = led (procedure_use_at (meant s callee) callee) h.0 argument }
 
   arms_spans : (s : Setting) (stands : List Stand) (var : Name) (low : ℕ) {from to : List Lexeme} {arms : List SourceArm} → AreArms from to arms → From low from → Spans low to (arm_list_breaches s stands var arms)
-  arms_spans s [] var low (last_arm p) h = emptied (past (one_arm_spans s (inside 0) var low p h))
+  arms_spans s [] var low (last_arm p) h = emptied (past (one_arm_spans s (inside no_part) var low p h))
   arms_spans s (stand ∷ stands) var low (last_arm p) h = alone (past (one_arm_spans s stand var low p h))
   arms_spans s [] var low (more_arms {k = j} p ps) h =
-      let one = one_arm_spans s (inside 0) var low p h in
+      let one = one_arm_spans s (inside no_part) var low p h in
       emptied (behind one (arms_spans s [] var (j + 1) ps one.left.1))
   arms_spans s (stand ∷ stands) var low (more_arms {k = j} p ps) h =
       let one = one_arm_spans s stand var low p h in

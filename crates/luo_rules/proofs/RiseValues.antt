@@ -1,7 +1,7 @@
 -- The breaches of values stand at rising tokens.
 use Rattle.std.proofs.Common.{ℕ, ◌+◌, List, [], ◌∷◌, length, refl, sym, subst, Bool, true, false, Option, Some, None, arith}
 use Rattle.std.specs.Prelude.{codes, decimal}
-use Rattle.luo_model.specs.Scopes.Stands.{Stand, inside}
+use Rattle.luo_model.specs.Scopes.Stands.{Stand, inside, no_part}
 use Rattle.luo_scan.specs.declared.token.Mark.TheVariants.{Comma}
 use Rattle.luo_scan.specs.declared.token.TokenKind.TheVariants as kind
 use Rattle.luo_scan.specs.Lexemes.{Lexeme, lexeme}
@@ -9,6 +9,7 @@ use Rattle.luo_source.specs.declared.names.Name.{Name}
 use Rattle.luo_source.specs.declared.values.SourceValueArm.{SourceValueArm}
 use Rattle.luo_source.specs.declared.values.SourceValue.{SourceValue}
 use Rattle.luo_source.specs.GrammarValues.{IsValue, branch_value, inner_value, IsBranch, branch, IsInner, given, made, free_atom, charged_atom, bracketed, tuple, case_value, AreParts, last_part, more_parts, AreValueArms, last_value_arm, more_value_arms, IsValueArm, one_value_arm}
+use Rattle.luo_model.specs.declared.program.Part.{Part}
 use Rattle.luo_rules.specs.declared.setting.Setting.{Setting}
 use Rattle.luo_rules.specs.declared.setting.Variable.{Variable}
 use Rattle.luo_rules.specs.Settings.{meant, signature_meant, found, case_stands}
@@ -20,9 +21,9 @@ use Rattle.luo_rules.proofs.RiseLists.{At, none, single, at_if, at_or, placed, l
 use Rattle.luo_rules.proofs.RiseNames.{From, Spans, behind, past, alone, from_lower, led_by, measure_use_at, procedure_use_at}
 use Rattle.luo_rules.proofs.RisePatterns.{emptied, pattern_spans, arm_spans, argument_at, case_spans}
 
-given_at : (there : Option (ℕ × ℕ)) (expected : Option ℕ) (name : Name) → At name.at (given_breaches there expected name)
+given_at : (there : Option (ℕ × Part)) (expected : Option ℕ) (name : Name) → At name.at (given_breaches there expected name)
 given_at None expected name = single refl
-given_at (Some variable) expected name = at_if (differs expected variable.1) (single refl) none
+given_at (Some variable) expected name = at_if (differs expected variable.1.node) (single refl) none
 
 result_at : (expected : Option ℕ) (result : Option (Option ℕ)) (name : Name) → At name.at (result_breaches expected result name)
 result_at None result name = none
@@ -86,10 +87,10 @@ mutual
       behind one (parts_spans s scope nodes (j + 1) ps one.left.1)
 
   arms_spans : (s : Setting) (stands : List Stand) (expected : Option ℕ) (var : Name) (low : ℕ) {from to : List Lexeme} {arms : List SourceValueArm} → AreValueArms from to arms → From low from → Spans low to (arms_breaches s stands expected var arms)
-  arms_spans s [] expected var low (last_value_arm p) h = emptied (past (one_arm_spans s (inside 0) expected var low p h))
+  arms_spans s [] expected var low (last_value_arm p) h = emptied (past (one_arm_spans s (inside no_part) expected var low p h))
   arms_spans s (stand ∷ stands) expected var low (last_value_arm p) h = alone (past (one_arm_spans s stand expected var low p h))
   arms_spans s [] expected var low (more_value_arms {k = j} p ps) h =
-      let one = one_arm_spans s (inside 0) expected var low p h in
+      let one = one_arm_spans s (inside no_part) expected var low p h in
       emptied (behind one (arms_spans s [] expected var (j + 1) ps one.left.1))
   arms_spans s (stand ∷ stands) expected var low (more_value_arms {k = j} p ps) h =
       let one = one_arm_spans s stand expected var low p h in

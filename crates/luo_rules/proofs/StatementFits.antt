@@ -4,6 +4,7 @@ use Rattle.std.specs.Prelude.{flat_map}
 use Rattle.std.proofs.Math.Nat.{add-mul}
 use Rattle.std.proofs.lemmas.List.Sums.{sum_by-cons}
 use Rattle.luo_num.specs.declared.limits.TheConstants.{NUMBER_LIMIT, STATEMENT_LIMIT}
+use Rattle.luo_model.specs.declared.program.Part.{Part}
 use Rattle.luo_model.specs.declared.program.Shape.{Shape}
 use Rattle.luo_model.specs.declared.program.Shape.TheVariants as shape
 use Rattle.luo_model.specs.declared.program.Site.{Site}
@@ -28,7 +29,7 @@ use Rattle.luo_rules.specs.StatementCore.{stmt_own, stmts_own, stmt_sites, stmts
 use Rattle.luo_rules.specs.Whole.{items_of}
 use Rattle.luo_rules.proofs.Lists.{nil_left, nil_right}
 use Rattle.luo_rules.proofs.ProperBodies.{ProperStmt, ProperStmts, ProperArms, AllStmts}
-use Rattle.luo_rules.proofs.PatternFacts.{program_over, nodes_of, IsFoundIn, found_there, found_one, argument_fits, may_bind, bound_same, arm_fits, case_fits}
+use Rattle.luo_rules.proofs.PatternFacts.{program_over, parts_of, IsFoundIn, found_there, found_one, argument_fits, may_bind, bound_same, arm_fits, case_fits}
 use Rattle.luo_rules.proofs.ValueFits.{SoundSetting, procedure_meant}
 use Rattle.luo_rules.proofs.GoodItems.{GoodItems, GoodArms, good_none, good_join, good_call, good_case, good_forall, good_no_arms, good_arm, own_within, join_in}
 
@@ -39,10 +40,10 @@ value_bound (Some (mean.Measure k v)) h = h k v refl
 value_bound (Some (mean.Procedure f)) h = omega arith
 
 -- a walk without breach goes over a collection, and its body has none
-pub record WalkFits (s : Setting) (o : Option (ℕ × ℕ)) (inner : List Breach) : Type 0 where
-  pub variable : ℕ × ℕ
+pub record WalkFits (s : Setting) (o : Option (ℕ × Part)) (inner : List Breach) : Type 0 where
+  pub variable : ℕ × Part
   pub is : o ≡ Some variable
-  pub collection : IsCollection (shape_at s variable.1)
+  pub collection : IsCollection (shape_at s variable.1.node)
   pub none : inner ≡ []
 
 walk_in : (form : Shape) (source : Name) (inner : List Breach) → walk_into form source inner ≡ [] → IsCollection form × (inner ≡ [])
@@ -51,9 +52,9 @@ walk_in (shape.Union parts) source inner e = absurd (cc)
 walk_in (shape.Product parts) source inner e = absurd (cc)
 walk_in (shape.Coll kind part low high) source inner e = (tt, e)
 
-walk_fits : (s : Setting) (o : Option (ℕ × ℕ)) (source : Name) (inner : List Breach) → walk_breaches s o source inner ≡ [] → WalkFits s o inner
+walk_fits : (s : Setting) (o : Option (ℕ × Part)) (source : Name) (inner : List Breach) → walk_breaches s o source inner ≡ [] → WalkFits s o inner
 walk_fits s None source inner e = absurd (cc)
-walk_fits s (Some q) source inner e = let w = walk_in (shape_at s q.1) source inner e in record { variable = q; is = refl; collection = w.0; none = w.1 }
+walk_fits s (Some q) source inner e = let w = walk_in (shape_at s q.1.node) source inner e in record { variable = q; is = refl; collection = w.0; none = w.1 }
 
 module _ (s : Setting) (procs : List Procedure) (sites : List Site) (analyses : List ℕ) (sound : SoundSetting s procs) where
   mutual
@@ -69,49 +70,50 @@ module _ (s : Setting) (procs : List Procedure) (sites : List Site) (analyses : 
     owns_bound end_of-Stmt = omega arith
     owns_bound (more_of-Stmt stmt rest) = omega (arith, own_bound stmt, owns_bound rest, add-mul (stmt_statements stmt) (stmts_statements rest) NUMBER_LIMIT)
 
-  call_fits : (vars : List ℕ) (o : Option (ℕ × ℕ)) (callee arg : Name) (first : ℕ) → IsFoundIn vars o → procedure_use (meant s callee) callee ≡ [] → argument_breaches o (signature_meant s (meant s callee)).on arg callee ≡ []
+  call_fits : (vars : List Part) (o : Option (ℕ × Part)) (callee arg : Name) (first : ℕ) → IsFoundIn vars o → procedure_use (meant s callee) callee ≡ [] → argument_breaches o (signature_meant s (meant s callee)).on arg callee ≡ []
       → FitsItem (program_over s procs sites analyses) vars (plain.Call (place_of o) (procedure_of (meant s callee)) first)
   call_fits vars o callee arg first h meant_so argument =
       let f = procedure_meant (meant s callee) callee meant_so in
       let c = sound.callees callee.text f.0 f.1 in
       let on : (signature_meant s (meant s callee)).on ≡ Some c.procedure.on.node = ap (λ m. (signature_meant s m).on) f.1 ∙ c.on in
-      (c.procedure, ap (λ m. slice_get procs (procedure_of m)) f.1 ∙ c.is, argument_fits vars o (signature_meant s (meant s callee)).on c.procedure.on.node arg callee h on argument)
+      let a = argument_fits vars o (signature_meant s (meant s callee)).on c.procedure.on.node arg callee h on argument in
+      (c.procedure, a.0, ap (λ m. slice_get procs (procedure_of m)) f.1 ∙ c.is, a.1, a.2)
 
   mutual
     pub stmt_good : (scope : List Variable) (first : ℕ) (stmt : Stmt) → ProperStmt stmt → stmt_statements stmt ≤ STATEMENT_LIMIT → stmt_breaches s scope stmt ≡ []
-        → GoodItems (program_over s procs sites analyses) (nodes_of scope) first (stmt_sites stmt) (stmt_items s scope first stmt)
-    stmt_good scope first Skip p l e = good_none (program_over s procs sites analyses) (nodes_of scope) first
-    stmt_good scope first (Charge measure) p l e = good_none (program_over s procs sites analyses) (nodes_of scope) first
+        → GoodItems (program_over s procs sites analyses) (parts_of scope) first (stmt_sites stmt) (stmt_items s scope first stmt)
+    stmt_good scope first Skip p l e = good_none (program_over s procs sites analyses) (parts_of scope) first
+    stmt_good scope first (Charge measure) p l e = good_none (program_over s procs sites analyses) (parts_of scope) first
     stmt_good scope first (Call callee arg) p l e =
         let a = argument_breaches (found scope arg) (signature_meant s (meant s callee)).on arg callee in
-        good_call (program_over s procs sites analyses) (nodes_of scope) (place_of (found scope arg)) (procedure_of (meant s callee)) first
-        (call_fits (nodes_of scope) (found scope arg) callee arg first (found_there scope arg) (nil_left (procedure_use (meant s callee) callee) a e) (nil_right (procedure_use (meant s callee) callee) a e))
+        good_call (program_over s procs sites analyses) (parts_of scope) (place_of (found scope arg)) (procedure_of (meant s callee)) first
+        (call_fits (parts_of scope) (found scope arg) callee arg first (found_there scope arg) (nil_left (procedure_use (meant s callee) callee) a e) (nil_right (procedure_use (meant s callee) callee) a e))
     stmt_good scope first (Block' size stmts) p l e = stmts_good scope first stmts p l e
     stmt_good scope first (Case' var size arms) p l e =
         let c = case_fits s (found scope var) var (count_arms arms) (arms_breaches s (case_stands s (found scope var)) var arms) e in
         let x = c.variable.1 in
-        let ss = stands x (shape_at s x) in
+        let ss = stands x (shape_at s x.node) in
         let some : case_stands s (found scope var) ≡ ss = ap (case_stands s) c.is in
         let inner = arms_good ss var first arms p.1 (omega arith) (sym c.many) (subst (λ z. arms_breaches s z var arms ≡ []) some c.none) in
-        good_case (program_over s procs sites analyses) (nodes_of scope) (place_of (found scope var)) x first (arms_sites arms) (arms_core s (case_stands s (found scope var)) first arms)
-        (found_one (nodes_of scope) (found scope var) c.variable (found_there scope var) c.is) (omega (arith, c.many, p.0))
+        good_case (program_over s procs sites analyses) (parts_of scope) (place_of (found scope var)) x first (arms_sites arms) (arms_core s (case_stands s (found scope var)) first arms)
+        (found_one (parts_of scope) (found scope var) c.variable (found_there scope var) c.is) (omega (arith, c.many, p.0))
         (subst (λ z. GoodArms (program_over s procs sites analyses) ss first (arms_sites arms) (arms_core s z first arms)) (sym some) inner)
     stmt_good scope first (Forall' var source size body) p l e =
         let o = found scope source in
-        let inside : List Variable = record { name = var.text; node = walked s o } ∷ [] in
+        let inside : List Variable = record { name = var.text; part = walked s o } ∷ [] in
         let w = walk_fits s o source (stmts_breaches s inside body) e in
         let x = w.variable.1 in
-        let node : walked s o ≡ component (shape_at s x) = ap (walked s) w.is in
+        let same : walked s o ≡ component (shape_at s x.node) = ap (walked s) w.is in
         let inner = stmts_good inside first body p (omega arith) w.none in
-        good_forall (program_over s procs sites analyses) (nodes_of scope) (place_of o) x first (stmts_sites body) (stmts_own s body) (stmts_items s inside first body)
-        (found_one (nodes_of scope) o w.variable (found_there scope source) w.is) w.collection (own_within (stmts_own s body) (stmts_statements body) NUMBER_LIMIT (owns_bound body) (omega arith))
-        (subst (λ n. GoodItems (program_over s procs sites analyses) (n ∷ []) first (stmts_sites body) (stmts_items s inside first body)) node inner)
+        good_forall (program_over s procs sites analyses) (parts_of scope) (place_of o) x first (stmts_sites body) (stmts_own s body) (stmts_items s inside first body)
+        (found_one (parts_of scope) o w.variable (found_there scope source) w.is) w.collection (own_within (stmts_own s body) (stmts_statements body) NUMBER_LIMIT (owns_bound body) (omega arith))
+        (subst (λ n. GoodItems (program_over s procs sites analyses) (n ∷ []) first (stmts_sites body) (stmts_items s inside first body)) same inner)
 
     stmts_good : (scope : List Variable) (first : ℕ) {n : _} (row : Row_of-Stmt n) → ProperStmts row → stmts_statements row ≤ STATEMENT_LIMIT → stmts_breaches s scope row ≡ []
-        → GoodItems (program_over s procs sites analyses) (nodes_of scope) first (stmts_sites row) (stmts_items s scope first row)
-    stmts_good scope first end_of-Stmt p l e = good_none (program_over s procs sites analyses) (nodes_of scope) first
+        → GoodItems (program_over s procs sites analyses) (parts_of scope) first (stmts_sites row) (stmts_items s scope first row)
+    stmts_good scope first end_of-Stmt p l e = good_none (program_over s procs sites analyses) (parts_of scope) first
     stmts_good scope first (more_of-Stmt stmt rest) p l e =
-        good_join (program_over s procs sites analyses) (nodes_of scope) first (stmt_sites stmt) (stmts_sites rest) (stmt_items s scope first stmt) (stmts_items s scope (first + stmt_sites stmt) rest)
+        good_join (program_over s procs sites analyses) (parts_of scope) first (stmt_sites stmt) (stmts_sites rest) (stmt_items s scope first stmt) (stmts_items s scope (first + stmt_sites stmt) rest)
         (stmt_good scope first stmt p.0 (omega arith) (nil_left (stmt_breaches s scope stmt) (stmts_breaches s scope rest) e))
         (stmts_good scope (first + stmt_sites stmt) rest p.1 (omega arith) (nil_right (stmt_breaches s scope stmt) (stmts_breaches s scope rest) e))
 
@@ -131,12 +133,12 @@ module _ (s : Setting) (procs : List Procedure) (sites : List Site) (analyses : 
 
   -- statements one behind the other
   pub list_good : (scope : List Variable) (first : ℕ) (stmts : List Stmt) → AllStmts stmts → sum_by stmt_statements stmts ≤ STATEMENT_LIMIT → flat_map (stmt_breaches s scope) stmts ≡ []
-      → GoodItems (program_over s procs sites analyses) (nodes_of scope) first (sum_by stmt_sites stmts) (items_of s scope first stmts)
-  list_good scope first [] p l e = good_none (program_over s procs sites analyses) (nodes_of scope) first
+      → GoodItems (program_over s procs sites analyses) (parts_of scope) first (sum_by stmt_sites stmts) (items_of s scope first stmts)
+  list_good scope first [] p l e = good_none (program_over s procs sites analyses) (parts_of scope) first
   list_good scope first (stmt ∷ stmts) p l e =
       let few = sum_by-cons stmt_statements stmt stmts in
-      subst (λ n. GoodItems (program_over s procs sites analyses) (nodes_of scope) first n (items_of s scope first (stmt ∷ stmts))) (sym (sum_by-cons stmt_sites stmt stmts))
-      (good_join (program_over s procs sites analyses) (nodes_of scope) first (stmt_sites stmt) (sum_by stmt_sites stmts) (stmt_items s scope first stmt) (items_of s scope (first + stmt_sites stmt) stmts)
+      subst (λ n. GoodItems (program_over s procs sites analyses) (parts_of scope) first n (items_of s scope first (stmt ∷ stmts))) (sym (sum_by-cons stmt_sites stmt stmts))
+      (good_join (program_over s procs sites analyses) (parts_of scope) first (stmt_sites stmt) (sum_by stmt_sites stmts) (stmt_items s scope first stmt) (items_of s scope (first + stmt_sites stmt) stmts)
       (stmt_good scope first stmt p.0 (omega (arith, few)) (nil_left (stmt_breaches s scope stmt) (flat_map (stmt_breaches s scope) stmts) e))
       (list_good scope (first + stmt_sites stmt) stmts p.1 (omega (arith, few)) (nil_right (stmt_breaches s scope stmt) (flat_map (stmt_breaches s scope) stmts) e)))
 
@@ -153,7 +155,7 @@ module _ (s : Setting) where
     stmt_few scope first (Call callee arg) = omega arith
     stmt_few scope first (Block' size stmts) = stmts_few scope first stmts
     stmt_few scope first (Case' var size arms) = omega (arith, arms_few (case_stands s (found scope var)) first arms)
-    stmt_few scope first (Forall' var source size body) = omega (arith, stmts_few (record { name = var.text; node = walked s (found scope source) } ∷ []) first body)
+    stmt_few scope first (Forall' var source size body) = omega (arith, stmts_few (record { name = var.text; part = walked s (found scope source) } ∷ []) first body)
 
     stmts_few : (scope : List Variable) (first : ℕ) {n : _} (row : Row_of-Stmt n) → items_in (stmts_items s scope first row) ≤ stmts_statements row
     stmts_few scope first end_of-Stmt = omega arith

@@ -116,7 +116,7 @@ case-statements var arms = let row = arms_in (Case var arms) in ap suc (arms_sta
 
 -- the scope of a walk's body
 abbrev pub walk_scope : Setting → List Variable → Name → Name → List Variable
-walk_scope s scope var source = record { name = var.text; node = walked s (found scope source) } ∷ []
+walk_scope s scope var source = record { name = var.text; part = walked s (found scope source) } ∷ []
 
 pub walk-breaches : (s : Setting) (scope : List Variable) (var source : Name) (body : Stmt) → stmt_breaches s scope (Forall var source body)
     ≡ walk_breaches s (found scope source) source (stmt_breaches s (walk_scope s scope var source) body)

@@ -1,5 +1,5 @@
 -- The core form of a value without breach fits the node that is expected.
-use Rattle.std.proofs.Common.{◌≡◌, ℕ, zero, suc, ◌≤◌, List, [], ◌∷◌, length, Option, Some, None, slice_get, refl, sym, ap, ◌∙◌, subst, arith}
+use Rattle.std.proofs.Common.{◌≡◌, ℕ, zero, suc, ◌≤◌, List, [], ◌∷◌, length, map, Option, Some, None, slice_get, refl, sym, ap, ◌∙◌, subst, arith}
 use Rattle.std.specs.Prelude.{Bool, true, false, not, is_some, if◌then◌else◌, nat_eq, slice_index_or, codes, decimal}
 use Rattle.std.proofs.lemmas.Bool.{eqb-true}
 use Rattle.luo_num.specs.declared.limits.TheConstants.{NUMBER_LIMIT}
@@ -25,7 +25,7 @@ use Rattle.luo_rules.specs.Patterns.{has_factors, bound, arm_breaches}
 use Rattle.luo_rules.specs.ValueBreaches.{differs, given_breaches, result_breaches, charge_use, is_atom, part_nodes, branch_at, branch_of, has_branch, misplaced, count_values, count_value_arms, value_breaches, values_breaches, boxed_value_breaches, value_arms_breaches}
 use Rattle.luo_rules.specs.ValueCore.{weight_of, charge_of, value_core, values_core, boxed_value_core, value_arms_core}
 use Rattle.luo_rules.proofs.Lists.{some_same, none_some, nil_left, nil_right, none_first, none_then}
-use Rattle.luo_rules.proofs.PatternFacts.{program_over, nodes_of, IsFoundIn, found_there, found_one, argument_fits, product_of, factors_length, may_bind, bound_same, arm_fits, case_fits}
+use Rattle.luo_rules.proofs.PatternFacts.{program_over, parts_of, IsFoundIn, found_there, found_one, argument_fits, product_of, factors_length, may_bind, bound_same, arm_fits, case_fits}
 use Rattle.luo_rules.proofs.ProperBodies.{ProperValue, ProperValues, ProperValueArms}
 
 -- what is known of a procedure by its number
@@ -64,9 +64,9 @@ not_chosen false x e = refl
 no_difference : (expected node : ℕ) (x : Breach) → (if differs (Some expected) node then (x ∷ []) else []) ≡ [] → node ≡ expected
 no_difference expected node x e = same_node node expected (nat_eq node expected) refl (not_chosen (differs (Some expected) node) x e)
 
-given_fits : (vars : List ℕ) (o : Option (ℕ × ℕ)) (expected : ℕ) (name : Name) → IsFoundIn vars o → given_breaches o (Some expected) name ≡ [] → slice_get vars (place_of o) ≡ Some expected
+given_fits : (vars : List Part) (o : Option (ℕ × Part)) (expected : ℕ) (name : Name) → IsFoundIn vars o → given_breaches o (Some expected) name ≡ [] → (x : Part) × (slice_get vars (place_of o) ≡ Some x) × (x.node ≡ expected)
 given_fits vars None expected name h e = absurd (cc)
-given_fits vars (Some q) expected name h e = h q refl ∙ ap Some (no_difference expected q.1 _ e)
+given_fits vars (Some q) expected name h e = (q.1, h q refl, no_difference expected q.1.node _ e)
 
 result_fits : (expected : ℕ) (result : Option (Option ℕ)) (name : Name) → result_breaches (Some expected) result name ≡ [] → (result ≡ Some None → ⊥) → result ≡ Some (Some expected)
 result_fits expected None name e known = absurd (cc)
@@ -119,6 +119,9 @@ chosen : {A : Type 0} (b : Bool) (x y : A) → b ≡ true → (if b then x else 
 chosen true x y e = refl
 chosen false x y e = absurd (cc)
 
+abbrev nodes_in : List Part → List ℕ
+nodes_in parts = map (λ part. part.node) parts
+
 module _ (s : Setting) (procs : List Procedure) (sites : List Site) (analyses : List ℕ) (sound : SoundSetting s procs) where
   -- the value of a measure that is charged
   pub charge_within : (charge : Option Name) → charge_use s charge ≡ [] → charge_of s charge ≤ NUMBER_LIMIT
@@ -127,7 +130,7 @@ module _ (s : Setting) (procs : List Procedure) (sites : List Site) (analyses : 
       let m = measure_meant (meant s measure) measure e in
       subst (λ n. n ≤ NUMBER_LIMIT) (sym (ap value_of m.2)) (sound.charges measure.text m.0 m.1 m.2)
 
-  made_fits : (vars : List ℕ) (o : Option (ℕ × ℕ)) (expected : ℕ) (callee arg : Name) → IsFoundIn vars o
+  made_fits : (vars : List Part) (o : Option (ℕ × Part)) (expected : ℕ) (callee arg : Name) → IsFoundIn vars o
       → (procedure_use (meant s callee) callee ≡ []) → result_breaches (Some expected) (signature_meant s (meant s callee)).result callee ≡ [] → argument_breaches o (signature_meant s (meant s callee)).on arg callee ≡ []
       → FitsValue (program_over s procs sites analyses) vars expected (plain.Made (place_of o) (procedure_of (meant s callee)))
   made_fits vars o expected callee arg h meant_so result argument =
@@ -137,15 +140,16 @@ module _ (s : Setting) (procs : List Procedure) (sites : List Site) (analyses : 
       let same = ap (λ m. (signature_meant s m).result) f.1 in
       let made = result_fits expected (signature_meant s (meant s callee)).result callee result (λ e. let r = c.result None (sym same ∙ e) in none_some r.0.on.node r.2) in
       let r = c.result (Some expected) (sym same ∙ made) in
-      (c.procedure, r.0, ap (λ m. slice_get procs (procedure_of m)) f.1 ∙ c.is, argument_fits vars o (signature_meant s (meant s callee)).on c.procedure.on.node arg callee h on argument, r.1, sym (some_same expected r.0.on.node r.2))
+      let a = argument_fits vars o (signature_meant s (meant s callee)).on c.procedure.on.node arg callee h on argument in
+      (c.procedure, r.0, a.0, ap (λ m. slice_get procs (procedure_of m)) f.1 ∙ c.is, a.1, a.2, r.1, sym (some_same expected r.0.on.node r.2))
 
   mutual
     pub value_fits : (scope : List Variable) (expected : ℕ) (v : SourceValue) → ProperValue v → value_breaches s scope (Some expected) v ≡ []
-        → FitsValue (program_over s procs sites analyses) (nodes_of scope) expected (value_core s scope (Some expected) v)
-    value_fits scope expected (Given name) p e = given_fits (nodes_of scope) (found scope name) expected name (found_there scope name) e
+        → FitsValue (program_over s procs sites analyses) (parts_of scope) expected (value_core s scope (Some expected) v)
+    value_fits scope expected (Given name) p e = given_fits (parts_of scope) (found scope name) expected name (found_there scope name) e
     value_fits scope expected (Made callee arg) p e =
         let first = nil_left (procedure_use (meant s callee) callee or_if_none result_breaches (Some expected) (signature_meant s (meant s callee)).result callee) (argument_breaches (found scope arg) (signature_meant s (meant s callee)).on arg callee) e in
-        made_fits (nodes_of scope) (found scope arg) expected callee arg (found_there scope arg)
+        made_fits (parts_of scope) (found scope arg) expected callee arg (found_there scope arg)
         (none_first (procedure_use (meant s callee) callee) (result_breaches (Some expected) (signature_meant s (meant s callee)).result callee) first)
         (none_then (procedure_use (meant s callee) callee) (result_breaches (Some expected) (signature_meant s (meant s callee)).result callee) first)
         (nil_right (procedure_use (meant s callee) callee or_if_none result_breaches (Some expected) (signature_meant s (meant s callee)).result callee) (argument_breaches (found scope arg) (signature_meant s (meant s callee)).on arg callee) e)
@@ -158,11 +162,11 @@ module _ (s : Setting) (procs : List Procedure) (sites : List Site) (analyses : 
         let here : test ≡ true = well_placed test at (codes "product") (nil_left (misplaced test at (codes "product")) (values_breaches s scope (part_nodes s (Some expected) k) parts) e) in
         let more = nil_right (misplaced test at (codes "product")) (values_breaches s scope (part_nodes s (Some expected) k) parts) e in
         let product = product_of k (shape_at s expected) here in
-        let nodes : part_nodes s (Some expected) k ≡ factors (shape_at s expected) = chosen test (factors (shape_at s expected)) [] here in
         let form = shape_at s expected in
-        let P : List ℕ → Type 0 = λ ns. IsProductOf (value_count (values_core s scope ns parts)) form × FitsValues (program_over s procs sites analyses) (nodes_of scope) (factors form) (values_core s scope ns parts) in
-        let fit : P (factors form) = (
-          subst (λ n. IsProductOf n form) (sym (values_counted scope (factors form) parts)) product,
+        let nodes : part_nodes s (Some expected) k ≡ nodes_in (factors form) = chosen test (nodes_in (factors form)) [] here in
+        let P : List ℕ → Type 0 = λ ns. IsProductOf (value_count (values_core s scope ns parts)) form × FitsValues (program_over s procs sites analyses) (parts_of scope) (factors form) (values_core s scope ns parts) in
+        let fit : P (nodes_in (factors form)) = (
+          subst (λ n. IsProductOf n form) (sym (values_counted scope (nodes_in (factors form)) parts)) product,
           values_fit scope (factors form) parts p (factors_length k form product) (subst (λ ns. values_breaches s scope ns parts ≡ []) nodes more),
         ) in
         subst P (sym nodes) fit
@@ -172,18 +176,18 @@ module _ (s : Setting) (procs : List Procedure) (sites : List Site) (analyses : 
         let more = nil_right (misplaced (has_branch number form) at (decimal number)) (boxed_value_breaches s scope (branch_of form number) inner) e in
         let y = there_is (branch_of form number) here in
         let u = union_of form number y.0 y.1 in
-        let P : Option ℕ → Type 0 = λ o. FitsValue (program_over s procs sites analyses) (nodes_of scope) u.branch.part.node (boxed_value_core s scope o inner) in
-        let fit : FitsValue (program_over s procs sites analyses) (nodes_of scope) y.0 (boxed_value_core s scope (Some y.0) inner) = boxed_fits scope y.0 inner p.0 p.1 (subst (λ o. boxed_value_breaches s scope o inner ≡ []) y.1 more) in
-        let fit' : P (branch_of form number) = subst P (sym y.1) (subst (λ n. FitsValue (program_over s procs sites analyses) (nodes_of scope) n (boxed_value_core s scope (Some y.0) inner)) (sym u.branch.node) fit) in
+        let P : Option ℕ → Type 0 = λ o. FitsValue (program_over s procs sites analyses) (parts_of scope) u.branch.part.node (boxed_value_core s scope o inner) in
+        let fit : FitsValue (program_over s procs sites analyses) (parts_of scope) y.0 (boxed_value_core s scope (Some y.0) inner) = boxed_fits scope y.0 inner p.0 p.1 (subst (λ o. boxed_value_breaches s scope o inner ≡ []) y.1 more) in
+        let fit' : P (branch_of form number) = subst P (sym y.1) (subst (λ n. FitsValue (program_over s procs sites analyses) (parts_of scope) n (boxed_value_core s scope (Some y.0) inner)) (sym u.branch.node) fit) in
         (u.parts, u.branch.i, u.branch.part, u.is, u.branch.from_one, u.branch.at, fit')
     value_fits scope expected (Case' var size arms) p e =
         let c = case_fits s (found scope var) var (count_value_arms arms) (value_arms_breaches s (case_stands s (found scope var)) (Some expected) var arms) e in
         let x = c.variable.1 in
-        let ss = stands x (shape_at s x) in
+        let ss = stands x (shape_at s x.node) in
         let some : case_stands s (found scope var) ≡ ss = ap (case_stands s) c.is in
         let fit = value_arms_fit scope ss expected var arms p.1 (sym c.many) (subst (λ z. value_arms_breaches s z (Some expected) var arms ≡ []) some c.none) in (
           x,
-          found_one (nodes_of scope) (found scope var) c.variable (found_there scope var) c.is,
+          found_one (parts_of scope) (found scope var) c.variable (found_there scope var) c.is,
           omega (arith, c.many, p.0),
           subst (λ z. FitsValueArms (program_over s procs sites analyses) ss expected (value_arms_core s z (Some expected) arms)) (sym some) fit,
         )
@@ -193,18 +197,18 @@ module _ (s : Setting) (procs : List Procedure) (sites : List Site) (analyses : 
     values_counted scope [] (more_of-SourceValue v rest) = ap suc (values_counted scope [] rest)
     values_counted scope (x ∷ nodes) (more_of-SourceValue v rest) = ap suc (values_counted scope nodes rest)
 
-    values_fit : (scope : List Variable) (nodes : List ℕ) {n : _} (row : Row_of-SourceValue n) → ProperValues row → length nodes ≡ count_values row → values_breaches s scope nodes row ≡ []
-        → FitsValues (program_over s procs sites analyses) (nodes_of scope) nodes (values_core s scope nodes row)
+    values_fit : (scope : List Variable) (parts : List Part) {n : _} (row : Row_of-SourceValue n) → ProperValues row → length parts ≡ count_values row → values_breaches s scope (nodes_in parts) row ≡ []
+        → FitsValues (program_over s procs sites analyses) (parts_of scope) parts (values_core s scope (nodes_in parts) row)
     values_fit scope [] end_of-SourceValue p l e = tt
-    values_fit scope (x ∷ nodes) end_of-SourceValue p l e = absurd (omega (arith, l))
+    values_fit scope (x ∷ parts) end_of-SourceValue p l e = absurd (omega (arith, l))
     values_fit scope [] (more_of-SourceValue v rest) p l e = absurd (omega (arith, l))
-    values_fit scope (x ∷ nodes) (more_of-SourceValue v rest) p l e = (
-      value_fits scope x v p.0 (nil_left (value_breaches s scope (Some x) v) (values_breaches s scope nodes rest) e),
-      values_fit scope nodes rest p.1 (omega (arith, l)) (nil_right (value_breaches s scope (Some x) v) (values_breaches s scope nodes rest) e),
+    values_fit scope (x ∷ parts) (more_of-SourceValue v rest) p l e = (
+      value_fits scope x.node v p.0 (nil_left (value_breaches s scope (Some x.node) v) (values_breaches s scope (nodes_in parts) rest) e),
+      values_fit scope parts rest p.1 (omega (arith, l)) (nil_right (value_breaches s scope (Some x.node) v) (values_breaches s scope (nodes_in parts) rest) e),
     )
 
     boxed_fits : (scope : List Variable) (expected : ℕ) {n : _} (row : Row_of-SourceValue n) → 1 ≤ count_values row → ProperValues row → boxed_value_breaches s scope (Some expected) row ≡ []
-        → FitsValue (program_over s procs sites analyses) (nodes_of scope) expected (boxed_value_core s scope (Some expected) row)
+        → FitsValue (program_over s procs sites analyses) (parts_of scope) expected (boxed_value_core s scope (Some expected) row)
     boxed_fits scope expected end_of-SourceValue l p e = absurd (omega (arith, l))
     boxed_fits scope expected (more_of-SourceValue v rest) l p e = value_fits scope expected v p.0 e
 

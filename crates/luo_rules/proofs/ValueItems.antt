@@ -2,6 +2,7 @@
 use Rattle.std.proofs.Common.{ℕ, suc, ◌+◌, ◌*◌, ◌≤◌, List, [], ◌∷◌, Option, Some, None, arith}
 use Rattle.std.proofs.Math.Nat.{add-mul}
 use Rattle.luo_num.specs.declared.limits.TheConstants.{NUMBER_LIMIT, STATEMENT_LIMIT}
+use Rattle.luo_model.specs.declared.program.Part.{Part}
 use Rattle.luo_model.specs.Program.{Program, Value, Given, Made, Atom, Tuple, Branch, Chosen, Values, no_values, value, ValueArms, no_value_arms, value_arm, shape_of}
 use Rattle.luo_model.specs.Scopes.Stands.{Stand, stands, bound_parts}
 use Rattle.luo_model.specs.Scopes.Fits.{FitsValue, FitsValues, FitsValueArms}
@@ -37,7 +38,7 @@ abbrev mutual
   value_arms_size (value_arm bind v arms) = value_size v + value_arms_size arms
 
 mutual
-  own_bound : (p : Program) (vars : List ℕ) (expected : ℕ) (v : Value) → FitsValue p vars expected v → value_own v ≤ value_size v * NUMBER_LIMIT
+  own_bound : (p : Program) (vars : List Part) (expected : ℕ) (v : Value) → FitsValue p vars expected v → value_own v ≤ value_size v * NUMBER_LIMIT
   own_bound p vars expected (Given var) h = omega arith
   own_bound p vars expected (Made var callee) h = omega arith
   own_bound p vars expected (Atom weight own) h = omega (arith, h.1)
@@ -45,31 +46,31 @@ mutual
   own_bound p vars expected (Branch number v) h = own_bound p vars _ v h.6
   own_bound p vars expected (Chosen var arms) h = omega arith
 
-  owns_bound : (p : Program) (vars nodes : List ℕ) (vs : Values) → FitsValues p vars nodes vs → values_own vs ≤ values_size vs * NUMBER_LIMIT
+  owns_bound : (p : Program) (vars parts : List Part) (vs : Values) → FitsValues p vars parts vs → values_own vs ≤ values_size vs * NUMBER_LIMIT
   owns_bound p vars [] no_values h = omega arith
-  owns_bound p vars (x ∷ nodes) no_values h = absurd h
+  owns_bound p vars (x ∷ parts) no_values h = absurd h
   owns_bound p vars [] (value v vs) h = absurd h
-  owns_bound p vars (x ∷ nodes) (value v vs) h = omega (arith, own_bound p vars x v h.0, owns_bound p vars nodes vs h.1, add-mul (value_size v) (values_size vs) NUMBER_LIMIT)
+  owns_bound p vars (x ∷ parts) (value v vs) h = omega (arith, own_bound p vars x.node v h.0, owns_bound p vars parts vs h.1, add-mul (value_size v) (values_size vs) NUMBER_LIMIT)
 
 -- what a value charges is within the limit, where it is small
-pub value_within : (p : Program) (vars : List ℕ) (expected : ℕ) (v : Value) → FitsValue p vars expected v → value_size v ≤ STATEMENT_LIMIT → value_own v ≤ STATEMENT_LIMIT * NUMBER_LIMIT
+pub value_within : (p : Program) (vars : List Part) (expected : ℕ) (v : Value) → FitsValue p vars expected v → value_size v ≤ STATEMENT_LIMIT → value_own v ≤ STATEMENT_LIMIT * NUMBER_LIMIT
 value_within p vars expected v h l = own_within (value_own v) (value_size v) NUMBER_LIMIT (own_bound p vars expected v h) l
 
 mutual
-  pub value_good : (p : Program) (vars : List ℕ) (expected first : ℕ) (v : Value) → FitsValue p vars expected v → value_size v ≤ STATEMENT_LIMIT → GoodItems p vars first (value_sites v) (value_items first v)
+  pub value_good : (p : Program) (vars : List Part) (expected first : ℕ) (v : Value) → FitsValue p vars expected v → value_size v ≤ STATEMENT_LIMIT → GoodItems p vars first (value_sites v) (value_items first v)
   value_good p vars expected first (Given var) h l = good_none p vars first
-  value_good p vars expected first (Made var callee) h l = good_call p vars var callee first (h.0, h.2, h.3)
+  value_good p vars expected first (Made var callee) h l = good_call p vars var callee first (h.0, h.2, h.3, h.4, h.5)
   value_good p vars expected first (Atom weight own) h l = good_none p vars first
   value_good p vars expected first (Tuple vs) h l = values_good p vars _ first vs h.1 l
   value_good p vars expected first (Branch number v) h l = value_good p vars _ first v h.6 l
-  value_good p vars expected first (Chosen var arms) h l = good_case p vars var h.0 first (value_arms_sites arms) (value_arm_bodies first arms) h.1 h.2 (value_arms_good p (stands h.0 (shape_of p h.0)) expected first arms h.3 (omega arith))
+  value_good p vars expected first (Chosen var arms) h l = good_case p vars var h.0 first (value_arms_sites arms) (value_arm_bodies first arms) h.1 h.2 (value_arms_good p (stands h.0 (shape_of p h.0.node)) expected first arms h.3 (omega arith))
 
-  values_good : (p : Program) (vars nodes : List ℕ) (first : ℕ) (vs : Values) → FitsValues p vars nodes vs → values_size vs ≤ STATEMENT_LIMIT → GoodItems p vars first (values_sites vs) (values_items first vs)
+  values_good : (p : Program) (vars parts : List Part) (first : ℕ) (vs : Values) → FitsValues p vars parts vs → values_size vs ≤ STATEMENT_LIMIT → GoodItems p vars first (values_sites vs) (values_items first vs)
   values_good p vars [] first no_values h l = good_none p vars first
-  values_good p vars (x ∷ nodes) first no_values h l = absurd h
+  values_good p vars (x ∷ parts) first no_values h l = absurd h
   values_good p vars [] first (value v vs) h l = absurd h
-  values_good p vars (x ∷ nodes) first (value v vs) h l =
-      good_join p vars first (value_sites v) (values_sites vs) (value_items first v) (values_items (first + value_sites v) vs) (value_good p vars x first v h.0 (omega arith)) (values_good p vars nodes (first + value_sites v) vs h.1 (omega arith))
+  values_good p vars (x ∷ parts) first (value v vs) h l =
+      good_join p vars first (value_sites v) (values_sites vs) (value_items first v) (values_items (first + value_sites v) vs) (value_good p vars x.node first v h.0 (omega arith)) (values_good p vars parts (first + value_sites v) vs h.1 (omega arith))
 
   value_arms_good : (p : Program) (ss : List Stand) (expected first : ℕ) (arms : ValueArms) → FitsValueArms p ss expected arms → value_arms_size arms ≤ STATEMENT_LIMIT → GoodArms p ss first (value_arms_sites arms) (value_arm_bodies first arms)
   value_arms_good p [] expected first no_value_arms h l = good_no_arms p first
@@ -77,7 +78,7 @@ mutual
   value_arms_good p [] expected first (value_arm bind v arms) h l = absurd h
   value_arms_good p (stand ∷ ss) expected first (value_arm bind v arms) h l =
       good_arm p stand ss bind (value_own v) first (value_sites v) (value_arms_sites arms) (value_items first v) (value_arm_bodies (first + value_sites v) arms) h.0
-      (value_within p (bound_nodes p stand bind) expected v h.1 (omega arith)) (value_good p (bound_nodes p stand bind) expected first v h.1 (omega arith)) (value_arms_good p ss expected (first + value_sites v) arms h.2 (omega arith))
+      (value_within p (bound_parts p stand bind) expected v h.1 (omega arith)) (value_good p (bound_parts p stand bind) expected first v h.1 (omega arith)) (value_arms_good p ss expected (first + value_sites v) arms h.2 (omega arith))
 
 mutual
   -- a value has no more items than it is large

@@ -217,11 +217,11 @@ abbrev mutual
 abbrev pub body_asked : Setting → ProcDef → Option ℕ → ProcBody → List Asked
 body_asked s p None (Statements stmts) = []
 body_asked s p (Some node) (Statements stmts) =
-    flat_map (stmt_asked s (parameter p.param node)) stmts
+    flat_map (stmt_asked s (parameter s p)) stmts
 body_asked s p None (Value colon result value) = results colon p.name ∷ (uses a_type result ∷ [])
 body_asked s p (Some node) (Value colon result value) =
     results colon p.name
-    ∷ (uses a_type result ∷ value_asked s (parameter p.param node) (type_node s result) value)
+    ∷ (uses a_type result ∷ value_asked s (parameter s p) (type_node s result) value)
 
 abbrev pub procs_asked : Setting → ℕ → List ProcDef → List Asked
 procs_asked s f [] = []

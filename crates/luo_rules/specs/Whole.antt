@@ -139,4 +139,4 @@ IsCore source p = (breaches source ≡ []) × (p ≡ core source)
 
 -- the walks of a program over multisets and powersets
 abbrev pub walk_count : plain.Program → ℕ
-walk_count p = sum_by (λ (P : plain.Procedure). body_walks p (P.on.node ∷ []) P.body) p.procs
+walk_count p = sum_by (λ (P : plain.Procedure). body_walks p (P.on ∷ []) P.body) p.procs

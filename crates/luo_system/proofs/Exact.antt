@@ -23,7 +23,8 @@ use Rattle.luo_equation.proofs.CountLaws.{exact_of}
 use Rattle.luo_system.specs.Plain.{join_exprs, terms_of, all_terms, as_sum, sum_of, factors_of, all_factors, as_product, is_zero, has_zero, unless_zero, product_of, walk_of}
 use Rattle.luo_system.specs.System.{named, exprs_of, shape_expr, node_expr, part_expr}
 use Rattle.luo_system.specs.System.{whole_parts, others, item_var, walk_expr, body_expr, items_exprs, item_expr, arms_exprs}
-use Rattle.luo_system.proofs.Counts.{count_of, CZ, C, solid_part, suits_program}
+use Rattle.luo_counting.proofs.OfPrograms.{suits_program}
+use Rattle.luo_system.proofs.Counts.{count_of, CZ, C, solid_part}
 use Rattle.luo_system.proofs.Definitions.{part_there, part_holds, node_holds}
 use Rattle.luo_model.specs.Scopes.Stands.{Stand, inside, itself, stand_part, stands, factors, component, bound_parts, part_at}
 use Rattle.luo_finite.proofs.Membership.{In-map_back}

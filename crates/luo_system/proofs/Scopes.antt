@@ -36,7 +36,8 @@ use Rattle.luo_equation.proofs.Local.{times-same, point-same}
 use Rattle.luo_equation.proofs.CountLaws.{point-pos}
 use Rattle.luo_system.specs.System.{others}
 use Rattle.luo_system.proofs.Values.{products_in, products-low}
-use Rattle.luo_system.proofs.Counts.{light_program, suits_program, count_of, counted, solid_part, C, CZ, node_value, products-pos}
+use Rattle.luo_counting.proofs.OfPrograms.{light_program, suits_program}
+use Rattle.luo_system.proofs.Counts.{count_of, counted, solid_part, C, CZ, node_value, products-pos}
 use Rattle.luo_system.proofs.Charging.{tree_at}
 
 at_part-get : (j : ℕ) (w : Tree → ℕ) (l : List Tree) → j < length l → at_part j w l ≡ w (tree_at l j)
