@@ -3,3 +3,4 @@ pub mod OneTypes
 pub mod OneStatements
 pub mod OneValues
 pub mod OneProgram
+pub mod ViewLemmas

@@ -1,3 +1,5 @@
+pub mod Plain
+pub mod View
 pub mod GrammarTypes
 pub mod GrammarStatements
 pub mod GrammarValues

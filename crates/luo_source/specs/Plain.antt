@@ -1,0 +1,4 @@
+pub mod Types
+pub mod Statements
+pub mod Values
+pub mod Source
