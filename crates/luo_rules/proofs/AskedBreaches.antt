@@ -11,17 +11,13 @@ use Rattle.luo_model.specs.Invariant.{greatest_weight}
 use Rattle.luo_model.specs.Scopes.Stands.{Stand}
 use Rattle.luo_source.specs.declared.names.Name.{Name}
 use Rattle.luo_source.specs.declared.types.Bound.{Bound}
-use Rattle.luo_source.specs.declared.types.TypeExpr.{TypeExpr, Named, Epsilon, Atom, Union', Product', Coll', Row_of-TypeExpr, end_of-TypeExpr, more_of-TypeExpr}
-use Rattle.luo_source.specs.declared.types.TypeDef.{TypeDef}
+use Rattle.luo_source.specs.Plain.Types.{TypeExpr, Named, Epsilon, Atom, Union, Product, Coll, TypeExprs, no_exprs, an_expr, TypeDef}
 use Rattle.luo_source.specs.declared.statements.Pattern.{Pattern}
 use Rattle.luo_source.specs.declared.statements.Pattern.TheVariants as pattern
-use Rattle.luo_source.specs.declared.statements.Stmt.{Stmt, Skip, Charge, Call, Block', Case', Forall', Row_of-Stmt, end_of-Stmt, more_of-Stmt, Row_of-SourceArm, end_of-SourceArm, more_of-SourceArm}
-use Rattle.luo_source.specs.declared.values.SourceValue.{SourceValue, Row_of-SourceValue, end_of-SourceValue, more_of-SourceValue, Row_of-SourceValueArm, end_of-SourceValueArm, more_of-SourceValueArm}
-use Rattle.luo_source.specs.declared.values.SourceValue as made
-use Rattle.luo_source.specs.declared.source.ProcBody.{ProcBody}
-use Rattle.luo_source.specs.declared.source.ProcBody.TheVariants.{Statements, Value}
-use Rattle.luo_source.specs.declared.source.ProcDef.{ProcDef}
-use Rattle.luo_source.specs.declared.source.Source.{Source}
+use Rattle.luo_source.specs.Plain.Statements.{Stmt, Skip, Charge, Call, Block, Case, Forall, Stmts, no_stmts, a_stmt, SourceArms, no_source_arms, a_source_arm}
+use Rattle.luo_source.specs.Plain.Values.{SourceValue, SourceValues, no_source_values, a_source_value, SourceValueArms, no_source_value_arms, a_source_value_arm}
+use Rattle.luo_source.specs.Plain.Values as made
+use Rattle.luo_source.specs.Plain.Source.{ProcBody, Statements, Value, ProcDef, Source}
 use Rattle.luo_rules.specs.declared.names.Meaning.{Meaning}
 use Rattle.luo_rules.specs.declared.names.Meaning.TheVariants as mean
 use Rattle.luo_rules.specs.declared.rule.Rule.TheVariants.{Y1, Y8, Y10}
@@ -110,16 +106,16 @@ module _ (defs : List Definition) (s : Setting) where
     expr_all (Named name) = sym (append_nil (type_use (meant s name) name))
     expr_all (Epsilon at) = refl
     expr_all (Atom weight weight_at at) = sym (append_nil (own defs s (weighs weight weight_at)))
-    expr_all (Union' size parts) = exprs_all parts
-    expr_all (Product' size parts at) = exprs_all parts
-    expr_all (Coll' kind size part bound at) =
+    expr_all (Union parts) = exprs_all parts
+    expr_all (Product parts at) = exprs_all parts
+    expr_all (Coll kind part bound at) =
         append_assoc (kind_breaches s.universe kind at) (exprs_breaches s.universe s.names part) (bound_breaches kind bound)
         ∙ ap (λ z. kind_breaches s.universe kind at ++ z)
         (joined defs s (exprs_asked part) (bound_asked kind bound) (exprs_breaches s.universe s.names part) (bound_breaches kind bound) (exprs_all part) (bound_all kind bound))
 
-    exprs_all : {n : _} (row : Row_of-TypeExpr n) → exprs_breaches s.universe s.names row ≡ all defs s (exprs_asked row)
-    exprs_all end_of-TypeExpr = refl
-    exprs_all (more_of-TypeExpr e rest) =
+    exprs_all : (row : TypeExprs) → exprs_breaches s.universe s.names row ≡ all defs s (exprs_asked row)
+    exprs_all no_exprs = refl
+    exprs_all (an_expr e rest) =
         joined defs s (expr_asked e) (exprs_asked rest) (expr_breaches s.universe s.names e) (exprs_breaches s.universe s.names rest) (expr_all e) (exprs_all rest)
 
   none_behind : (e : TypeExpr) → (expr_breaches s.universe s.names e or_if_none []) ≡ all defs s (expr_asked e ++ [])
@@ -134,9 +130,9 @@ module _ (defs : List Definition) (s : Setting) where
       or_silent here way ∙ ap (λ z. here ++ z) (sym (append_nil (silent here way)))
   right_all i owners (Epsilon at) = none_behind (Epsilon at)
   right_all i owners (Atom weight weight_at at) = none_behind (Atom weight weight_at at)
-  right_all i owners (Union' size parts) = none_behind (Union' size parts)
-  right_all i owners (Product' size parts at) = none_behind (Product' size parts at)
-  right_all i owners (Coll' kind size part bound at) = none_behind (Coll' kind size part bound at)
+  right_all i owners (Union parts) = none_behind (Union parts)
+  right_all i owners (Product parts at) = none_behind (Product parts at)
+  right_all i owners (Coll kind part bound at) = none_behind (Coll kind part bound at)
 
   new_all : (i : ℕ) (names : List Name) → new_types s.names i names ≡ all defs s (new_asked i names)
   new_all i [] = refl
@@ -221,22 +217,22 @@ module _ (defs : List Definition) (s : Setting) where
     stmt_all scope Skip = refl
     stmt_all scope (Charge measure) = sym (append_nil (measure_use (meant s measure) measure))
     stmt_all scope (Call callee arg) = ap (λ z. procedure_use (meant s callee) callee ++ z) (handed (found scope arg) (signature_meant s (meant s callee)).on arg callee)
-    stmt_all scope (Block' size stmts) = stmts_all scope stmts
-    stmt_all scope (Case' var size arms) =
+    stmt_all scope (Block stmts) = stmts_all scope stmts
+    stmt_all scope (Case var arms) =
         case_all scope var (count_arms arms) (arms_breaches s (case_stands s (found scope var)) var arms) (arms_asked s (case_stands s (found scope var)) var arms) (arms_all (case_stands s (found scope var)) var arms)
-    stmt_all scope (Forall' var source size body) =
+    stmt_all scope (Forall var source body) =
         let inner : List Variable = record { name = var.text; part = walked s (found scope source) } ∷ [] in
         walk_by (found scope source) source (stmts_breaches s inner body) (stmts_asked s inner body) (stmts_all inner body)
 
-    stmts_all : (scope : List Variable) {n : _} (row : Row_of-Stmt n) → stmts_breaches s scope row ≡ all defs s (stmts_asked s scope row)
-    stmts_all scope end_of-Stmt = refl
-    stmts_all scope (more_of-Stmt stmt rest) =
+    stmts_all : (scope : List Variable) (row : Stmts) → stmts_breaches s scope row ≡ all defs s (stmts_asked s scope row)
+    stmts_all scope no_stmts = refl
+    stmts_all scope (a_stmt stmt rest) =
         joined defs s (stmt_asked s scope stmt) (stmts_asked s scope rest) (stmt_breaches s scope stmt) (stmts_breaches s scope rest) (stmt_all scope stmt) (stmts_all scope rest)
 
-    arms_all : (stands : List Stand) (var : Name) {n : _} (row : Row_of-SourceArm n) → arms_breaches s stands var row ≡ all defs s (arms_asked s stands var row)
-    arms_all stands var end_of-SourceArm = refl
-    arms_all [] var (more_of-SourceArm p body rest) = refl
-    arms_all (stand ∷ stands) var (more_of-SourceArm p body rest) =
+    arms_all : (stands : List Stand) (var : Name) (row : SourceArms) → arms_breaches s stands var row ≡ all defs s (arms_asked s stands var row)
+    arms_all stands var no_source_arms = refl
+    arms_all [] var (a_source_arm p body rest) = refl
+    arms_all (stand ∷ stands) var (a_source_arm p body rest) =
         let bs = stmt_breaches s (bound s stand p) body in
         let qs = stmt_asked s (bound s stand p) body in
         joined defs s (arm_asked s stand var p qs) (arms_asked s stands var rest) (arm_breaches s stand var p bs) (arms_breaches s stands var rest)
@@ -260,29 +256,29 @@ module _ (defs : List Definition) (s : Setting) where
     value_all scope expected (made.Atom charge at) =
         joined defs s (charge_asked charge) (builds is_atom expected at (codes "atom") ∷ []) (charge_use s charge) (misplaced (may_stand s expected is_atom) at (codes "atom"))
         (charge_all charge) (sym (append_nil (misplaced (may_stand s expected is_atom) at (codes "atom"))))
-    value_all scope expected (made.Tuple' size parts at) =
+    value_all scope expected (made.Tuple parts at) =
         ap (λ z. misplaced (may_stand s expected (has_factors (count_values parts))) at (codes "product") ++ z) (values_all scope (part_nodes s expected (count_values parts)) parts)
-    value_all scope expected (made.Branch' number at size inner) =
+    value_all scope expected (made.Branch number at inner) =
         ap (λ z. misplaced (may_stand s expected (has_branch number)) at (decimal number) ++ z) (boxed_all scope (inner_node s expected number) inner)
-    value_all scope expected (made.Case' var size arms) =
+    value_all scope expected (made.Case var arms) =
         case_all scope var (count_value_arms arms) (value_arms_breaches s (case_stands s (found scope var)) expected var arms) (value_arms_asked s (case_stands s (found scope var)) expected var arms)
         (value_arms_all (case_stands s (found scope var)) expected var arms)
 
-    values_all : (scope : List Variable) (nodes : List ℕ) {n : _} (row : Row_of-SourceValue n) → values_breaches s scope nodes row ≡ all defs s (values_asked s scope nodes row)
-    values_all scope nodes end_of-SourceValue = refl
-    values_all scope [] (more_of-SourceValue v rest) =
+    values_all : (scope : List Variable) (nodes : List ℕ) (row : SourceValues) → values_breaches s scope nodes row ≡ all defs s (values_asked s scope nodes row)
+    values_all scope nodes no_source_values = refl
+    values_all scope [] (a_source_value v rest) =
         joined defs s (value_asked s scope None v) (values_asked s scope [] rest) (value_breaches s scope None v) (values_breaches s scope [] rest) (value_all scope None v) (values_all scope [] rest)
-    values_all scope (node ∷ nodes) (more_of-SourceValue v rest) =
+    values_all scope (node ∷ nodes) (a_source_value v rest) =
         joined defs s (value_asked s scope (Some node) v) (values_asked s scope nodes rest) (value_breaches s scope (Some node) v) (values_breaches s scope nodes rest) (value_all scope (Some node) v) (values_all scope nodes rest)
 
-    boxed_all : (scope : List Variable) (expected : Option ℕ) {n : _} (row : Row_of-SourceValue n) → boxed_value_breaches s scope expected row ≡ all defs s (boxed_value_asked s scope expected row)
-    boxed_all scope expected end_of-SourceValue = refl
-    boxed_all scope expected (more_of-SourceValue v rest) = value_all scope expected v
+    boxed_all : (scope : List Variable) (expected : Option ℕ) (row : SourceValues) → boxed_value_breaches s scope expected row ≡ all defs s (boxed_value_asked s scope expected row)
+    boxed_all scope expected no_source_values = refl
+    boxed_all scope expected (a_source_value v rest) = value_all scope expected v
 
-    value_arms_all : (stands : List Stand) (expected : Option ℕ) (var : Name) {n : _} (row : Row_of-SourceValueArm n) → value_arms_breaches s stands expected var row ≡ all defs s (value_arms_asked s stands expected var row)
-    value_arms_all stands expected var end_of-SourceValueArm = refl
-    value_arms_all [] expected var (more_of-SourceValueArm p body rest) = refl
-    value_arms_all (stand ∷ stands) expected var (more_of-SourceValueArm p body rest) =
+    value_arms_all : (stands : List Stand) (expected : Option ℕ) (var : Name) (row : SourceValueArms) → value_arms_breaches s stands expected var row ≡ all defs s (value_arms_asked s stands expected var row)
+    value_arms_all stands expected var no_source_value_arms = refl
+    value_arms_all [] expected var (a_source_value_arm p body rest) = refl
+    value_arms_all (stand ∷ stands) expected var (a_source_value_arm p body rest) =
         let bs = value_breaches s (bound s stand p) expected body in
         let qs = value_asked s (bound s stand p) expected body in
         joined defs s (arm_asked s stand var p qs) (value_arms_asked s stands expected var rest) (arm_breaches s stand var p bs) (value_arms_breaches s stands expected var rest)

@@ -19,8 +19,7 @@ use Rattle.luo_source.specs.declared.names.Name.{Name}
 use Rattle.luo_source.specs.declared.types.Range.{Range}
 use Rattle.luo_source.specs.declared.types.Range.TheVariants.{Exactly, AtMost, AtLeast, Between}
 use Rattle.luo_source.specs.declared.types.Bound.{Bound}
-use Rattle.luo_source.specs.declared.types.TypeExpr.{TypeExpr, Named, Epsilon, Atom, Union', Product', Coll', Row_of-TypeExpr, end_of-TypeExpr, more_of-TypeExpr}
-use Rattle.luo_source.specs.declared.types.TypeDef.{TypeDef}
+use Rattle.luo_source.specs.Plain.Types.{TypeExpr, Named, Epsilon, Atom, Union, Product, Coll, TypeExprs, no_exprs, an_expr, TypeDef}
 use Rattle.luo_rules.specs.declared.names.Meaning.{Meaning}
 use Rattle.luo_rules.specs.Counted as counted
 use Rattle.luo_rules.specs.Counted.{own_nodes, own_multisets, own_multisets_of, count_exprs, most_parts, most_parts_of, greatest_bound, greatest_bound_of, greatest_in, greatest_of}
@@ -92,22 +91,22 @@ bound_allowed kind (Some bound) h l =
     (low_allowed kind (low_in kind bound.range) t.1, low_small kind bound.range l, high_allowed kind bound.range l t.0)
 
 module _ (universe : Universe) (names : List (List ℕ × Meaning)) (defs : List Definition) where
-  pub parts_length : (at : Spot) {n : _} (row : Row_of-TypeExpr n) → length (parts_at names defs at row) ≡ count_exprs row
-  parts_length at end_of-TypeExpr = refl
-  parts_length at (more_of-TypeExpr e rest) = ap suc (parts_length (behind at (own_nodes e)) rest)
+  pub parts_length : (at : Spot) (row : TypeExprs) → length (parts_at names defs at row) ≡ count_exprs row
+  parts_length at no_exprs = refl
+  parts_length at (an_expr e rest) = ap suc (parts_length (behind at (own_nodes e)) rest)
 
   head_allowed : (owner : ℕ) (at : Spot) (e : TypeExpr) → ProperType e → expr_breaches universe names e ≡ [] → most_parts e ≤ PART_LIMIT → greatest_bound e ≤ BOUND_LIMIT → (node : Node) → slice_get (nodes_at names defs owner at e) 0 ≡ Some node → IsAllowed universe node.shape
   head_allowed owner at (Named name) p h m g node f = absurd (none_some node f)
   head_allowed owner at (Epsilon token) p h m g node f = subst (λ (z : Node). IsAllowed universe z.shape) (some_same _ node f) (omega arith)
   head_allowed owner at (Atom weight weight_at token) p h m g node f =
       subst (λ (z : Node). IsAllowed universe z.shape) (some_same _ node f) (leb-true weight (greatest_weight universe) (chosen_true (nat_le weight (greatest_weight universe)) [] _ h))
-  head_allowed owner at (Union' size parts) p h m g node f =
+  head_allowed owner at (Union parts) p h m g node f =
       let long = parts_length (behind at 1) parts in
       subst (λ (z : Node). IsAllowed universe z.shape) (some_same _ node f) (omega (arith, long, p.0), omega (arith, long, m, le-max_left (count_exprs parts) (most_parts_of parts)))
-  head_allowed owner at (Product' size parts token) p h m g node f =
+  head_allowed owner at (Product parts token) p h m g node f =
       let long = parts_length (behind at 1) parts in
       subst (λ (z : Node). IsAllowed universe z.shape) (some_same _ node f) (omega (arith, long, p.0), omega (arith, long, m, le-max_left (count_exprs parts) (most_parts_of parts)))
-  head_allowed owner at (Coll' kind size part bound token) p h m g node f =
+  head_allowed owner at (Coll kind part bound token) p h m g node f =
       let first = nil_left (kind_breaches universe kind token ++ exprs_breaches universe names part) (bound_breaches kind bound) h in
       let b = bound_allowed kind bound (nil_right (kind_breaches universe kind token ++ exprs_breaches universe names part) (bound_breaches kind bound) h) (omega (arith, g, le-max_right (greatest_bound_of part) (greatest_of bound))) in
       subst (λ (z : Node). IsAllowed universe z.shape) (some_same _ node f)
@@ -141,18 +140,18 @@ module _ (names : List (List ℕ × Meaning)) (defs : List Definition) where
     nodes_multisets owner at (Named name) = refl
     nodes_multisets owner at (Epsilon token) = more_multisets (shape.Atom 0) owner at.place [] 0 0 0 refl refl (omega arith)
     nodes_multisets owner at (Atom weight weight_at token) = more_multisets (shape.Atom weight) owner at.place [] 0 0 0 refl refl (omega arith)
-    nodes_multisets owner at (Union' size parts) =
+    nodes_multisets owner at (Union parts) =
         more_multisets (shape.Union (parts_at names defs (behind at 1) parts)) owner at.place (all_nodes_at names defs owner (behind at 1) parts) 0 (own_multisets_of parts) (own_multisets_of parts) refl (row_multisets owner (behind at 1) parts) (omega arith)
-    nodes_multisets owner at (Product' size parts token) =
+    nodes_multisets owner at (Product parts token) =
         more_multisets (shape.Product (parts_at names defs (behind at 1) parts)) owner at.place (all_nodes_at names defs owner (behind at 1) parts) 0 (own_multisets_of parts) (own_multisets_of parts) refl (row_multisets owner (behind at 1) parts) (omega arith)
-    nodes_multisets owner at (Coll' kind size part bound token) =
+    nodes_multisets owner at (Coll kind part bound token) =
         let held = boxed_part_at names defs (behind at 1) part in
         more_multisets (shape.Coll kind held (low_of kind bound) (high_of bound)) owner at.place (all_nodes_at names defs owner (behind at 1) part) (counted.multiset_of kind) (own_multisets_of part) (counted.multiset_of kind + own_multisets_of part)
         (kind_multiset kind held (low_of kind bound) (high_of bound)) (row_multisets owner (behind at 1) part) refl
 
-    row_multisets : (owner : ℕ) (at : Spot) {n : _} (row : Row_of-TypeExpr n) → multisets_in (all_nodes_at names defs owner at row) ≡ own_multisets_of row
-    row_multisets owner at end_of-TypeExpr = refl
-    row_multisets owner at (more_of-TypeExpr e rest) =
+    row_multisets : (owner : ℕ) (at : Spot) (row : TypeExprs) → multisets_in (all_nodes_at names defs owner at row) ≡ own_multisets_of row
+    row_multisets owner at no_exprs = refl
+    row_multisets owner at (an_expr e rest) =
         sum_by-append (λ (z : Node). multiset_of z.shape) (nodes_at names defs owner at e) (all_nodes_at names defs owner (behind at (own_nodes e)) rest)
         ∙ omega (arith, nodes_multisets owner at e, row_multisets owner (behind at (own_nodes e)) rest)
 

@@ -15,10 +15,7 @@ use Rattle.luo_model.specs.Scopes.Sites.{body_sites}
 use Rattle.luo_model.specs.Scopes.Walks.{body_items}
 use Rattle.luo_model.specs.Invariant.{IsNamed, IsProcedure, placed, sites_from}
 use Rattle.luo_source.specs.declared.names.Name.{Name}
-use Rattle.luo_source.specs.declared.source.ProcBody.{ProcBody}
-use Rattle.luo_source.specs.declared.source.ProcBody.TheVariants.{Statements, Value}
-use Rattle.luo_source.specs.declared.source.ProcDef.{ProcDef}
-use Rattle.luo_source.specs.declared.source.Source.{Source}
+use Rattle.luo_source.specs.Plain.Source.{ProcBody, Statements, Value, ProcDef, Source}
 use Rattle.luo_rules.specs.declared.names.Meaning.{Meaning}
 use Rattle.luo_rules.specs.declared.names.Meaning.TheVariants as mean
 use Rattle.luo_rules.specs.declared.setting.Setting.{Setting}

@@ -5,7 +5,7 @@ use Rattle.luo_model.specs.declared.program.Universe.{Universe}
 use Rattle.luo_model.specs.declared.program.Part.{Part}
 use Rattle.luo_model.specs.Invariant.{bare}
 use Rattle.luo_source.specs.declared.names.Name.{Name}
-use Rattle.luo_source.specs.declared.types.TypeExpr.{TypeExpr, Named, Epsilon, Atom, Union', Product', Coll'}
+use Rattle.luo_source.specs.Plain.Types.{TypeExpr, Named, Epsilon, Atom, Union, Product, Coll}
 use Rattle.luo_rules.specs.declared.names.Meaning.{Meaning}
 use Rattle.luo_rules.specs.declared.names.Meaning.TheVariants as mean
 use Rattle.luo_rules.specs.Meanings.{meaning, type_use}
@@ -64,17 +64,17 @@ module _ (universe : Universe) (names : List (List ℕ × Meaning)) (defs : List
       inl (record { j = m.0; is = is; below = all.below name.text m.0 m.1; no_nodes = refl; part = λ at. ap (named_part names defs) is })
   right_sort (Epsilon at) h = inr (record { none = refl; nodes = omega arith; part = λ at. refl })
   right_sort (Atom weight weight_at at) h = inr (record { none = refl; nodes = omega arith; part = λ at. refl })
-  right_sort (Union' size parts) h = inr (record { none = refl; nodes = omega arith; part = λ at. refl })
-  right_sort (Product' size parts at) h = inr (record { none = refl; nodes = omega arith; part = λ at. refl })
-  right_sort (Coll' kind size part bound at) h = inr (record { none = refl; nodes = omega arith; part = λ at. refl })
+  right_sort (Union parts) h = inr (record { none = refl; nodes = omega arith; part = λ at. refl })
+  right_sort (Product parts at) h = inr (record { none = refl; nodes = omega arith; part = λ at. refl })
+  right_sort (Coll kind part bound at) h = inr (record { none = refl; nodes = omega arith; part = λ at. refl })
 
   by_right : (i j : ℕ) (e : TypeExpr) → named_by names e ≡ Some j → j < length defs
   by_right i j (Named name) h = all.below name.text j (definition_back (meaning names name.text) j h)
   by_right i j (Epsilon at) h = absurd (none_some j h)
   by_right i j (Atom weight weight_at at) h = absurd (none_some j h)
-  by_right i j (Union' size parts) h = absurd (none_some j h)
-  by_right i j (Product' size parts at) h = absurd (none_some j h)
-  by_right i j (Coll' kind size part bound at) h = absurd (none_some j h)
+  by_right i j (Union parts) h = absurd (none_some j h)
+  by_right i j (Product parts at) h = absurd (none_some j h)
+  by_right i j (Coll kind part bound at) h = absurd (none_some j h)
 
   pub nexts_there : NextsThere names defs
   nexts_there i j h = by (slice_get defs i) h
@@ -94,9 +94,9 @@ module _ (universe : Universe) (names : List (List ℕ × Meaning)) (defs : List
   by_circle i k (Named name) n c l h = no_way names defs i (length defs) i k (no_circle_way i (way_within names defs i (length defs) i) c) l h
   by_circle i k (Epsilon at) n c l h = no_next i k n h
   by_circle i k (Atom weight weight_at at) n c l h = no_next i k n h
-  by_circle i k (Union' size parts) n c l h = no_next i k n h
-  by_circle i k (Product' size parts at) n c l h = no_next i k n h
-  by_circle i k (Coll' kind size part bound at) n c l h = no_next i k n h
+  by_circle i k (Union parts) n c l h = no_next i k n h
+  by_circle i k (Product parts at) n c l h = no_next i k n h
+  by_circle i k (Coll kind part bound at) n c l h = no_next i k n h
 
   pub no_ways : NoWays names defs
   no_ways i k l m h = let d = get_below defs i l in by_circle i k d.0.right (named_next names defs i d.0 d.1) (all.each i d.0 d.1).no_circle m h

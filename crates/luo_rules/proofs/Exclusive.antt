@@ -4,7 +4,7 @@ use Rattle.std.specs.List.{AllByRecursion}
 use Rattle.luo_num.specs.declared.limits.TheConstants.{ANALYSIS_LIMIT, BOUND_LIMIT, DEFINITION_LIMIT, MULTISET_LIMIT, NODE_LIMIT, PART_LIMIT, PROCEDURE_LIMIT, STATEMENT_LIMIT}
 use Rattle.luo_model.specs.Program.{Program}
 use Rattle.luo_model.specs.View.{Held, plain_of}
-use Rattle.luo_source.specs.declared.source.Source.{Source}
+use Rattle.luo_source.specs.Plain.Source.{Source}
 use Rattle.luo_rules.specs.declared.rule.Breach.{Breach}
 use Rattle.luo_rules.specs.declared.error.CheckError.{CheckError}
 use Rattle.luo_rules.specs.declared.error.CheckError.TheVariants.{Limit, Rule, NoMemory}

@@ -4,7 +4,7 @@ use Rattle.luo_model.specs.declared.program.Universe.{Universe}
 use Rattle.luo_model.specs.declared.program.Part.{Part}
 use Rattle.luo_model.specs.declared.program.Node.{Node}
 use Rattle.luo_model.specs.Invariant.{bare, inner_parts}
-use Rattle.luo_source.specs.declared.types.TypeExpr.{TypeExpr, Named, Epsilon, Atom, Union', Product', Coll', Row_of-TypeExpr, end_of-TypeExpr, more_of-TypeExpr}
+use Rattle.luo_source.specs.Plain.Types.{TypeExpr, Named, Epsilon, Atom, Union, Product, Coll, TypeExprs, no_exprs, an_expr}
 use Rattle.luo_rules.specs.declared.names.Meaning.{Meaning}
 use Rattle.luo_rules.specs.Counted.{own_nodes}
 use Rattle.luo_rules.specs.Definitions.{Definition, first_node}
@@ -34,7 +34,7 @@ IsAlone y i node = slice_get (inner_parts node.shape) i ≡ Some (bare y)
 
 module _ (universe : Universe) (names : List (List ℕ × Meaning)) (defs : List Definition) (all : SoundAll universe names defs) where
   -- what stands by itself first isn't among the others
-  first_apart : (at : Spot) (e : TypeExpr) {n : _} (rest : Row_of-TypeExpr n) → expr_breaches universe names e ≡ [] → exprs_breaches universe names rest ≡ []
+  first_apart : (at : Spot) (e : TypeExpr) (rest : TypeExprs) → expr_breaches universe names e ≡ [] → exprs_breaches universe names rest ≡ []
       → (y j : ℕ) → part_at names defs at e ≡ bare y → slice_get (parts_at names defs (behind at (own_nodes e)) rest) j ≡ Some (bare y) → ⊥
   first_apart at e rest sound sounds y j p q =
       let b = parts_range universe names defs all (behind at (own_nodes e)) rest sounds y (In_get (parts_at names defs (behind at (own_nodes e)) rest) j (bare y) q) in
@@ -43,15 +43,15 @@ module _ (universe : Universe) (names : List (List ℕ × Meaning)) (defs : List
         | inr s ↦ let here : y ≡ at.node = sym (ap part_node p) ∙ ap part_node (s.part at) in omega (arith, b.from, here, s.nodes)
       ]
 
-  row_places : (at : Spot) {n : _} (row : Row_of-TypeExpr n) → exprs_breaches universe names row ≡ [] → (y i j : ℕ)
+  row_places : (at : Spot) (row : TypeExprs) → exprs_breaches universe names row ≡ [] → (y i j : ℕ)
       → slice_get (parts_at names defs at row) i ≡ Some (bare y) → slice_get (parts_at names defs at row) j ≡ Some (bare y) → i ≡ j
-  row_places at end_of-TypeExpr h y i j p q = absurd (none_some (bare y) p)
-  row_places at (more_of-TypeExpr e rest) h y zero zero p q = refl
-  row_places at (more_of-TypeExpr e rest) h y zero (suc j) p q =
+  row_places at no_exprs h y i j p q = absurd (none_some (bare y) p)
+  row_places at (an_expr e rest) h y zero zero p q = refl
+  row_places at (an_expr e rest) h y zero (suc j) p q =
       absurd (first_apart at e rest (nil_left (expr_breaches universe names e) (exprs_breaches universe names rest) h) (nil_right (expr_breaches universe names e) (exprs_breaches universe names rest) h) y j (some_same _ (bare y) p) q)
-  row_places at (more_of-TypeExpr e rest) h y (suc i) zero p q =
+  row_places at (an_expr e rest) h y (suc i) zero p q =
       absurd (first_apart at e rest (nil_left (expr_breaches universe names e) (exprs_breaches universe names rest) h) (nil_right (expr_breaches universe names e) (exprs_breaches universe names rest) h) y i (some_same _ (bare y) q) p)
-  row_places at (more_of-TypeExpr e rest) h y (suc i) (suc j) p q =
+  row_places at (an_expr e rest) h y (suc i) (suc j) p q =
       ap suc (row_places (behind at (own_nodes e)) rest (nil_right (expr_breaches universe names e) (exprs_breaches universe names rest) h) y i j p q)
 
   head_places : (owner : ℕ) (at : Spot) (e : TypeExpr) → ProperType e → expr_breaches universe names e ≡ [] → (node : Node) → slice_get (nodes_at names defs owner at e) 0 ≡ Some node
@@ -59,11 +59,11 @@ module _ (universe : Universe) (names : List (List ℕ × Meaning)) (defs : List
   head_places owner at (Named name) p h node f y i j a b = absurd (none_some node f)
   head_places owner at (Epsilon token) p h node f y i j a b = absurd (none_some (bare y) (subst (IsAlone y i) (sym (some_same _ node f)) a))
   head_places owner at (Atom weight weight_at token) p h node f y i j a b = absurd (none_some (bare y) (subst (IsAlone y i) (sym (some_same _ node f)) a))
-  head_places owner at (Union' size parts) p h node f y i j a b =
+  head_places owner at (Union parts) p h node f y i j a b =
       row_places (behind at 1) parts h y i j (subst (IsAlone y i) (sym (some_same _ node f)) a) (subst (IsAlone y j) (sym (some_same _ node f)) b)
-  head_places owner at (Product' size parts token) p h node f y i j a b =
+  head_places owner at (Product parts token) p h node f y i j a b =
       row_places (behind at 1) parts h y i j (subst (IsAlone y i) (sym (some_same _ node f)) a) (subst (IsAlone y j) (sym (some_same _ node f)) b)
-  head_places owner at (Coll' kind size part bound token) p h node f y i j a b =
+  head_places owner at (Coll kind part bound token) p h node f y i j a b =
       one_of_one _ (bare y) i j (subst (IsAlone y i) (sym (some_same _ node f)) a) (subst (IsAlone y j) (sym (some_same _ node f)) b)
 
   pub one_place : (x : ℕ) (node : Node) → slice_get (nodes_from names defs 0 0 defs) x ≡ Some node → (y i j : ℕ) → IsAlone y i node → IsAlone y j node → i ≡ j

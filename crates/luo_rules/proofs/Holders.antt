@@ -5,7 +5,7 @@ use Rattle.luo_model.specs.declared.program.Universe.{Universe}
 use Rattle.luo_model.specs.declared.program.Part.{Part}
 use Rattle.luo_model.specs.declared.program.Node.{Node}
 use Rattle.luo_model.specs.Invariant.{bare, inner_parts}
-use Rattle.luo_source.specs.declared.types.TypeExpr.{TypeExpr, Named, Epsilon, Atom, Union', Product', Coll', Row_of-TypeExpr, end_of-TypeExpr, more_of-TypeExpr}
+use Rattle.luo_source.specs.Plain.Types.{TypeExpr, Named, Epsilon, Atom, Union, Product, Coll, TypeExprs, no_exprs, an_expr}
 use Rattle.luo_rules.specs.declared.names.Meaning.{Meaning}
 use Rattle.luo_rules.specs.Counted.{own_nodes, own_nodes_of}
 use Rattle.luo_rules.specs.Definitions.{Definition}
@@ -81,17 +81,17 @@ module _ (universe : Universe) (names : List (List ℕ × Meaning)) (defs : List
       let b = bare_of (at.node + k + 1) (at.node + k + own_nodes s.sub) y (head_part universe names defs owner (behind at k) s.sub s.is_proper s.is_sound g.0 s.first (bare y) g.2) in
       record { from = omega (arith, b.from); to = omega (arith, b.to, s.within) }
 
-  row_range : (owner : ℕ) (at : Spot) {n : _} (row : Row_of-TypeExpr n) → ProperTypes row → exprs_breaches universe names row ≡ [] → (k y : ℕ) → HeldBy (all_nodes_at names defs owner at row) k y → BareOf (suc (at.node + k)) (at.node + own_nodes_of row) y
+  row_range : (owner : ℕ) (at : Spot) (row : TypeExprs) → ProperTypes row → exprs_breaches universe names row ≡ [] → (k y : ℕ) → HeldBy (all_nodes_at names defs owner at row) k y → BareOf (suc (at.node + k)) (at.node + own_nodes_of row) y
   row_range owner at row p h k y g =
       let s = row_stands universe names defs owner at row p h k g.0 g.1 in
       let b = bare_of (at.node + k + 1) (at.node + k + own_nodes s.sub) y (head_part universe names defs owner (behind at k) s.sub s.is_proper s.is_sound g.0 s.first (bare y) g.2) in
       record { from = omega (arith, b.from); to = omega (arith, b.to, s.within) }
 
-  pub parts_range : (at : Spot) {n : _} (row : Row_of-TypeExpr n) → exprs_breaches universe names row ≡ [] → (y : ℕ) → In (bare y) (parts_at names defs at row) → BareOf at.node (at.node + own_nodes_of row) y
+  pub parts_range : (at : Spot) (row : TypeExprs) → exprs_breaches universe names row ≡ [] → (y : ℕ) → In (bare y) (parts_at names defs at row) → BareOf at.node (at.node + own_nodes_of row) y
   parts_range at row h y i = bare_of at.node (at.node + own_nodes_of row) y (row_part universe names defs at row h (bare y) i)
 
   -- node k of a row is of its first, or of the others
-  row_held : (owner : ℕ) (at : Spot) (e : TypeExpr) {n : _} (rest : Row_of-TypeExpr n) (k y : ℕ) → HeldBy (nodes_at names defs owner at e ++ all_nodes_at names defs owner (behind at (own_nodes e)) rest) k y
+  row_held : (owner : ℕ) (at : Spot) (e : TypeExpr) (rest : TypeExprs) (k y : ℕ) → HeldBy (nodes_at names defs owner at e ++ all_nodes_at names defs owner (behind at (own_nodes e)) rest) k y
       → HeldBy (nodes_at names defs owner at e) k y ⊎ ((j : ℕ) × (k ≡ own_nodes e + j) × HeldBy (all_nodes_at names defs owner (behind at (own_nodes e)) rest) j y)
   row_held owner at e rest k y g =
       elim (get_cases (nodes_at names defs owner at e) (all_nodes_at names defs owner (behind at (own_nodes e)) rest) k g.0 g.1) [
@@ -100,16 +100,16 @@ module _ (universe : Universe) (names : List (List ℕ × Meaning)) (defs : List
       ]
 
   -- what stands by itself among the parts isn't held among their nodes
-  apart : (owner : ℕ) (at : Spot) {n : _} (row : Row_of-TypeExpr n) → ProperTypes row → exprs_breaches universe names row ≡ [] → (y k : ℕ) → In (bare y) (parts_at names defs at row) → HeldBy (all_nodes_at names defs owner at row) k y → ⊥
-  apart owner at end_of-TypeExpr p h y k i g = i
-  apart owner at (more_of-TypeExpr e rest) p h y k (inl i) g =
+  apart : (owner : ℕ) (at : Spot) (row : TypeExprs) → ProperTypes row → exprs_breaches universe names row ≡ [] → (y k : ℕ) → In (bare y) (parts_at names defs at row) → HeldBy (all_nodes_at names defs owner at row) k y → ⊥
+  apart owner at no_exprs p h y k i g = i
+  apart owner at (an_expr e rest) p h y k (inl i) g =
       let sound : expr_breaches universe names e ≡ [] = nil_left (expr_breaches universe names e) (exprs_breaches universe names rest) h in
-      let r = row_range owner at (more_of-TypeExpr e rest) p h k y g in
+      let r = row_range owner at (an_expr e rest) p h k y g in
       elim (right_sort universe names defs all e sound) [
         | inl s ↦ absurd (none_some s.j (ap part_name i ∙ ap part_name (s.part at)))
         | inr s ↦ let here : y ≡ at.node = ap part_node i ∙ ap part_node (s.part at) in absurd (omega (arith, r.from, here))
       ]
-  apart owner at (more_of-TypeExpr e rest) p h y k (inr i) g =
+  apart owner at (an_expr e rest) p h y k (inr i) g =
       let sound : expr_breaches universe names e ≡ [] = nil_left (expr_breaches universe names e) (exprs_breaches universe names rest) h in
       let sounds : exprs_breaches universe names rest ≡ [] = nil_right (expr_breaches universe names e) (exprs_breaches universe names rest) h in
       let b = parts_range (behind at (own_nodes e)) rest sounds y i in
@@ -123,20 +123,20 @@ module _ (universe : Universe) (names : List (List ℕ × Meaning)) (defs : List
     held_once owner at (Named name) p h y k j g f = absurd (none_some g.0 g.1)
     held_once owner at (Epsilon token) p h y k j g f = construct_once _ [] [] y refl (λ k i g. i) (λ k j g f. absurd (none_some g.0 g.1)) k j g f
     held_once owner at (Atom weight weight_at token) p h y k j g f = construct_once _ [] [] y refl (λ k i g. i) (λ k j g f. absurd (none_some g.0 g.1)) k j g f
-    held_once owner at (Union' size parts) p h y k j g f =
+    held_once owner at (Union parts) p h y k j g f =
         construct_once _ (all_nodes_at names defs owner (behind at 1) parts) (parts_at names defs (behind at 1) parts) y refl (λ k i g. apart owner (behind at 1) parts p.1 h y k i g)
         (λ k j g f. row_once owner (behind at 1) parts p.1 h y k j g f) k j g f
-    held_once owner at (Product' size parts token) p h y k j g f =
+    held_once owner at (Product parts token) p h y k j g f =
         construct_once _ (all_nodes_at names defs owner (behind at 1) parts) (parts_at names defs (behind at 1) parts) y refl (λ k i g. apart owner (behind at 1) parts p.1 h y k i g)
         (λ k j g f. row_once owner (behind at 1) parts p.1 h y k j g f) k j g f
-    held_once owner at (Coll' kind size part bound token) p h y k j g f =
+    held_once owner at (Coll kind part bound token) p h y k j g f =
         let inside : exprs_breaches universe names part ≡ [] = nil_right (kind_breaches universe kind token) (exprs_breaches universe names part) (nil_left (kind_breaches universe kind token ++ exprs_breaches universe names part) (bound_breaches kind bound) h) in
         construct_once _ (all_nodes_at names defs owner (behind at 1) part) (parts_at names defs (behind at 1) part) y (boxed_one universe names defs (behind at 1) part p.0) (λ k i g. apart owner (behind at 1) part p.1 inside y k i g)
         (λ k j g f. row_once owner (behind at 1) part p.1 inside y k j g f) k j g f
 
-    row_once : (owner : ℕ) (at : Spot) {n : _} (row : Row_of-TypeExpr n) → ProperTypes row → exprs_breaches universe names row ≡ [] → (y k j : ℕ) → HeldBy (all_nodes_at names defs owner at row) k y → HeldBy (all_nodes_at names defs owner at row) j y → k ≡ j
-    row_once owner at end_of-TypeExpr p h y k j g f = absurd (none_some g.0 g.1)
-    row_once owner at (more_of-TypeExpr e rest) p h y k j g f =
+    row_once : (owner : ℕ) (at : Spot) (row : TypeExprs) → ProperTypes row → exprs_breaches universe names row ≡ [] → (y k j : ℕ) → HeldBy (all_nodes_at names defs owner at row) k y → HeldBy (all_nodes_at names defs owner at row) j y → k ≡ j
+    row_once owner at no_exprs p h y k j g f = absurd (none_some g.0 g.1)
+    row_once owner at (an_expr e rest) p h y k j g f =
         let sound : expr_breaches universe names e ≡ [] = nil_left (expr_breaches universe names e) (exprs_breaches universe names rest) h in
         let sounds : exprs_breaches universe names rest ≡ [] = nil_right (expr_breaches universe names e) (exprs_breaches universe names rest) h in
         elim (row_held owner at e rest k y g) [
@@ -157,16 +157,16 @@ module _ (universe : Universe) (names : List (List ℕ × Meaning)) (defs : List
         ]
 
   -- node m of a row is of its first, or of the others
-  row_place : (owner : ℕ) (at : Spot) (e : TypeExpr) {n : _} (rest : Row_of-TypeExpr n) (y m : ℕ) → y ≡ at.node + m → expr_breaches universe names e ≡ []
+  row_place : (owner : ℕ) (at : Spot) (e : TypeExpr) (rest : TypeExprs) (y m : ℕ) → y ≡ at.node + m → expr_breaches universe names e ≡ []
       → (1 ≤ m → m < own_nodes e → (k : ℕ) × HeldBy (nodes_at names defs owner at e) k y)
       → ((j : ℕ) → m ≡ own_nodes e + j → In (bare y) (parts_at names defs (behind at (own_nodes e)) rest) ⊎ ((k : ℕ) × HeldBy (all_nodes_at names defs owner (behind at (own_nodes e)) rest) k y))
-      → In (bare y) (parts_at names defs at (more_of-TypeExpr e rest)) ⊎ ((k : ℕ) × HeldBy (all_nodes_at names defs owner at (more_of-TypeExpr e rest)) k y)
+      → In (bare y) (parts_at names defs at (an_expr e rest)) ⊎ ((k : ℕ) × HeldBy (all_nodes_at names defs owner at (an_expr e rest)) k y)
   row_place owner at e rest y m n sound here there = by m n here there (below_or m (own_nodes e))
     where
       by : (m : ℕ) → y ≡ at.node + m → (1 ≤ m → m < own_nodes e → (k : ℕ) × HeldBy (nodes_at names defs owner at e) k y)
           → ((j : ℕ) → m ≡ own_nodes e + j → In (bare y) (parts_at names defs (behind at (own_nodes e)) rest) ⊎ ((k : ℕ) × HeldBy (all_nodes_at names defs owner (behind at (own_nodes e)) rest) k y))
           → (m < own_nodes e) ⊎ ((j : ℕ) × (m ≡ own_nodes e + j))
-          → In (bare y) (parts_at names defs at (more_of-TypeExpr e rest)) ⊎ ((k : ℕ) × HeldBy (all_nodes_at names defs owner at (more_of-TypeExpr e rest)) k y)
+          → In (bare y) (parts_at names defs at (an_expr e rest)) ⊎ ((k : ℕ) × HeldBy (all_nodes_at names defs owner at (an_expr e rest)) k y)
       by zero n here there (inl l) =
           elim (right_sort universe names defs all e sound) [
             | inl s ↦ absurd (omega (arith, s.no_nodes))
@@ -186,22 +186,22 @@ module _ (universe : Universe) (names : List (List ℕ × Meaning)) (defs : List
     held_some owner at (Named name) p h y m n l u = absurd (omega arith)
     held_some owner at (Epsilon token) p h y m n l u = absurd (omega arith)
     held_some owner at (Atom weight weight_at token) p h y m n l u = absurd (omega arith)
-    held_some owner at (Union' size parts) p h y zero n l u = absurd (omega arith)
-    held_some owner at (Union' size parts) p h y (suc m) n l u =
+    held_some owner at (Union parts) p h y zero n l u = absurd (omega arith)
+    held_some owner at (Union parts) p h y (suc m) n l u =
         construct_some _ (all_nodes_at names defs owner (behind at 1) parts) (parts_at names defs (behind at 1) parts) y refl (row_some owner (behind at 1) parts p.1 h y m (omega arith) (omega arith))
-    held_some owner at (Product' size parts token) p h y zero n l u = absurd (omega arith)
-    held_some owner at (Product' size parts token) p h y (suc m) n l u =
+    held_some owner at (Product parts token) p h y zero n l u = absurd (omega arith)
+    held_some owner at (Product parts token) p h y (suc m) n l u =
         construct_some _ (all_nodes_at names defs owner (behind at 1) parts) (parts_at names defs (behind at 1) parts) y refl (row_some owner (behind at 1) parts p.1 h y m (omega arith) (omega arith))
-    held_some owner at (Coll' kind size part bound token) p h y zero n l u = absurd (omega arith)
-    held_some owner at (Coll' kind size part bound token) p h y (suc m) n l u =
+    held_some owner at (Coll kind part bound token) p h y zero n l u = absurd (omega arith)
+    held_some owner at (Coll kind part bound token) p h y (suc m) n l u =
         let inside : exprs_breaches universe names part ≡ [] = nil_right (kind_breaches universe kind token) (exprs_breaches universe names part) (nil_left (kind_breaches universe kind token ++ exprs_breaches universe names part) (bound_breaches kind bound) h) in
         construct_some _ (all_nodes_at names defs owner (behind at 1) part) (parts_at names defs (behind at 1) part) y (boxed_one universe names defs (behind at 1) part p.0)
         (row_some owner (behind at 1) part p.1 inside y m (omega arith) (omega arith))
 
-    row_some : (owner : ℕ) (at : Spot) {n : _} (row : Row_of-TypeExpr n) → ProperTypes row → exprs_breaches universe names row ≡ [] → (y m : ℕ) → y ≡ at.node + m → m < own_nodes_of row
+    row_some : (owner : ℕ) (at : Spot) (row : TypeExprs) → ProperTypes row → exprs_breaches universe names row ≡ [] → (y m : ℕ) → y ≡ at.node + m → m < own_nodes_of row
         → In (bare y) (parts_at names defs at row) ⊎ ((k : ℕ) × HeldBy (all_nodes_at names defs owner at row) k y)
-    row_some owner at end_of-TypeExpr p h y m n u = absurd (omega arith)
-    row_some owner at (more_of-TypeExpr e rest) p h y m n u =
+    row_some owner at no_exprs p h y m n u = absurd (omega arith)
+    row_some owner at (an_expr e rest) p h y m n u =
         let sound : expr_breaches universe names e ≡ [] = nil_left (expr_breaches universe names e) (exprs_breaches universe names rest) h in
         let sounds : exprs_breaches universe names rest ≡ [] = nil_right (expr_breaches universe names e) (exprs_breaches universe names rest) h in
         row_place owner at e rest y m n sound (λ l v. held_some owner at e p.0 sound y m n l v)

@@ -6,7 +6,7 @@ use Rattle.luo_model.specs.declared.program.Universe.{Universe}
 use Rattle.luo_model.specs.declared.program.Part.{Part}
 use Rattle.luo_model.specs.declared.program.Node.{Node}
 use Rattle.luo_model.specs.Invariant.{inner_parts}
-use Rattle.luo_source.specs.declared.types.TypeExpr.{TypeExpr, Named, Epsilon, Atom, Union', Product', Coll', Row_of-TypeExpr, end_of-TypeExpr, more_of-TypeExpr}
+use Rattle.luo_source.specs.Plain.Types.{TypeExpr, Named, Epsilon, Atom, Union, Product, Coll, TypeExprs, no_exprs, an_expr}
 use Rattle.luo_rules.specs.declared.names.Meaning.{Meaning}
 use Rattle.luo_rules.specs.Counted.{own_nodes, own_nodes_of, count_exprs, most_parts, most_parts_of, greatest_bound, greatest_bound_of, greatest_of}
 use Rattle.luo_rules.specs.Definitions.{Definition}
@@ -77,24 +77,24 @@ module _ (universe : Universe) (names : List (List ℕ × Meaning)) (defs : List
     expr_stands owner at (Epsilon token) p h (suc k) node f = absurd (none_some node f)
     expr_stands owner at (Atom weight weight_at token) p h zero node f = stands_here owner at (Atom weight weight_at token) node p h f
     expr_stands owner at (Atom weight weight_at token) p h (suc k) node f = absurd (none_some node f)
-    expr_stands owner at (Union' size parts) p h zero node f = stands_here owner at (Union' size parts) node p h f
-    expr_stands owner at (Union' size parts) p h (suc k) node f =
+    expr_stands owner at (Union parts) p h zero node f = stands_here owner at (Union parts) node p h f
+    expr_stands owner at (Union parts) p h (suc k) node f =
         stands_behind owner at 1 (own_nodes_of parts) (suc (own_nodes_of parts)) (most_parts_of parts) (max (count_exprs parts) (most_parts_of parts)) (greatest_bound_of parts) (greatest_bound_of parts) k (suc k) node
         (omega arith) (le-max_right (count_exprs parts) (most_parts_of parts)) (omega arith) (omega arith) (row_stands owner (behind at 1) parts p.1 h k node f)
-    expr_stands owner at (Product' size parts token) p h zero node f = stands_here owner at (Product' size parts token) node p h f
-    expr_stands owner at (Product' size parts token) p h (suc k) node f =
+    expr_stands owner at (Product parts token) p h zero node f = stands_here owner at (Product parts token) node p h f
+    expr_stands owner at (Product parts token) p h (suc k) node f =
         stands_behind owner at 1 (own_nodes_of parts) (suc (own_nodes_of parts)) (most_parts_of parts) (max (count_exprs parts) (most_parts_of parts)) (greatest_bound_of parts) (greatest_bound_of parts) k (suc k) node
         (omega arith) (le-max_right (count_exprs parts) (most_parts_of parts)) (omega arith) (omega arith) (row_stands owner (behind at 1) parts p.1 h k node f)
-    expr_stands owner at (Coll' kind size part bound token) p h zero node f = stands_here owner at (Coll' kind size part bound token) node p h f
-    expr_stands owner at (Coll' kind size part bound token) p h (suc k) node f =
+    expr_stands owner at (Coll kind part bound token) p h zero node f = stands_here owner at (Coll kind part bound token) node p h f
+    expr_stands owner at (Coll kind part bound token) p h (suc k) node f =
         let inside : exprs_breaches universe names part ≡ [] = nil_right (kind_breaches universe kind token) (exprs_breaches universe names part) (nil_left (kind_breaches universe kind token ++ exprs_breaches universe names part) (bound_breaches kind bound) h) in
         stands_behind owner at 1 (own_nodes_of part) (suc (own_nodes_of part)) (most_parts_of part) (most_parts_of part) (greatest_bound_of part) (max (greatest_bound_of part) (greatest_of bound)) k (suc k) node
         (omega arith) (omega arith) (le-max_left (greatest_bound_of part) (greatest_of bound)) (omega arith) (row_stands owner (behind at 1) part p.1 inside k node f)
 
-    pub row_stands : (owner : ℕ) (at : Spot) {n : _} (row : Row_of-TypeExpr n) → ProperTypes row → exprs_breaches universe names row ≡ [] → (k : ℕ) (node : Node) → slice_get (all_nodes_at names defs owner at row) k ≡ Some node
+    pub row_stands : (owner : ℕ) (at : Spot) (row : TypeExprs) → ProperTypes row → exprs_breaches universe names row ≡ [] → (k : ℕ) (node : Node) → slice_get (all_nodes_at names defs owner at row) k ≡ Some node
         → Stands universe names defs owner at (own_nodes_of row) (most_parts_of row) (greatest_bound_of row) k node
-    row_stands owner at end_of-TypeExpr p h k node f = absurd (none_some node f)
-    row_stands owner at (more_of-TypeExpr e rest) p h k node f =
+    row_stands owner at no_exprs p h k node f = absurd (none_some node f)
+    row_stands owner at (an_expr e rest) p h k node f =
         elim (get_cases (nodes_at names defs owner at e) (all_nodes_at names defs owner (behind at (own_nodes e)) rest) k node f) [
           | inl g ↦
               let s = expr_stands owner at e p.0 (nil_left (expr_breaches universe names e) (exprs_breaches universe names rest) h) k node g in
@@ -118,24 +118,24 @@ module _ (universe : Universe) (names : List (List ℕ × Meaning)) (defs : List
   head_owner owner at (Named name) node f = absurd (none_some node f)
   head_owner owner at (Epsilon token) node f = let e = some_same _ node f in (sym (ap (λ (z : Node). z.owner) e), sym (ap (λ (z : Node). z.place) e))
   head_owner owner at (Atom weight weight_at token) node f = let e = some_same _ node f in (sym (ap (λ (z : Node). z.owner) e), sym (ap (λ (z : Node). z.place) e))
-  head_owner owner at (Union' size parts) node f = let e = some_same _ node f in (sym (ap (λ (z : Node). z.owner) e), sym (ap (λ (z : Node). z.place) e))
-  head_owner owner at (Product' size parts token) node f = let e = some_same _ node f in (sym (ap (λ (z : Node). z.owner) e), sym (ap (λ (z : Node). z.place) e))
-  head_owner owner at (Coll' kind size part bound token) node f = let e = some_same _ node f in (sym (ap (λ (z : Node). z.owner) e), sym (ap (λ (z : Node). z.place) e))
+  head_owner owner at (Union parts) node f = let e = some_same _ node f in (sym (ap (λ (z : Node). z.owner) e), sym (ap (λ (z : Node). z.place) e))
+  head_owner owner at (Product parts token) node f = let e = some_same _ node f in (sym (ap (λ (z : Node). z.owner) e), sym (ap (λ (z : Node). z.place) e))
+  head_owner owner at (Coll kind part bound token) node f = let e = some_same _ node f in (sym (ap (λ (z : Node). z.owner) e), sym (ap (λ (z : Node). z.place) e))
 
   -- a box holds one part
-  pub boxed_one : (at : Spot) {n : _} (row : Row_of-TypeExpr n) → count_exprs row ≡ 1 → boxed_part_at names defs at row ∷ [] ≡ parts_at names defs at row
-  boxed_one at end_of-TypeExpr h = absurd (omega (arith, h))
-  boxed_one at (more_of-TypeExpr e end_of-TypeExpr) h = refl
-  boxed_one at (more_of-TypeExpr e (more_of-TypeExpr f rest)) h = absurd (omega (arith, h))
+  pub boxed_one : (at : Spot) (row : TypeExprs) → count_exprs row ≡ 1 → boxed_part_at names defs at row ∷ [] ≡ parts_at names defs at row
+  boxed_one at no_exprs h = absurd (omega (arith, h))
+  boxed_one at (an_expr e no_exprs) h = refl
+  boxed_one at (an_expr e (an_expr f rest)) h = absurd (omega (arith, h))
 
   part_behind : (low high low' high' : ℕ) (part : Part) → low' ≤ low → high ≤ high' → PartOf universe names defs low high part → PartOf universe names defs low' high' part
   part_behind low high low' high' part l m q = record { sub = q.sub; spot = q.spot; is = q.is; is_sound = q.is_sound; from = omega (arith, q.from); to = omega (arith, q.to) }
 
-  pub row_part : (at : Spot) {n : _} (row : Row_of-TypeExpr n) → exprs_breaches universe names row ≡ [] → (part : Part) → In part (parts_at names defs at row) → PartOf universe names defs at.node (at.node + own_nodes_of row) part
-  row_part at end_of-TypeExpr h part i = absurd i
-  row_part at (more_of-TypeExpr e rest) h part (inl i) =
+  pub row_part : (at : Spot) (row : TypeExprs) → exprs_breaches universe names row ≡ [] → (part : Part) → In part (parts_at names defs at row) → PartOf universe names defs at.node (at.node + own_nodes_of row) part
+  row_part at no_exprs h part i = absurd i
+  row_part at (an_expr e rest) h part (inl i) =
       record { sub = e; spot = at; is = i; is_sound = nil_left (expr_breaches universe names e) (exprs_breaches universe names rest) h; from = omega arith; to = omega arith }
-  row_part at (more_of-TypeExpr e rest) h part (inr i) =
+  row_part at (an_expr e rest) h part (inr i) =
       part_behind (at.node + own_nodes e) (at.node + own_nodes e + own_nodes_of rest) at.node (at.node + (own_nodes e + own_nodes_of rest)) part (omega arith) (omega arith)
       (row_part (behind at (own_nodes e)) rest (nil_right (expr_breaches universe names e) (exprs_breaches universe names rest) h) part i)
 
@@ -145,10 +145,10 @@ module _ (universe : Universe) (names : List (List ℕ × Meaning)) (defs : List
   head_part owner at (Named name) p h node f part i = absurd (none_some node f)
   head_part owner at (Epsilon token) p h node f part i = absurd (subst (λ (z : Node). In part (inner_parts z.shape)) (sym (some_same _ node f)) i)
   head_part owner at (Atom weight weight_at token) p h node f part i = absurd (subst (λ (z : Node). In part (inner_parts z.shape)) (sym (some_same _ node f)) i)
-  head_part owner at (Union' size parts) p h node f part i =
+  head_part owner at (Union parts) p h node f part i =
       part_behind (at.node + 1) (at.node + 1 + own_nodes_of parts) (at.node + 1) (at.node + suc (own_nodes_of parts)) part (omega arith) (omega arith)
       (row_part (behind at 1) parts h part (subst (λ (z : Node). In part (inner_parts z.shape)) (sym (some_same _ node f)) i))
-  head_part owner at (Product' size parts token) p h node f part i =
+  head_part owner at (Product parts token) p h node f part i =
       part_behind (at.node + 1) (at.node + 1 + own_nodes_of parts) (at.node + 1) (at.node + suc (own_nodes_of parts)) part (omega arith) (omega arith)
       (row_part (behind at 1) parts h part (subst (λ (z : Node). In part (inner_parts z.shape)) (sym (some_same _ node f)) i))
   head_part owner at (Coll' kind size part' bound token) p h node f part i =

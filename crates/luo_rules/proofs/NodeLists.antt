@@ -7,8 +7,7 @@ use Rattle.std.proofs.Math.Nat.{zero-mul, suc-mul}
 use Rattle.luo_model.specs.declared.program.Def.{Def}
 use Rattle.luo_model.specs.declared.program.Node.{Node}
 use Rattle.luo_source.specs.declared.names.Name.{Name}
-use Rattle.luo_source.specs.declared.types.TypeExpr.{TypeExpr, Named, Epsilon, Atom, Union', Product', Coll', Row_of-TypeExpr, end_of-TypeExpr, more_of-TypeExpr}
-use Rattle.luo_source.specs.declared.types.TypeDef.{TypeDef}
+use Rattle.luo_source.specs.Plain.Types.{TypeExpr, Named, Epsilon, Atom, Union, Product, Coll, TypeExprs, no_exprs, an_expr, TypeDef}
 use Rattle.luo_rules.specs.declared.names.Meaning.{Meaning}
 use Rattle.luo_rules.specs.Counted.{own_nodes, own_nodes_of}
 use Rattle.luo_rules.specs.Definitions.{Definition, copies, first_node}
@@ -55,13 +54,13 @@ module _ (names : List (List ℕ × Meaning)) (defs : List Definition) where
     nodes_length owner at (Named name) = refl
     nodes_length owner at (Epsilon token) = refl
     nodes_length owner at (Atom weight weight_at token) = refl
-    nodes_length owner at (Union' size parts) = ap suc (all_nodes_length owner (behind at 1) parts)
-    nodes_length owner at (Product' size parts token) = ap suc (all_nodes_length owner (behind at 1) parts)
-    nodes_length owner at (Coll' kind size part bound token) = ap suc (all_nodes_length owner (behind at 1) part)
+    nodes_length owner at (Union parts) = ap suc (all_nodes_length owner (behind at 1) parts)
+    nodes_length owner at (Product parts token) = ap suc (all_nodes_length owner (behind at 1) parts)
+    nodes_length owner at (Coll kind part bound token) = ap suc (all_nodes_length owner (behind at 1) part)
 
-    pub all_nodes_length : (owner : ℕ) (at : Spot) {n : _} (row : Row_of-TypeExpr n) → length (all_nodes_at names defs owner at row) ≡ own_nodes_of row
-    all_nodes_length owner at end_of-TypeExpr = refl
-    all_nodes_length owner at (more_of-TypeExpr e rest) =
+    pub all_nodes_length : (owner : ℕ) (at : Spot) (row : TypeExprs) → length (all_nodes_at names defs owner at row) ≡ own_nodes_of row
+    all_nodes_length owner at no_exprs = refl
+    all_nodes_length owner at (an_expr e rest) =
         length-append (nodes_at names defs owner at e) (all_nodes_at names defs owner (behind at (own_nodes e)) rest)
         ∙ omega (arith, nodes_length owner at e, all_nodes_length owner (behind at (own_nodes e)) rest)
 

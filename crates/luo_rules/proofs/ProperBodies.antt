@@ -6,11 +6,11 @@ use denote.Hole.Carrier.{hidden}
 use Rattle.luo_scan.specs.Lexemes.{Lexeme}
 use Rattle.luo_source.specs.declared.names.Name.{Name}
 use Rattle.luo_source.specs.declared.statements.SourceArm.{SourceArm}
-use Rattle.luo_source.specs.declared.statements.Stmt as stmt
-use Rattle.luo_source.specs.declared.statements.Stmt.{Stmt, Row_of-Stmt, end_of-Stmt, more_of-Stmt, items-the_row-Stmt, items_hidden-the_row-Stmt-0, Row_of-SourceArm, end_of-SourceArm, more_of-SourceArm, items-the_row-SourceArm, items_hidden-the_row-SourceArm-1}
+use Rattle.luo_source.specs.Plain.Statements as stmt
+use Rattle.luo_source.specs.Plain.Statements.{Stmt, Stmts, no_stmts, a_stmt, items-the_row-Stmt, items_hidden-the_row-Stmt-0, SourceArms, no_source_arms, a_source_arm, items-the_row-SourceArm, items_hidden-the_row-SourceArm-1}
 use Rattle.luo_source.specs.declared.values.SourceValueArm.{SourceValueArm}
-use Rattle.luo_source.specs.declared.values.SourceValue as val
-use Rattle.luo_source.specs.declared.values.SourceValue.{SourceValue, Row_of-SourceValue, end_of-SourceValue, more_of-SourceValue, items-the_row-SourceValue, items_hidden-the_row-SourceValue-0, Row_of-SourceValueArm, end_of-SourceValueArm, more_of-SourceValueArm, items-the_row-SourceValueArm, items_hidden-the_row-SourceValueArm-2}
+use Rattle.luo_source.specs.Plain.Values as val
+use Rattle.luo_source.specs.Plain.Values.{SourceValue, SourceValues, no_source_values, a_source_value, items-the_row-SourceValue, items_hidden-the_row-SourceValue-0, SourceValueArms, no_source_value_arms, a_source_value_arm, items-the_row-SourceValueArm, items_hidden-the_row-SourceValueArm-2}
 use Rattle.luo_source.specs.GrammarStatements.{IsBlock, empty_block, full_block, AreStmts, last_stmt, more_stmts, IsStmt, simple_stmt, case_stmt, forall_stmt, IsSimple, block_stmt, skip_stmt, charge_stmt, call_stmt, AreArms, last_arm, more_arms, IsArm, one_arm}
 use Rattle.luo_source.specs.GrammarValues.{IsValue, branch_value, inner_value, IsBranch, branch, IsInner, given, made, free_atom, charged_atom, bracketed, tuple, case_value, AreParts, last_part, more_parts, AreValueArms, last_value_arm, more_value_arms, IsValueArm, one_value_arm}
 use Rattle.luo_rules.specs.ValueBreaches.{count_values, count_value_arms}
@@ -18,33 +18,33 @@ use Rattle.luo_rules.specs.StatementBreaches.{count_arms}
 
 abbrev mutual
   pub ProperStmt : Stmt → Type 0
-  ProperStmt (stmt.Block' size stmts) = ProperStmts stmts
-  ProperStmt (stmt.Case' var size arms) = (1 ≤ count_arms arms) × ProperArms arms
-  ProperStmt (stmt.Forall' var source size body) = ProperStmts body
+  ProperStmt (stmt.Block stmts) = ProperStmts stmts
+  ProperStmt (stmt.Case var arms) = (1 ≤ count_arms arms) × ProperArms arms
+  ProperStmt (stmt.Forall var source body) = ProperStmts body
   ProperStmt _ = Unit {0}
 
-  pub ProperStmts : {n : _} → Row_of-Stmt n → Type 0
-  ProperStmts end_of-Stmt = Unit {0}
-  ProperStmts (more_of-Stmt s rest) = ProperStmt s × ProperStmts rest
+  pub ProperStmts : Stmts → Type 0
+  ProperStmts no_stmts = Unit {0}
+  ProperStmts (a_stmt s rest) = ProperStmt s × ProperStmts rest
 
-  pub ProperArms : {n : _} → Row_of-SourceArm n → Type 0
-  ProperArms end_of-SourceArm = Unit {0}
-  ProperArms (more_of-SourceArm pattern body rest) = ProperStmt body × ProperArms rest
+  pub ProperArms : SourceArms → Type 0
+  ProperArms no_source_arms = Unit {0}
+  ProperArms (a_source_arm pattern body rest) = ProperStmt body × ProperArms rest
 
 abbrev mutual
   pub ProperValue : SourceValue → Type 0
-  ProperValue (val.Tuple' size parts at) = ProperValues parts
-  ProperValue (val.Branch' number at size inner) = (1 ≤ count_values inner) × ProperValues inner
-  ProperValue (val.Case' var size arms) = (1 ≤ count_value_arms arms) × ProperValueArms arms
+  ProperValue (val.Tuple parts at) = ProperValues parts
+  ProperValue (val.Branch number at inner) = (1 ≤ count_values inner) × ProperValues inner
+  ProperValue (val.Case var arms) = (1 ≤ count_value_arms arms) × ProperValueArms arms
   ProperValue _ = Unit {0}
 
-  pub ProperValues : {n : _} → Row_of-SourceValue n → Type 0
-  ProperValues end_of-SourceValue = Unit {0}
-  ProperValues (more_of-SourceValue v rest) = ProperValue v × ProperValues rest
+  pub ProperValues : SourceValues → Type 0
+  ProperValues no_source_values = Unit {0}
+  ProperValues (a_source_value v rest) = ProperValue v × ProperValues rest
 
-  pub ProperValueArms : {n : _} → Row_of-SourceValueArm n → Type 0
-  ProperValueArms end_of-SourceValueArm = Unit {0}
-  ProperValueArms (more_of-SourceValueArm pattern body rest) = ProperValue body × ProperValueArms rest
+  pub ProperValueArms : SourceValueArms → Type 0
+  ProperValueArms no_source_value_arms = Unit {0}
+  ProperValueArms (a_source_value_arm pattern body rest) = ProperValue body × ProperValueArms rest
 
 abbrev pub AllStmts : List Stmt → Type 0
 AllStmts stmts = AllByRecursion ProperStmt stmts
@@ -55,25 +55,25 @@ ArmProper arm = ProperStmt arm.body
 abbrev AllArms : List SourceArm → Type 0
 AllArms arms = AllByRecursion ArmProper arms
 
-stmts_row : (n : _) (row : Row_of-Stmt n) → AllStmts (items-the_row-Stmt n row) → ProperStmts row
-stmts_row n end_of-Stmt h = tt
-stmts_row n (more_of-Stmt s rest) h = (h.0, stmts_row _ rest h.1)
+stmts_row : (row : Stmts) → AllStmts (items-the_row-Stmt n row) → ProperStmts row
+stmts_row n no_stmts h = tt
+stmts_row n (a_stmt s rest) h = (h.0, stmts_row _ rest h.1)
 
-arms_row : (n : _) (row : Row_of-SourceArm n) → AllArms (items-the_row-SourceArm n row) → ProperArms row
-arms_row n end_of-SourceArm h = tt
-arms_row n (more_of-SourceArm pattern body rest) h = (h.0, arms_row _ rest h.1)
+arms_row : (row : SourceArms) → AllArms (items-the_row-SourceArm n row) → ProperArms row
+arms_row n no_source_arms h = tt
+arms_row n (a_source_arm pattern body rest) h = (h.0, arms_row _ rest h.1)
 
-arms_count : (n : _) (row : Row_of-SourceArm n) → count_arms row ≡ length (items-the_row-SourceArm n row)
-arms_count n end_of-SourceArm = refl
-arms_count n (more_of-SourceArm pattern body rest) = ap suc (arms_count _ rest)
+arms_count : (row : SourceArms) → count_arms row ≡ length (items-the_row-SourceArm n row)
+arms_count n no_source_arms = refl
+arms_count n (a_source_arm pattern body rest) = ap suc (arms_count _ rest)
 
-abbrev stmts_in : Stmt → (k : Count) × Row_of-Stmt k
-stmts_in (stmt.Block' _ row) = (_, row)
-stmts_in _ = (_, end_of-Stmt)
+abbrev stmts_in : Stmt → (k : Count) × Stmts k
+stmts_in (stmt.Block row) = (_, row)
+stmts_in _ = (_, no_stmts)
 
-abbrev arms_in : Stmt → (k : Count) × Row_of-SourceArm k
-arms_in (stmt.Case' _ _ row) = (_, row)
-arms_in _ = (_, end_of-SourceArm)
+abbrev arms_in : Stmt → (k : Count) × SourceArms k
+arms_in (stmt.Case _ row) = (_, row)
+arms_in _ = (_, no_source_arms)
 
 block_proper : (stmts : List Stmt) → AllStmts stmts → ProperStmt (stmt.Block stmts)
 block_proper stmts h =
@@ -126,25 +126,25 @@ ValueArmProper arm = ProperValue arm.body
 abbrev AllValueArms : List SourceValueArm → Type 0
 AllValueArms arms = AllByRecursion ValueArmProper arms
 
-values_row : (n : _) (row : Row_of-SourceValue n) → AllValues (items-the_row-SourceValue n row) → ProperValues row
-values_row n end_of-SourceValue h = tt
-values_row n (more_of-SourceValue v rest) h = (h.0, values_row _ rest h.1)
+values_row : (row : SourceValues) → AllValues (items-the_row-SourceValue n row) → ProperValues row
+values_row n no_source_values h = tt
+values_row n (a_source_value v rest) h = (h.0, values_row _ rest h.1)
 
-value_arms_row : (n : _) (row : Row_of-SourceValueArm n) → AllValueArms (items-the_row-SourceValueArm n row) → ProperValueArms row
-value_arms_row n end_of-SourceValueArm h = tt
-value_arms_row n (more_of-SourceValueArm pattern body rest) h = (h.0, value_arms_row _ rest h.1)
+value_arms_row : (row : SourceValueArms) → AllValueArms (items-the_row-SourceValueArm n row) → ProperValueArms row
+value_arms_row n no_source_value_arms h = tt
+value_arms_row n (a_source_value_arm pattern body rest) h = (h.0, value_arms_row _ rest h.1)
 
-value_arms_count : (n : _) (row : Row_of-SourceValueArm n) → count_value_arms row ≡ length (items-the_row-SourceValueArm n row)
-value_arms_count n end_of-SourceValueArm = refl
-value_arms_count n (more_of-SourceValueArm pattern body rest) = ap suc (value_arms_count _ rest)
+value_arms_count : (row : SourceValueArms) → count_value_arms row ≡ length (items-the_row-SourceValueArm n row)
+value_arms_count n no_source_value_arms = refl
+value_arms_count n (a_source_value_arm pattern body rest) = ap suc (value_arms_count _ rest)
 
-abbrev values_in : SourceValue → (k : Count) × Row_of-SourceValue k
-values_in (val.Tuple' _ row _) = (_, row)
-values_in _ = (_, end_of-SourceValue)
+abbrev values_in : SourceValue → (k : Count) × SourceValues k
+values_in (val.Tuple row _) = (_, row)
+values_in _ = (_, no_source_values)
 
-abbrev value_arms_in : SourceValue → (k : Count) × Row_of-SourceValueArm k
-value_arms_in (val.Case' _ _ row) = (_, row)
-value_arms_in _ = (_, end_of-SourceValueArm)
+abbrev value_arms_in : SourceValue → (k : Count) × SourceValueArms k
+value_arms_in (val.Case _ row) = (_, row)
+value_arms_in _ = (_, no_source_value_arms)
 
 tuple_proper : (vs : List SourceValue) (at : ℕ) → AllValues vs → ProperValue (val.Tuple vs at)
 tuple_proper vs at h =

@@ -6,7 +6,7 @@ use denote.Hole.Carrier.{hidden}
 use Rattle.luo_model.specs.declared.program.Kind.{Kind}
 use Rattle.luo_scan.specs.Lexemes.{Lexeme}
 use Rattle.luo_source.specs.declared.types.Bound.{Bound}
-use Rattle.luo_source.specs.declared.types.TypeExpr.{TypeExpr, Named, Epsilon, Atom, Union, Union', Product, Product', Coll, Coll', Row_of-TypeExpr, end_of-TypeExpr, more_of-TypeExpr, items-the_row-TypeExpr, items_hidden-the_row-TypeExpr-0}
+use Rattle.luo_source.specs.Plain.Types.{TypeExpr, Named, Epsilon, Atom, Union, Product, Coll, TypeExprs, no_exprs, an_expr, items-the_row-TypeExpr, items_hidden-the_row-TypeExpr-0}
 use Rattle.luo_source.specs.GrammarTypes.{IsExpr, one_term, union, AreTerms, last_term, more_terms, IsTerm, named, epsilon, atom, product, collection, AreFactors, last_factor, more_factors}
 use Rattle.luo_rules.specs.Counted.{count_exprs}
 
@@ -15,29 +15,29 @@ abbrev mutual
   ProperType (Named name) = Unit {0}
   ProperType (Epsilon at) = Unit {0}
   ProperType (Atom weight weight_at at) = Unit {0}
-  ProperType (Union' size parts) = (2 ≤ count_exprs parts) × ProperTypes parts
-  ProperType (Product' size parts at) = (2 ≤ count_exprs parts) × ProperTypes parts
-  ProperType (Coll' kind size part bound at) = (count_exprs part ≡ 1) × ProperTypes part
+  ProperType (Union parts) = (2 ≤ count_exprs parts) × ProperTypes parts
+  ProperType (Product parts at) = (2 ≤ count_exprs parts) × ProperTypes parts
+  ProperType (Coll kind part bound at) = (count_exprs part ≡ 1) × ProperTypes part
 
-  pub ProperTypes : {n : _} → Row_of-TypeExpr n → Type 0
-  ProperTypes end_of-TypeExpr = Unit {0}
-  ProperTypes (more_of-TypeExpr e rest) = ProperType e × ProperTypes rest
+  pub ProperTypes : TypeExprs → Type 0
+  ProperTypes no_exprs = Unit {0}
+  ProperTypes (an_expr e rest) = ProperType e × ProperTypes rest
 
 abbrev AllProper : List TypeExpr → Type 0
 AllProper es = AllByRecursion ProperType es
 
-row_proper : (n : _) (row : Row_of-TypeExpr n) → AllProper (items-the_row-TypeExpr n row) → ProperTypes row
-row_proper n end_of-TypeExpr h = tt
-row_proper n (more_of-TypeExpr e rest) h = (h.0, row_proper _ rest h.1)
+row_proper : (row : TypeExprs) → AllProper (items-the_row-TypeExpr n row) → ProperTypes row
+row_proper n no_exprs h = tt
+row_proper n (an_expr e rest) h = (h.0, row_proper _ rest h.1)
 
-row_count : (n : _) (row : Row_of-TypeExpr n) → count_exprs row ≡ length (items-the_row-TypeExpr n row)
-row_count n end_of-TypeExpr = refl
-row_count n (more_of-TypeExpr e rest) = ap suc (row_count _ rest)
+row_count : (row : TypeExprs) → count_exprs row ≡ length (items-the_row-TypeExpr n row)
+row_count n no_exprs = refl
+row_count n (an_expr e rest) = ap suc (row_count _ rest)
 
-abbrev row_in : TypeExpr → (n : Count) × Row_of-TypeExpr n
-row_in (Union' _ row) = (_, row)
-row_in (Product' _ row _) = (_, row)
-row_in _ = (_, end_of-TypeExpr)
+abbrev row_in : TypeExpr → (n : Count) × TypeExprs n
+row_in (Union row) = (_, row)
+row_in (Product row _) = (_, row)
+row_in _ = (_, no_exprs)
 
 union_proper : (es : List TypeExpr) → 2 ≤ length es → AllProper es → ProperType (Union es)
 union_proper es l h =

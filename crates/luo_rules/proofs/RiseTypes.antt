@@ -12,7 +12,7 @@ use Rattle.luo_scan.specs.Lexemes.{Lexeme}
 use Rattle.luo_source.specs.declared.names.Name.{Name}
 use Rattle.luo_source.specs.declared.types.Range.{Range}
 use Rattle.luo_source.specs.declared.types.Bound.{Bound}
-use Rattle.luo_source.specs.declared.types.TypeExpr.{TypeExpr, Named, Union, Union', Product, Product', Coll, Row_of-TypeExpr, end_of-TypeExpr, more_of-TypeExpr, items-the_row-TypeExpr, items_hidden-the_row-TypeExpr-0}
+use Rattle.luo_source.specs.Plain.Types.{TypeExpr, Named, Union, Product, Coll, TypeExprs, no_exprs, an_expr, items-the_row-TypeExpr, items_hidden-the_row-TypeExpr-0}
 use Rattle.luo_source.specs.GrammarTypes.{IsRange, exactly, at_most, at_least, between, EndsCollection, unbounded, bounded, IsExpr, one_term, union, AreTerms, last_term, more_terms, IsTerm, named, epsilon, atom, product, collection, AreFactors, last_factor, more_factors}
 use Rattle.luo_rules.specs.declared.names.Meaning.{Meaning}
 use Rattle.luo_rules.specs.declared.rule.Breach.{Breach}
@@ -55,14 +55,14 @@ ends_spans kind low (bounded {at} {k = j} {l} {range} p) h =
 abbrev parts_breaches : Universe → List (List ℕ × Meaning) → List TypeExpr → List Breach
 parts_breaches u names es = flat_map (expr_breaches u names) es
 
-row_breaches : (u : Universe) (names : List (List ℕ × Meaning)) (n : _) (row : Row_of-TypeExpr n) → exprs_breaches u names row ≡ parts_breaches u names (items-the_row-TypeExpr n row)
-row_breaches u names n end_of-TypeExpr = refl
-row_breaches u names n (more_of-TypeExpr e rest) = ap (λ z. expr_breaches u names e ++ z) (row_breaches u names _ rest)
+row_breaches : (u : Universe) (names : List (List ℕ × Meaning)) (row : TypeExprs) → exprs_breaches u names row ≡ parts_breaches u names (items-the_row-TypeExpr n row)
+row_breaches u names n no_exprs = refl
+row_breaches u names n (an_expr e rest) = ap (λ z. expr_breaches u names e ++ z) (row_breaches u names _ rest)
 
-abbrev row_in : TypeExpr → (n : Count) × Row_of-TypeExpr n
-row_in (Union' _ row) = (_, row)
-row_in (Product' _ row _) = (_, row)
-row_in _ = (_, end_of-TypeExpr)
+abbrev row_in : TypeExpr → (n : Count) × TypeExprs n
+row_in (Union row) = (_, row)
+row_in (Product row _) = (_, row)
+row_in _ = (_, no_exprs)
 
 union_breaches : (u : Universe) (names : List (List ℕ × Meaning)) (es : List TypeExpr) → expr_breaches u names (Union es) ≡ parts_breaches u names es
 union_breaches u names es =

@@ -14,7 +14,7 @@ use Rattle.luo_model.specs.Scopes.Fits.{FitsItem}
 use Rattle.luo_model.specs.Scopes.Walks.{items_in, arms_in}
 use Rattle.luo_model.specs.Program as plain
 use Rattle.luo_source.specs.declared.names.Name.{Name}
-use Rattle.luo_source.specs.declared.statements.Stmt.{Stmt, Skip, Charge, Call, Block', Case', Forall', Row_of-Stmt, end_of-Stmt, more_of-Stmt, Row_of-SourceArm, end_of-SourceArm, more_of-SourceArm}
+use Rattle.luo_source.specs.Plain.Statements.{Stmt, Skip, Charge, Call, Block, Case, Forall, Stmts, no_stmts, a_stmt, SourceArms, no_source_arms, a_source_arm}
 use Rattle.luo_rules.specs.declared.names.Meaning.{Meaning}
 use Rattle.luo_rules.specs.declared.names.Meaning.TheVariants as mean
 use Rattle.luo_rules.specs.declared.rule.Breach.{Breach}
@@ -62,13 +62,13 @@ module _ (s : Setting) (procs : List Procedure) (sites : List Site) (analyses : 
     own_bound Skip = omega arith
     own_bound (Charge measure) = omega (arith, value_bound (meant s measure) (λ k v e. sound.charges measure.text k v e))
     own_bound (Call callee arg) = omega arith
-    own_bound (Block' size stmts) = owns_bound stmts
-    own_bound (Case' var size arms) = omega arith
-    own_bound (Forall' var source size body) = omega arith
+    own_bound (Block stmts) = owns_bound stmts
+    own_bound (Case var arms) = omega arith
+    own_bound (Forall var source body) = omega arith
 
-    pub owns_bound : {n : _} (row : Row_of-Stmt n) → stmts_own s row ≤ stmts_statements row * NUMBER_LIMIT
-    owns_bound end_of-Stmt = omega arith
-    owns_bound (more_of-Stmt stmt rest) = omega (arith, own_bound stmt, owns_bound rest, add-mul (stmt_statements stmt) (stmts_statements rest) NUMBER_LIMIT)
+    pub owns_bound : (row : Stmts) → stmts_own s row ≤ stmts_statements row * NUMBER_LIMIT
+    owns_bound no_stmts = omega arith
+    owns_bound (a_stmt stmt rest) = omega (arith, own_bound stmt, owns_bound rest, add-mul (stmt_statements stmt) (stmts_statements rest) NUMBER_LIMIT)
 
   call_fits : (vars : List Part) (o : Option (ℕ × Part)) (callee arg : Name) (first : ℕ) → IsFoundIn vars o → procedure_use (meant s callee) callee ≡ [] → argument_breaches o (signature_meant s (meant s callee)).on arg callee ≡ []
       → FitsItem (program_over s procs sites analyses) vars (plain.Call (place_of o) (procedure_of (meant s callee)) first)
@@ -88,8 +88,8 @@ module _ (s : Setting) (procs : List Procedure) (sites : List Site) (analyses : 
         let a = argument_breaches (found scope arg) (signature_meant s (meant s callee)).on arg callee in
         good_call (program_over s procs sites analyses) (parts_of scope) (place_of (found scope arg)) (procedure_of (meant s callee)) first
         (call_fits (parts_of scope) (found scope arg) callee arg first (found_there scope arg) (nil_left (procedure_use (meant s callee) callee) a e) (nil_right (procedure_use (meant s callee) callee) a e))
-    stmt_good scope first (Block' size stmts) p l e = stmts_good scope first stmts p l e
-    stmt_good scope first (Case' var size arms) p l e =
+    stmt_good scope first (Block stmts) p l e = stmts_good scope first stmts p l e
+    stmt_good scope first (Case var arms) p l e =
         let c = case_fits s (found scope var) var (count_arms arms) (arms_breaches s (case_stands s (found scope var)) var arms) e in
         let x = c.variable.1 in
         let ss = stands x (shape_at s x.node) in
@@ -98,7 +98,7 @@ module _ (s : Setting) (procs : List Procedure) (sites : List Site) (analyses : 
         good_case (program_over s procs sites analyses) (parts_of scope) (place_of (found scope var)) x first (arms_sites arms) (arms_core s (case_stands s (found scope var)) first arms)
         (found_one (parts_of scope) (found scope var) c.variable (found_there scope var) c.is) (omega (arith, c.many, p.0))
         (subst (λ z. GoodArms (program_over s procs sites analyses) ss first (arms_sites arms) (arms_core s z first arms)) (sym some) inner)
-    stmt_good scope first (Forall' var source size body) p l e =
+    stmt_good scope first (Forall var source body) p l e =
         let o = found scope source in
         let inside : List Variable = record { name = var.text; part = walked s o } ∷ [] in
         let w = walk_fits s o source (stmts_breaches s inside body) e in
@@ -109,20 +109,20 @@ module _ (s : Setting) (procs : List Procedure) (sites : List Site) (analyses : 
         (found_one (parts_of scope) o w.variable (found_there scope source) w.is) w.collection (own_within (stmts_own s body) (stmts_statements body) NUMBER_LIMIT (owns_bound body) (omega arith))
         (subst (λ n. GoodItems (program_over s procs sites analyses) (n ∷ []) first (stmts_sites body) (stmts_items s inside first body)) same inner)
 
-    stmts_good : (scope : List Variable) (first : ℕ) {n : _} (row : Row_of-Stmt n) → ProperStmts row → stmts_statements row ≤ STATEMENT_LIMIT → stmts_breaches s scope row ≡ []
+    stmts_good : (scope : List Variable) (first : ℕ) (row : Stmts) → ProperStmts row → stmts_statements row ≤ STATEMENT_LIMIT → stmts_breaches s scope row ≡ []
         → GoodItems (program_over s procs sites analyses) (parts_of scope) first (stmts_sites row) (stmts_items s scope first row)
-    stmts_good scope first end_of-Stmt p l e = good_none (program_over s procs sites analyses) (parts_of scope) first
-    stmts_good scope first (more_of-Stmt stmt rest) p l e =
+    stmts_good scope first no_stmts p l e = good_none (program_over s procs sites analyses) (parts_of scope) first
+    stmts_good scope first (a_stmt stmt rest) p l e =
         good_join (program_over s procs sites analyses) (parts_of scope) first (stmt_sites stmt) (stmts_sites rest) (stmt_items s scope first stmt) (stmts_items s scope (first + stmt_sites stmt) rest)
         (stmt_good scope first stmt p.0 (omega arith) (nil_left (stmt_breaches s scope stmt) (stmts_breaches s scope rest) e))
         (stmts_good scope (first + stmt_sites stmt) rest p.1 (omega arith) (nil_right (stmt_breaches s scope stmt) (stmts_breaches s scope rest) e))
 
-    arms_good : (ss : List Stand) (var : Name) (first : ℕ) {n : _} (row : Row_of-SourceArm n) → ProperArms row → arms_statements row ≤ STATEMENT_LIMIT → length ss ≡ count_arms row → arms_breaches s ss var row ≡ []
+    arms_good : (ss : List Stand) (var : Name) (first : ℕ) (row : SourceArms) → ProperArms row → arms_statements row ≤ STATEMENT_LIMIT → length ss ≡ count_arms row → arms_breaches s ss var row ≡ []
         → GoodArms (program_over s procs sites analyses) ss first (arms_sites row) (arms_core s ss first row)
-    arms_good [] var first end_of-SourceArm p l m e = good_no_arms (program_over s procs sites analyses) first
-    arms_good (stand ∷ ss) var first end_of-SourceArm p l m e = absurd (omega (arith, m))
-    arms_good [] var first (more_of-SourceArm pattern body rest) p l m e = absurd (omega (arith, m))
-    arms_good (stand ∷ ss) var first (more_of-SourceArm pattern body rest) p l m e =
+    arms_good [] var first no_source_arms p l m e = good_no_arms (program_over s procs sites analyses) first
+    arms_good (stand ∷ ss) var first no_source_arms p l m e = absurd (omega (arith, m))
+    arms_good [] var first (a_source_arm pattern body rest) p l m e = absurd (omega (arith, m))
+    arms_good (stand ∷ ss) var first (a_source_arm pattern body rest) p l m e =
         let inner = stmt_breaches s (bound s stand pattern) body in
         let a = arm_fits s stand var pattern inner (nil_left (arm_breaches s stand var pattern inner) (arms_breaches s ss var rest) e) in
         let good = stmt_good (bound s stand pattern) first body p.0 (omega arith) a.1 in
@@ -153,19 +153,19 @@ module _ (s : Setting) where
     stmt_few scope first Skip = omega arith
     stmt_few scope first (Charge measure) = omega arith
     stmt_few scope first (Call callee arg) = omega arith
-    stmt_few scope first (Block' size stmts) = stmts_few scope first stmts
-    stmt_few scope first (Case' var size arms) = omega (arith, arms_few (case_stands s (found scope var)) first arms)
-    stmt_few scope first (Forall' var source size body) = omega (arith, stmts_few (record { name = var.text; part = walked s (found scope source) } ∷ []) first body)
+    stmt_few scope first (Block stmts) = stmts_few scope first stmts
+    stmt_few scope first (Case var arms) = omega (arith, arms_few (case_stands s (found scope var)) first arms)
+    stmt_few scope first (Forall var source body) = omega (arith, stmts_few (record { name = var.text; part = walked s (found scope source) } ∷ []) first body)
 
-    stmts_few : (scope : List Variable) (first : ℕ) {n : _} (row : Row_of-Stmt n) → items_in (stmts_items s scope first row) ≤ stmts_statements row
-    stmts_few scope first end_of-Stmt = omega arith
-    stmts_few scope first (more_of-Stmt stmt rest) =
+    stmts_few : (scope : List Variable) (first : ℕ) (row : Stmts) → items_in (stmts_items s scope first row) ≤ stmts_statements row
+    stmts_few scope first no_stmts = omega arith
+    stmts_few scope first (a_stmt stmt rest) =
         omega (arith, join_in (stmt_items s scope first stmt) (stmts_items s scope (first + stmt_sites stmt) rest), stmt_few scope first stmt, stmts_few scope (first + stmt_sites stmt) rest)
 
-    arms_few : (ss : List Stand) (first : ℕ) {n : _} (row : Row_of-SourceArm n) → arms_in (arms_core s ss first row) ≤ arms_statements row
-    arms_few ss first end_of-SourceArm = omega arith
-    arms_few [] first (more_of-SourceArm pattern body rest) = omega arith
-    arms_few (stand ∷ ss) first (more_of-SourceArm pattern body rest) = omega (arith, stmt_few (bound s stand pattern) first body, arms_few ss (first + stmt_sites body) rest)
+    arms_few : (ss : List Stand) (first : ℕ) (row : SourceArms) → arms_in (arms_core s ss first row) ≤ arms_statements row
+    arms_few ss first no_source_arms = omega arith
+    arms_few [] first (a_source_arm pattern body rest) = omega arith
+    arms_few (stand ∷ ss) first (a_source_arm pattern body rest) = omega (arith, stmt_few (bound s stand pattern) first body, arms_few ss (first + stmt_sites body) rest)
 
   pub list_few : (scope : List Variable) (first : ℕ) (stmts : List Stmt) → items_in (items_of s scope first stmts) ≤ sum_by stmt_statements stmts
   list_few scope first [] = omega arith

@@ -9,7 +9,7 @@ use Rattle.luo_model.specs.Scopes.Stands.{Stand}
 use Rattle.luo_model.specs.Scopes.ValueBodies.{join_items}
 use Rattle.luo_source.specs.declared.names.Name.{Name}
 use Rattle.luo_source.specs.declared.statements.SourceArm.{SourceArm}
-use Rattle.luo_source.specs.declared.statements.Stmt.{Stmt, Block, Block', Case, Case', Forall, Row_of-Stmt, end_of-Stmt, more_of-Stmt, items-the_row-Stmt, items_hidden-the_row-Stmt-0, Row_of-SourceArm, end_of-SourceArm, more_of-SourceArm, items-the_row-SourceArm, items_hidden-the_row-SourceArm-1}
+use Rattle.luo_source.specs.Plain.Statements.{Stmt, Block, Case, Forall, Stmts, no_stmts, a_stmt, items-the_row-Stmt, items_hidden-the_row-Stmt-0, SourceArms, no_source_arms, a_source_arm, items-the_row-SourceArm, items_hidden-the_row-SourceArm-1}
 use Rattle.luo_rules.specs.declared.setting.Setting.{Setting}
 use Rattle.luo_rules.specs.declared.setting.Variable.{Variable}
 use Rattle.luo_rules.specs.Patterns.{bound, bind_of, case_breaches}
@@ -22,57 +22,57 @@ use Rattle.luo_rules.specs.inner.StatementLists.{list_breaches, stmt_does, list_
 use Rattle.luo_rules.specs.Whole.{items_of}
 
 module _ (s : Setting) where
-  own_row : (k : _) (row : Row_of-Stmt k) → stmts_own s row ≡ sum_by (stmt_own s) (items-the_row-Stmt k row)
-  own_row k end_of-Stmt = refl
-  own_row k (more_of-Stmt stmt rest) = ap (λ z. stmt_own s stmt + z) (own_row _ rest) ∙ sym (sum_by-cons (stmt_own s) stmt (items-the_row-Stmt _ rest))
+  own_row : (row : Stmts) → stmts_own s row ≡ sum_by (stmt_own s) (items-the_row-Stmt k row)
+  own_row k no_stmts = refl
+  own_row k (a_stmt stmt rest) = ap (λ z. stmt_own s stmt + z) (own_row _ rest) ∙ sym (sum_by-cons (stmt_own s) stmt (items-the_row-Stmt _ rest))
 
-  breaches_row : (scope : List Variable) (k : _) (row : Row_of-Stmt k) → stmts_breaches s scope row ≡ list_breaches s scope (items-the_row-Stmt k row)
-  breaches_row scope k end_of-Stmt = refl
-  breaches_row scope k (more_of-Stmt stmt rest) = ap (λ z. stmt_breaches s scope stmt ++ z) (breaches_row scope _ rest)
+  breaches_row : (scope : List Variable) (row : Stmts) → stmts_breaches s scope row ≡ list_breaches s scope (items-the_row-Stmt k row)
+  breaches_row scope k no_stmts = refl
+  breaches_row scope k (a_stmt stmt rest) = ap (λ z. stmt_breaches s scope stmt ++ z) (breaches_row scope _ rest)
 
-  items_row : (scope : List Variable) (first : ℕ) (k : _) (row : Row_of-Stmt k) → stmts_items s scope first row ≡ items_of s scope first (items-the_row-Stmt k row)
-  items_row scope first k end_of-Stmt = refl
-  items_row scope first k (more_of-Stmt stmt rest) = ap (λ z. join_items (stmt_items s scope first stmt) z) (items_row scope (first + stmt_sites stmt) _ rest)
+  items_row : (scope : List Variable) (first : ℕ) (row : Stmts) → stmts_items s scope first row ≡ items_of s scope first (items-the_row-Stmt k row)
+  items_row scope first k no_stmts = refl
+  items_row scope first k (a_stmt stmt rest) = ap (λ z. join_items (stmt_items s scope first stmt) z) (items_row scope (first + stmt_sites stmt) _ rest)
 
-  arms_breaches_row : (stands : List Stand) (var : Name) (k : _) (row : Row_of-SourceArm k) → arms_breaches s stands var row ≡ arm_list_breaches s stands var (items-the_row-SourceArm k row)
-  arms_breaches_row stands var k end_of-SourceArm = refl
-  arms_breaches_row [] var k (more_of-SourceArm pattern body rest) = refl
-  arms_breaches_row (stand ∷ stands) var k (more_of-SourceArm pattern body rest) =
+  arms_breaches_row : (stands : List Stand) (var : Name) (row : SourceArms) → arms_breaches s stands var row ≡ arm_list_breaches s stands var (items-the_row-SourceArm k row)
+  arms_breaches_row stands var k no_source_arms = refl
+  arms_breaches_row [] var k (a_source_arm pattern body rest) = refl
+  arms_breaches_row (stand ∷ stands) var k (a_source_arm pattern body rest) =
       ap (λ z. one_arm_breaches s stand var (record { pattern = pattern; body = body }) ++ z) (arms_breaches_row stands var _ rest)
 
-  arms_core_row : (stands : List Stand) (first : ℕ) (k : _) (row : Row_of-SourceArm k) → arms_core s stands first row ≡ arm_list_core s stands first (items-the_row-SourceArm k row)
-  arms_core_row stands first k end_of-SourceArm = refl
-  arms_core_row [] first k (more_of-SourceArm pattern body rest) = refl
-  arms_core_row (stand ∷ stands) first k (more_of-SourceArm pattern body rest) =
+  arms_core_row : (stands : List Stand) (first : ℕ) (row : SourceArms) → arms_core s stands first row ≡ arm_list_core s stands first (items-the_row-SourceArm k row)
+  arms_core_row stands first k no_source_arms = refl
+  arms_core_row [] first k (a_source_arm pattern body rest) = refl
+  arms_core_row (stand ∷ stands) first k (a_source_arm pattern body rest) =
       ap (λ z. plain.arm (bind_of pattern) (stmt_does s (bound s stand pattern) first body) z) (arms_core_row stands (first + stmt_sites body) _ rest)
 
-sites_row : (k : _) (row : Row_of-Stmt k) → stmts_sites row ≡ sum_by stmt_sites (items-the_row-Stmt k row)
-sites_row k end_of-Stmt = refl
-sites_row k (more_of-Stmt stmt rest) = ap (λ z. stmt_sites stmt + z) (sites_row _ rest) ∙ sym (sum_by-cons stmt_sites stmt (items-the_row-Stmt _ rest))
+sites_row : (row : Stmts) → stmts_sites row ≡ sum_by stmt_sites (items-the_row-Stmt k row)
+sites_row k no_stmts = refl
+sites_row k (a_stmt stmt rest) = ap (λ z. stmt_sites stmt + z) (sites_row _ rest) ∙ sym (sum_by-cons stmt_sites stmt (items-the_row-Stmt _ rest))
 
-statements_row : (k : _) (row : Row_of-Stmt k) → stmts_statements row ≡ sum_by stmt_statements (items-the_row-Stmt k row)
-statements_row k end_of-Stmt = refl
-statements_row k (more_of-Stmt stmt rest) = ap (λ z. stmt_statements stmt + z) (statements_row _ rest) ∙ sym (sum_by-cons stmt_statements stmt (items-the_row-Stmt _ rest))
+statements_row : (row : Stmts) → stmts_statements row ≡ sum_by stmt_statements (items-the_row-Stmt k row)
+statements_row k no_stmts = refl
+statements_row k (a_stmt stmt rest) = ap (λ z. stmt_statements stmt + z) (statements_row _ rest) ∙ sym (sum_by-cons stmt_statements stmt (items-the_row-Stmt _ rest))
 
-arms_sites_row : (k : _) (row : Row_of-SourceArm k) → arms_sites row ≡ sum_by arm_sites (items-the_row-SourceArm k row)
-arms_sites_row k end_of-SourceArm = refl
-arms_sites_row k (more_of-SourceArm pattern body rest) = ap (λ z. stmt_sites body + z) (arms_sites_row _ rest) ∙ sym (sum_by-cons arm_sites (record { pattern = pattern; body = body }) (items-the_row-SourceArm _ rest))
+arms_sites_row : (row : SourceArms) → arms_sites row ≡ sum_by arm_sites (items-the_row-SourceArm k row)
+arms_sites_row k no_source_arms = refl
+arms_sites_row k (a_source_arm pattern body rest) = ap (λ z. stmt_sites body + z) (arms_sites_row _ rest) ∙ sym (sum_by-cons arm_sites (record { pattern = pattern; body = body }) (items-the_row-SourceArm _ rest))
 
-arms_statements_row : (k : _) (row : Row_of-SourceArm k) → arms_statements row ≡ sum_by arm_statements (items-the_row-SourceArm k row)
-arms_statements_row k end_of-SourceArm = refl
-arms_statements_row k (more_of-SourceArm pattern body rest) = ap (λ z. stmt_statements body + z) (arms_statements_row _ rest) ∙ sym (sum_by-cons arm_statements (record { pattern = pattern; body = body }) (items-the_row-SourceArm _ rest))
+arms_statements_row : (row : SourceArms) → arms_statements row ≡ sum_by arm_statements (items-the_row-SourceArm k row)
+arms_statements_row k no_source_arms = refl
+arms_statements_row k (a_source_arm pattern body rest) = ap (λ z. stmt_statements body + z) (arms_statements_row _ rest) ∙ sym (sum_by-cons arm_statements (record { pattern = pattern; body = body }) (items-the_row-SourceArm _ rest))
 
-count_row : (k : _) (row : Row_of-SourceArm k) → count_arms row ≡ length (items-the_row-SourceArm k row)
-count_row k end_of-SourceArm = refl
-count_row k (more_of-SourceArm pattern body rest) = ap suc (count_row _ rest)
+count_row : (row : SourceArms) → count_arms row ≡ length (items-the_row-SourceArm k row)
+count_row k no_source_arms = refl
+count_row k (a_source_arm pattern body rest) = ap suc (count_row _ rest)
 
-abbrev stmts_in : Stmt → (k : Count) × Row_of-Stmt k
-stmts_in (Block' _ row) = (_, row)
-stmts_in _ = (_, end_of-Stmt)
+abbrev stmts_in : Stmt → (k : Count) × Stmts k
+stmts_in (Block row) = (_, row)
+stmts_in _ = (_, no_stmts)
 
-abbrev arms_in : Stmt → (k : Count) × Row_of-SourceArm k
-arms_in (Case' _ _ row) = (_, row)
-arms_in _ = (_, end_of-SourceArm)
+abbrev arms_in : Stmt → (k : Count) × SourceArms k
+arms_in (Case _ row) = (_, row)
+arms_in _ = (_, no_source_arms)
 
 module _ (s : Setting) (scope : List Variable) where
   pub block-breaches : (stmts : List Stmt) → stmt_breaches s scope (Block stmts) ≡ list_breaches s scope stmts

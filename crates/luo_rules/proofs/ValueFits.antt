@@ -12,7 +12,7 @@ use Rattle.luo_model.specs.Program.{Program, Procedure, Result}
 use Rattle.luo_model.specs.Scopes.Stands.{Stand, stands, factors, IsProductOf}
 use Rattle.luo_model.specs.Scopes.Fits.{FitsValue, FitsValues, FitsValueArms, value_count}
 use Rattle.luo_source.specs.declared.names.Name.{Name}
-use Rattle.luo_source.specs.declared.values.SourceValue.{SourceValue, Given, Made, Atom, Tuple', Branch', Case', Row_of-SourceValue, end_of-SourceValue, more_of-SourceValue, Row_of-SourceValueArm, end_of-SourceValueArm, more_of-SourceValueArm}
+use Rattle.luo_source.specs.Plain.Values.{SourceValue, Given, Made, Atom, Tuple, Branch, Case, SourceValues, no_source_values, a_source_value, SourceValueArms, no_source_value_arms, a_source_value_arm}
 use Rattle.luo_rules.specs.declared.names.Meaning.{Meaning}
 use Rattle.luo_rules.specs.declared.names.Meaning.TheVariants as mean
 use Rattle.luo_rules.specs.declared.rule.Breach.{Breach}
@@ -156,7 +156,7 @@ module _ (s : Setting) (procs : List Procedure) (sites : List Site) (analyses : 
     value_fits scope expected (Atom charge at) p e =
         let place = nil_right (charge_use s charge) (misplaced (is_atom (shape_at s expected)) at (codes "atom")) e in
         (atom_is (shape_at s expected) (well_placed (is_atom (shape_at s expected)) at (codes "atom") place), charge_within charge (nil_left (charge_use s charge) (misplaced (is_atom (shape_at s expected)) at (codes "atom")) e))
-    value_fits scope expected (Tuple' size parts at) p e =
+    value_fits scope expected (Tuple parts at) p e =
         let k = count_values parts in
         let test = has_factors k (shape_at s expected) in
         let here : test ≡ true = well_placed test at (codes "product") (nil_left (misplaced test at (codes "product")) (values_breaches s scope (part_nodes s (Some expected) k) parts) e) in
@@ -170,7 +170,7 @@ module _ (s : Setting) (procs : List Procedure) (sites : List Site) (analyses : 
           values_fit scope (factors form) parts p (factors_length k form product) (subst (λ ns. values_breaches s scope ns parts ≡ []) nodes more),
         ) in
         subst P (sym nodes) fit
-    value_fits scope expected (Branch' number at size inner) p e =
+    value_fits scope expected (Branch number at inner) p e =
         let form = shape_at s expected in
         let here = well_placed (has_branch number form) at (decimal number) (nil_left (misplaced (has_branch number form) at (decimal number)) (boxed_value_breaches s scope (branch_of form number) inner) e) in
         let more = nil_right (misplaced (has_branch number form) at (decimal number)) (boxed_value_breaches s scope (branch_of form number) inner) e in
@@ -180,7 +180,7 @@ module _ (s : Setting) (procs : List Procedure) (sites : List Site) (analyses : 
         let fit : FitsValue (program_over s procs sites analyses) (parts_of scope) y.0 (boxed_value_core s scope (Some y.0) inner) = boxed_fits scope y.0 inner p.0 p.1 (subst (λ o. boxed_value_breaches s scope o inner ≡ []) y.1 more) in
         let fit' : P (branch_of form number) = subst P (sym y.1) (subst (λ n. FitsValue (program_over s procs sites analyses) (parts_of scope) n (boxed_value_core s scope (Some y.0) inner)) (sym u.branch.node) fit) in
         (u.parts, u.branch.i, u.branch.part, u.is, u.branch.from_one, u.branch.at, fit')
-    value_fits scope expected (Case' var size arms) p e =
+    value_fits scope expected (Case var arms) p e =
         let c = case_fits s (found scope var) var (count_value_arms arms) (value_arms_breaches s (case_stands s (found scope var)) (Some expected) var arms) e in
         let x = c.variable.1 in
         let ss = stands x (shape_at s x.node) in
@@ -192,32 +192,32 @@ module _ (s : Setting) (procs : List Procedure) (sites : List Site) (analyses : 
           subst (λ z. FitsValueArms (program_over s procs sites analyses) ss expected (value_arms_core s z (Some expected) arms)) (sym some) fit,
         )
 
-    values_counted : (scope : List Variable) (nodes : List ℕ) {n : _} (row : Row_of-SourceValue n) → value_count (values_core s scope nodes row) ≡ count_values row
-    values_counted scope nodes end_of-SourceValue = refl
-    values_counted scope [] (more_of-SourceValue v rest) = ap suc (values_counted scope [] rest)
-    values_counted scope (x ∷ nodes) (more_of-SourceValue v rest) = ap suc (values_counted scope nodes rest)
+    values_counted : (scope : List Variable) (nodes : List ℕ) (row : SourceValues) → value_count (values_core s scope nodes row) ≡ count_values row
+    values_counted scope nodes no_source_values = refl
+    values_counted scope [] (a_source_value v rest) = ap suc (values_counted scope [] rest)
+    values_counted scope (x ∷ nodes) (a_source_value v rest) = ap suc (values_counted scope nodes rest)
 
-    values_fit : (scope : List Variable) (parts : List Part) {n : _} (row : Row_of-SourceValue n) → ProperValues row → length parts ≡ count_values row → values_breaches s scope (nodes_in parts) row ≡ []
+    values_fit : (scope : List Variable) (parts : List Part) (row : SourceValues) → ProperValues row → length parts ≡ count_values row → values_breaches s scope (nodes_in parts) row ≡ []
         → FitsValues (program_over s procs sites analyses) (parts_of scope) parts (values_core s scope (nodes_in parts) row)
-    values_fit scope [] end_of-SourceValue p l e = tt
-    values_fit scope (x ∷ parts) end_of-SourceValue p l e = absurd (omega (arith, l))
-    values_fit scope [] (more_of-SourceValue v rest) p l e = absurd (omega (arith, l))
-    values_fit scope (x ∷ parts) (more_of-SourceValue v rest) p l e = (
+    values_fit scope [] no_source_values p l e = tt
+    values_fit scope (x ∷ parts) no_source_values p l e = absurd (omega (arith, l))
+    values_fit scope [] (a_source_value v rest) p l e = absurd (omega (arith, l))
+    values_fit scope (x ∷ parts) (a_source_value v rest) p l e = (
       value_fits scope x.node v p.0 (nil_left (value_breaches s scope (Some x.node) v) (values_breaches s scope (nodes_in parts) rest) e),
       values_fit scope parts rest p.1 (omega (arith, l)) (nil_right (value_breaches s scope (Some x.node) v) (values_breaches s scope (nodes_in parts) rest) e),
     )
 
-    boxed_fits : (scope : List Variable) (expected : ℕ) {n : _} (row : Row_of-SourceValue n) → 1 ≤ count_values row → ProperValues row → boxed_value_breaches s scope (Some expected) row ≡ []
+    boxed_fits : (scope : List Variable) (expected : ℕ) (row : SourceValues) → 1 ≤ count_values row → ProperValues row → boxed_value_breaches s scope (Some expected) row ≡ []
         → FitsValue (program_over s procs sites analyses) (parts_of scope) expected (boxed_value_core s scope (Some expected) row)
-    boxed_fits scope expected end_of-SourceValue l p e = absurd (omega (arith, l))
-    boxed_fits scope expected (more_of-SourceValue v rest) l p e = value_fits scope expected v p.0 e
+    boxed_fits scope expected no_source_values l p e = absurd (omega (arith, l))
+    boxed_fits scope expected (a_source_value v rest) l p e = value_fits scope expected v p.0 e
 
-    value_arms_fit : (scope : List Variable) (ss : List Stand) (expected : ℕ) (var : Name) {n : _} (row : Row_of-SourceValueArm n) → ProperValueArms row → length ss ≡ count_value_arms row → value_arms_breaches s ss (Some expected) var row ≡ []
+    value_arms_fit : (scope : List Variable) (ss : List Stand) (expected : ℕ) (var : Name) (row : SourceValueArms) → ProperValueArms row → length ss ≡ count_value_arms row → value_arms_breaches s ss (Some expected) var row ≡ []
         → FitsValueArms (program_over s procs sites analyses) ss expected (value_arms_core s ss (Some expected) row)
-    value_arms_fit scope [] expected var end_of-SourceValueArm p l e = tt
-    value_arms_fit scope (stand ∷ ss) expected var end_of-SourceValueArm p l e = absurd (omega (arith, l))
-    value_arms_fit scope [] expected var (more_of-SourceValueArm pattern body rest) p l e = absurd (omega (arith, l))
-    value_arms_fit scope (stand ∷ ss) expected var (more_of-SourceValueArm pattern body rest) p l e =
+    value_arms_fit scope [] expected var no_source_value_arms p l e = tt
+    value_arms_fit scope (stand ∷ ss) expected var no_source_value_arms p l e = absurd (omega (arith, l))
+    value_arms_fit scope [] expected var (a_source_value_arm pattern body rest) p l e = absurd (omega (arith, l))
+    value_arms_fit scope (stand ∷ ss) expected var (a_source_value_arm pattern body rest) p l e =
         let inner = value_breaches s (bound s stand pattern) (Some expected) body in
         let a = arm_fits s stand var pattern inner (nil_left (arm_breaches s stand var pattern inner) (value_arms_breaches s ss (Some expected) var rest) e) in
         let fit = value_fits (bound s stand pattern) expected body p.0 a.1 in (

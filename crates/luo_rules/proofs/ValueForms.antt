@@ -4,7 +4,7 @@ use mathlib.Core.Former.{Count}
 use denote.Hole.Carrier.{hidden}
 use Rattle.luo_source.specs.declared.names.Name.{Name}
 use Rattle.luo_source.specs.declared.values.SourceValueArm.{SourceValueArm}
-use Rattle.luo_source.specs.declared.values.SourceValue.{SourceValue, Tuple, Tuple', Branch, Case, Case', Row_of-SourceValue, end_of-SourceValue, more_of-SourceValue, items-the_row-SourceValue, items_hidden-the_row-SourceValue-0, Row_of-SourceValueArm, end_of-SourceValueArm, more_of-SourceValueArm, items-the_row-SourceValueArm, items_hidden-the_row-SourceValueArm-2}
+use Rattle.luo_source.specs.Plain.Values.{SourceValue, Tuple, Branch, Case, SourceValues, no_source_values, a_source_value, items-the_row-SourceValue, items_hidden-the_row-SourceValue-0, SourceValueArms, no_source_value_arms, a_source_value_arm, items-the_row-SourceValueArm, items_hidden-the_row-SourceValueArm-2}
 use Rattle.luo_model.specs.Program as plain
 use Rattle.luo_model.specs.Scopes.Stands.{Stand}
 use Rattle.luo_rules.specs.declared.setting.Setting.{Setting}
@@ -16,49 +16,49 @@ use Rattle.luo_rules.specs.ValueBreaches.{value_breaches, values_breaches, value
 use Rattle.luo_rules.specs.ValueCore.{value_core, values_core, value_arms_core}
 use Rattle.luo_rules.specs.inner.ValueLists.{parts_breaches, parts_core, parts_statements, arms_breaches, arms_core, arms_statements}
 
-abbrev values_in : SourceValue → (k : Count) × Row_of-SourceValue k
-values_in (Tuple' _ row _) = (_, row)
-values_in _ = (_, end_of-SourceValue)
+abbrev values_in : SourceValue → (k : Count) × SourceValues k
+values_in (Tuple row _) = (_, row)
+values_in _ = (_, no_source_values)
 
-abbrev arms_in : SourceValue → (k : Count) × Row_of-SourceValueArm k
-arms_in (Case' _ _ row) = (_, row)
-arms_in _ = (_, end_of-SourceValueArm)
+abbrev arms_in : SourceValue → (k : Count) × SourceValueArms k
+arms_in (Case _ row) = (_, row)
+arms_in _ = (_, no_source_value_arms)
 
-count_row : (k : _) (row : Row_of-SourceValue k) → count_values row ≡ length (items-the_row-SourceValue k row)
-count_row k end_of-SourceValue = refl
-count_row k (more_of-SourceValue v rest) = ap suc (count_row _ rest)
+count_row : (row : SourceValues) → count_values row ≡ length (items-the_row-SourceValue k row)
+count_row k no_source_values = refl
+count_row k (a_source_value v rest) = ap suc (count_row _ rest)
 
-breaches_row : (s : Setting) (scope : List Variable) (nodes : List ℕ) (k : _) (row : Row_of-SourceValue k) → values_breaches s scope nodes row ≡ parts_breaches s scope nodes (items-the_row-SourceValue k row)
-breaches_row s scope nodes k end_of-SourceValue = refl
-breaches_row s scope [] k (more_of-SourceValue v rest) = ap (λ z. value_breaches s scope None v ++ z) (breaches_row s scope [] _ rest)
-breaches_row s scope (node ∷ nodes) k (more_of-SourceValue v rest) = ap (λ z. value_breaches s scope (Some node) v ++ z) (breaches_row s scope nodes _ rest)
+breaches_row : (s : Setting) (scope : List Variable) (nodes : List ℕ) (row : SourceValues) → values_breaches s scope nodes row ≡ parts_breaches s scope nodes (items-the_row-SourceValue k row)
+breaches_row s scope nodes k no_source_values = refl
+breaches_row s scope [] k (a_source_value v rest) = ap (λ z. value_breaches s scope None v ++ z) (breaches_row s scope [] _ rest)
+breaches_row s scope (node ∷ nodes) k (a_source_value v rest) = ap (λ z. value_breaches s scope (Some node) v ++ z) (breaches_row s scope nodes _ rest)
 
-core_row : (s : Setting) (scope : List Variable) (nodes : List ℕ) (k : _) (row : Row_of-SourceValue k) → values_core s scope nodes row ≡ parts_core s scope nodes (items-the_row-SourceValue k row)
-core_row s scope nodes k end_of-SourceValue = refl
-core_row s scope [] k (more_of-SourceValue v rest) = ap (plain.value (value_core s scope None v)) (core_row s scope [] _ rest)
-core_row s scope (node ∷ nodes) k (more_of-SourceValue v rest) = ap (plain.value (value_core s scope (Some node) v)) (core_row s scope nodes _ rest)
+core_row : (s : Setting) (scope : List Variable) (nodes : List ℕ) (row : SourceValues) → values_core s scope nodes row ≡ parts_core s scope nodes (items-the_row-SourceValue k row)
+core_row s scope nodes k no_source_values = refl
+core_row s scope [] k (a_source_value v rest) = ap (plain.value (value_core s scope None v)) (core_row s scope [] _ rest)
+core_row s scope (node ∷ nodes) k (a_source_value v rest) = ap (plain.value (value_core s scope (Some node) v)) (core_row s scope nodes _ rest)
 
-statements_row : (k : _) (row : Row_of-SourceValue k) → values_statements row ≡ parts_statements (items-the_row-SourceValue k row)
-statements_row k end_of-SourceValue = refl
-statements_row k (more_of-SourceValue v rest) = ap (λ z. value_statements v + z) (statements_row _ rest)
+statements_row : (row : SourceValues) → values_statements row ≡ parts_statements (items-the_row-SourceValue k row)
+statements_row k no_source_values = refl
+statements_row k (a_source_value v rest) = ap (λ z. value_statements v + z) (statements_row _ rest)
 
-count_arms_row : (k : _) (row : Row_of-SourceValueArm k) → count_value_arms row ≡ length (items-the_row-SourceValueArm k row)
-count_arms_row k end_of-SourceValueArm = refl
-count_arms_row k (more_of-SourceValueArm pattern body rest) = ap suc (count_arms_row _ rest)
+count_arms_row : (row : SourceValueArms) → count_value_arms row ≡ length (items-the_row-SourceValueArm k row)
+count_arms_row k no_source_value_arms = refl
+count_arms_row k (a_source_value_arm pattern body rest) = ap suc (count_arms_row _ rest)
 
-arms_breaches_row : (s : Setting) (stands : List Stand) (expected : Option ℕ) (var : Name) (k : _) (row : Row_of-SourceValueArm k) → value_arms_breaches s stands expected var row ≡ arms_breaches s stands expected var (items-the_row-SourceValueArm k row)
-arms_breaches_row s stands expected var k end_of-SourceValueArm = refl
-arms_breaches_row s [] expected var k (more_of-SourceValueArm pattern body rest) = refl
-arms_breaches_row s (stand ∷ stands) expected var k (more_of-SourceValueArm pattern body rest) = ap (λ z. arm_breaches s stand var pattern (value_breaches s (bound s stand pattern) expected body) ++ z) (arms_breaches_row s stands expected var _ rest)
+arms_breaches_row : (s : Setting) (stands : List Stand) (expected : Option ℕ) (var : Name) (row : SourceValueArms) → value_arms_breaches s stands expected var row ≡ arms_breaches s stands expected var (items-the_row-SourceValueArm k row)
+arms_breaches_row s stands expected var k no_source_value_arms = refl
+arms_breaches_row s [] expected var k (a_source_value_arm pattern body rest) = refl
+arms_breaches_row s (stand ∷ stands) expected var k (a_source_value_arm pattern body rest) = ap (λ z. arm_breaches s stand var pattern (value_breaches s (bound s stand pattern) expected body) ++ z) (arms_breaches_row s stands expected var _ rest)
 
-arms_core_row : (s : Setting) (stands : List Stand) (expected : Option ℕ) (k : _) (row : Row_of-SourceValueArm k) → value_arms_core s stands expected row ≡ arms_core s stands expected (items-the_row-SourceValueArm k row)
-arms_core_row s stands expected k end_of-SourceValueArm = refl
-arms_core_row s [] expected k (more_of-SourceValueArm pattern body rest) = refl
-arms_core_row s (stand ∷ stands) expected k (more_of-SourceValueArm pattern body rest) = ap (plain.value_arm (bind_of pattern) (value_core s (bound s stand pattern) expected body)) (arms_core_row s stands expected _ rest)
+arms_core_row : (s : Setting) (stands : List Stand) (expected : Option ℕ) (row : SourceValueArms) → value_arms_core s stands expected row ≡ arms_core s stands expected (items-the_row-SourceValueArm k row)
+arms_core_row s stands expected k no_source_value_arms = refl
+arms_core_row s [] expected k (a_source_value_arm pattern body rest) = refl
+arms_core_row s (stand ∷ stands) expected k (a_source_value_arm pattern body rest) = ap (plain.value_arm (bind_of pattern) (value_core s (bound s stand pattern) expected body)) (arms_core_row s stands expected _ rest)
 
-arms_statements_row : (k : _) (row : Row_of-SourceValueArm k) → value_arms_statements row ≡ arms_statements (items-the_row-SourceValueArm k row)
-arms_statements_row k end_of-SourceValueArm = refl
-arms_statements_row k (more_of-SourceValueArm pattern body rest) = ap (λ z. value_statements body + z) (arms_statements_row _ rest)
+arms_statements_row : (row : SourceValueArms) → value_arms_statements row ≡ arms_statements (items-the_row-SourceValueArm k row)
+arms_statements_row k no_source_value_arms = refl
+arms_statements_row k (a_source_value_arm pattern body rest) = ap (λ z. value_statements body + z) (arms_statements_row _ rest)
 
 -- tuples
 pub tuple_breaches : (s : Setting) (scope : List Variable) (expected : Option ℕ) (parts : List SourceValue) (at : ℕ) → value_breaches s scope expected (Tuple parts at) ≡ misplaced (may_stand s expected (has_factors (length parts))) at (codes "product") ++ parts_breaches s scope (part_nodes s expected (length parts)) parts

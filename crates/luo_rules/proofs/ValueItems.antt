@@ -8,8 +8,8 @@ use Rattle.luo_model.specs.Scopes.Stands.{Stand, stands, bound_parts}
 use Rattle.luo_model.specs.Scopes.Fits.{FitsValue, FitsValues, FitsValueArms}
 use Rattle.luo_model.specs.Scopes.ValueBodies.{value_own, values_own, value_sites, values_sites, value_arms_sites, value_items, values_items, value_arm_bodies}
 use Rattle.luo_model.specs.Scopes.Walks.{items_in, arms_in}
-use Rattle.luo_source.specs.declared.values.SourceValue as val
-use Rattle.luo_source.specs.declared.values.SourceValue.{SourceValue, Row_of-SourceValue, end_of-SourceValue, more_of-SourceValue, Row_of-SourceValueArm, end_of-SourceValueArm, more_of-SourceValueArm}
+use Rattle.luo_source.specs.Plain.Values as val
+use Rattle.luo_source.specs.Plain.Values.{SourceValue, SourceValues, no_source_values, a_source_value, SourceValueArms, no_source_value_arms, a_source_value_arm}
 use Rattle.luo_rules.specs.declared.setting.Setting.{Setting}
 use Rattle.luo_rules.specs.declared.setting.Variable.{Variable}
 use Rattle.luo_rules.specs.Statements.{value_statements, values_statements, boxed_value_statements, value_arms_statements}
@@ -105,20 +105,20 @@ module _ (s : Setting) where
     core_small scope expected (val.Given name) = omega arith
     core_small scope expected (val.Made callee arg) = omega arith
     core_small scope expected (val.Atom charge at) = omega arith
-    core_small scope expected (val.Tuple' size parts at) = cores_small scope (part_nodes s expected (count_values parts)) parts
-    core_small scope expected (val.Branch' number at size inner) = boxed_small scope (inner_node s expected number) inner
-    core_small scope expected (val.Case' var size arms) = omega (arith, arms_small (case_stands s (found scope var)) expected arms)
+    core_small scope expected (val.Tuple parts at) = cores_small scope (part_nodes s expected (count_values parts)) parts
+    core_small scope expected (val.Branch number at inner) = boxed_small scope (inner_node s expected number) inner
+    core_small scope expected (val.Case var arms) = omega (arith, arms_small (case_stands s (found scope var)) expected arms)
 
-    cores_small : (scope : List Variable) (nodes : List ℕ) {n : _} (row : Row_of-SourceValue n) → values_size (values_core s scope nodes row) ≤ values_statements row
-    cores_small scope nodes end_of-SourceValue = omega arith
-    cores_small scope [] (more_of-SourceValue v rest) = omega (arith, core_small scope None v, cores_small scope [] rest)
-    cores_small scope (x ∷ nodes) (more_of-SourceValue v rest) = omega (arith, core_small scope (Some x) v, cores_small scope nodes rest)
+    cores_small : (scope : List Variable) (nodes : List ℕ) (row : SourceValues) → values_size (values_core s scope nodes row) ≤ values_statements row
+    cores_small scope nodes no_source_values = omega arith
+    cores_small scope [] (a_source_value v rest) = omega (arith, core_small scope None v, cores_small scope [] rest)
+    cores_small scope (x ∷ nodes) (a_source_value v rest) = omega (arith, core_small scope (Some x) v, cores_small scope nodes rest)
 
-    boxed_small : (scope : List Variable) (expected : Option ℕ) {n : _} (row : Row_of-SourceValue n) → value_size (boxed_value_core s scope expected row) ≤ boxed_value_statements row
-    boxed_small scope expected end_of-SourceValue = omega arith
-    boxed_small scope expected (more_of-SourceValue v rest) = core_small scope expected v
+    boxed_small : (scope : List Variable) (expected : Option ℕ) (row : SourceValues) → value_size (boxed_value_core s scope expected row) ≤ boxed_value_statements row
+    boxed_small scope expected no_source_values = omega arith
+    boxed_small scope expected (a_source_value v rest) = core_small scope expected v
 
-    arms_small : (ss : List Stand) (expected : Option ℕ) {n : _} (row : Row_of-SourceValueArm n) → value_arms_size (value_arms_core s ss expected row) ≤ value_arms_statements row
-    arms_small ss expected end_of-SourceValueArm = omega arith
-    arms_small [] expected (more_of-SourceValueArm pattern body rest) = omega arith
-    arms_small (stand ∷ ss) expected (more_of-SourceValueArm pattern body rest) = omega (arith, core_small (bound s stand pattern) expected body, arms_small ss expected rest)
+    arms_small : (ss : List Stand) (expected : Option ℕ) (row : SourceValueArms) → value_arms_size (value_arms_core s ss expected row) ≤ value_arms_statements row
+    arms_small ss expected no_source_value_arms = omega arith
+    arms_small [] expected (a_source_value_arm pattern body rest) = omega arith
+    arms_small (stand ∷ ss) expected (a_source_value_arm pattern body rest) = omega (arith, core_small (bound s stand pattern) expected body, arms_small ss expected rest)

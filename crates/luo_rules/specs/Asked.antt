@@ -8,17 +8,13 @@ use Rattle.luo_model.specs.declared.program.Shape.TheVariants as shape
 use Rattle.luo_model.specs.Scopes.Stands.{Stand}
 use Rattle.luo_source.specs.declared.names.Name.{Name}
 use Rattle.luo_source.specs.declared.types.Bound.{Bound}
-use Rattle.luo_source.specs.declared.types.TypeExpr.{TypeExpr, Named, Epsilon, Atom, Union', Product', Coll', Row_of-TypeExpr, end_of-TypeExpr, more_of-TypeExpr}
-use Rattle.luo_source.specs.declared.types.TypeDef.{TypeDef}
+use Rattle.luo_source.specs.Plain.Types.{TypeExpr, Named, Epsilon, Atom, Union, Product, Coll, TypeExprs, no_exprs, an_expr, TypeDef}
 use Rattle.luo_source.specs.declared.statements.Pattern.{Pattern}
 use Rattle.luo_source.specs.declared.statements.Pattern.TheVariants as pattern
-use Rattle.luo_source.specs.declared.statements.Stmt.{Stmt, Skip, Charge, Call, Block', Case', Forall', Row_of-Stmt, end_of-Stmt, more_of-Stmt, Row_of-SourceArm, end_of-SourceArm, more_of-SourceArm}
-use Rattle.luo_source.specs.declared.values.SourceValue.{SourceValue, Row_of-SourceValue, end_of-SourceValue, more_of-SourceValue, Row_of-SourceValueArm, end_of-SourceValueArm, more_of-SourceValueArm}
-use Rattle.luo_source.specs.declared.values.SourceValue as made
-use Rattle.luo_source.specs.declared.source.ProcBody.{ProcBody}
-use Rattle.luo_source.specs.declared.source.ProcBody.TheVariants.{Statements, Value}
-use Rattle.luo_source.specs.declared.source.ProcDef.{ProcDef}
-use Rattle.luo_source.specs.declared.source.Source.{Source}
+use Rattle.luo_source.specs.Plain.Statements.{Stmt, Skip, Charge, Call, Block, Case, Forall, Stmts, no_stmts, a_stmt, SourceArms, no_source_arms, a_source_arm}
+use Rattle.luo_source.specs.Plain.Values.{SourceValue, SourceValues, no_source_values, a_source_value, SourceValueArms, no_source_value_arms, a_source_value_arm}
+use Rattle.luo_source.specs.Plain.Values as made
+use Rattle.luo_source.specs.Plain.Source.{ProcBody, Statements, Value, ProcDef, Source}
 use Rattle.luo_rules.specs.declared.names.Meaning.{Meaning}
 use Rattle.luo_rules.specs.declared.names.Meaning.TheVariants as mean
 use Rattle.luo_rules.specs.declared.setting.Setting.{Setting}
@@ -74,14 +70,14 @@ abbrev mutual
   expr_asked (Named name) = uses a_type name ∷ []
   expr_asked (Epsilon at) = []
   expr_asked (Atom weight weight_at at) = weighs weight weight_at ∷ []
-  expr_asked (Union' size parts) = exprs_asked parts
-  expr_asked (Product' size parts at) = exprs_asked parts
-  expr_asked (Coll' kind size part bound at) =
-      collects kind at ∷ (exprs_asked part ++ bound_asked kind bound)
+  expr_asked (Union parts) = exprs_asked parts
+  expr_asked (Product parts at) = exprs_asked parts
+  expr_asked (Coll kind part bound at) =
+      collects kind at ∷ (expr_asked part ++ bound_asked kind bound)
 
-  pub exprs_asked : {n : _} → Row_of-TypeExpr n → List Asked
-  exprs_asked end_of-TypeExpr = []
-  exprs_asked (more_of-TypeExpr e rest) = expr_asked e ++ exprs_asked rest
+  pub exprs_asked : TypeExprs → List Asked
+  exprs_asked no_exprs = []
+  exprs_asked (an_expr e rest) = expr_asked e ++ exprs_asked rest
 
 abbrev pub renames_asked : ℕ → List Name → TypeExpr → List Asked
 renames_asked i owners (Named name) = renames i owners name ∷ []
@@ -147,23 +143,23 @@ abbrev mutual
   stmt_asked s scope (Charge measure) = uses a_measure measure ∷ []
   stmt_asked s scope (Call callee arg) =
       uses a_procedure callee ∷ (reads scope arg ∷ (hands scope arg callee ∷ []))
-  stmt_asked s scope (Block' size stmts) = stmts_asked s scope stmts
-  stmt_asked s scope (Case' var size arms) =
+  stmt_asked s scope (Block stmts) = stmts_asked s scope stmts
+  stmt_asked s scope (Case var arms) =
       case_asked s scope var (count_arms arms)
       (arms_asked s (case_stands s (found scope var)) var arms)
-  stmt_asked s scope (Forall' var source size body) =
+  stmt_asked s scope (Forall var source body) =
       reads scope source ∷ (walks scope source
       ∷ walk_inside s (found scope source)
-      (stmts_asked s (record { name = var.text; part = walked s (found scope source) } ∷ []) body))
+      (stmt_asked s (record { name = var.text; part = walked s (found scope source) } ∷ []) body))
 
-  pub stmts_asked : Setting → List Variable → {n : _} → Row_of-Stmt n → List Asked
-  stmts_asked s scope end_of-Stmt = []
-  stmts_asked s scope (more_of-Stmt stmt rest) = stmt_asked s scope stmt ++ stmts_asked s scope rest
+  pub stmts_asked : Setting → List Variable → Stmts → List Asked
+  stmts_asked s scope no_stmts = []
+  stmts_asked s scope (a_stmt stmt rest) = stmt_asked s scope stmt ++ stmts_asked s scope rest
 
-  pub arms_asked : Setting → List Stand → Name → {n : _} → Row_of-SourceArm n → List Asked
-  arms_asked s stands var end_of-SourceArm = []
-  arms_asked s [] var (more_of-SourceArm p body rest) = []
-  arms_asked s (stand ∷ stands) var (more_of-SourceArm p body rest) =
+  pub arms_asked : Setting → List Stand → Name → SourceArms → List Asked
+  arms_asked s stands var no_source_arms = []
+  arms_asked s [] var (a_source_arm p body rest) = []
+  arms_asked s (stand ∷ stands) var (a_source_arm p body rest) =
       arm_asked s stand var p (stmt_asked s (bound s stand p) body) ++ arms_asked s stands var rest
 
 -- ---- values
@@ -181,33 +177,28 @@ abbrev mutual
       ∷ (makes expected callee ∷ (reads scope arg ∷ (hands scope arg callee ∷ [])))
   value_asked s scope expected (made.Atom charge at) =
       charge_asked charge ++ builds is_atom expected at (codes "atom") ∷ []
-  value_asked s scope expected (made.Tuple' size parts at) =
+  value_asked s scope expected (made.Tuple parts at) =
       builds (has_factors (count_values parts)) expected at (codes "product")
       ∷ values_asked s scope (part_nodes s expected (count_values parts)) parts
-  value_asked s scope expected (made.Branch' number at size inner) =
+  value_asked s scope expected (made.Branch number at inner) =
       builds (has_branch number) expected at (decimal number)
-      ∷ boxed_value_asked s scope (inner_node s expected number) inner
-  value_asked s scope expected (made.Case' var size arms) =
+      ∷ value_asked s scope (inner_node s expected number) inner
+  value_asked s scope expected (made.Case var arms) =
       case_asked s scope var (count_value_arms arms)
       (value_arms_asked s (case_stands s (found scope var)) expected var arms)
 
-  pub values_asked : Setting → List Variable → List ℕ → {n : _} → Row_of-SourceValue n → List Asked
-  values_asked s scope nodes end_of-SourceValue = []
-  values_asked s scope [] (more_of-SourceValue v rest) =
+  pub values_asked : Setting → List Variable → List ℕ → SourceValues → List Asked
+  values_asked s scope nodes no_source_values = []
+  values_asked s scope [] (a_source_value v rest) =
       value_asked s scope None v ++ values_asked s scope [] rest
-  values_asked s scope (node ∷ nodes) (more_of-SourceValue v rest) =
+  values_asked s scope (node ∷ nodes) (a_source_value v rest) =
       value_asked s scope (Some node) v ++ values_asked s scope nodes rest
 
-  pub boxed_value_asked : Setting → List Variable → Option ℕ → {n : _} → Row_of-SourceValue n
+  pub value_arms_asked : Setting → List Stand → Option ℕ → Name → SourceValueArms
       → List Asked
-  boxed_value_asked s scope expected end_of-SourceValue = []
-  boxed_value_asked s scope expected (more_of-SourceValue v rest) = value_asked s scope expected v
-
-  pub value_arms_asked : Setting → List Stand → Option ℕ → Name → {n : _} → Row_of-SourceValueArm n
-      → List Asked
-  value_arms_asked s stands expected var end_of-SourceValueArm = []
-  value_arms_asked s [] expected var (more_of-SourceValueArm p body rest) = []
-  value_arms_asked s (stand ∷ stands) expected var (more_of-SourceValueArm p body rest) =
+  value_arms_asked s stands expected var no_source_value_arms = []
+  value_arms_asked s [] expected var (a_source_value_arm p body rest) = []
+  value_arms_asked s (stand ∷ stands) expected var (a_source_value_arm p body rest) =
       arm_asked s stand var p (value_asked s (bound s stand p) expected body)
       ++ value_arms_asked s stands expected var rest
 
@@ -217,7 +208,7 @@ abbrev mutual
 abbrev pub body_asked : Setting → ProcDef → Option ℕ → ProcBody → List Asked
 body_asked s p None (Statements stmts) = []
 body_asked s p (Some node) (Statements stmts) =
-    flat_map (stmt_asked s (parameter s p)) stmts
+    stmts_asked s (parameter s p) stmts
 body_asked s p None (Value colon result value) = results colon p.name ∷ (uses a_type result ∷ [])
 body_asked s p (Some node) (Value colon result value) =
     results colon p.name

@@ -4,13 +4,12 @@ use Rattle.luo_model.specs.declared.program.Universe.TheVariants.{Unlabelled, La
 use Rattle.luo_model.specs.declared.program.Kind.TheVariants.{Sequence, Set, Cycle, Multiset, Powerset}
 use Rattle.luo_source.specs.declared.names.Name.{Name}
 use Rattle.luo_source.specs.declared.types.Range.TheVariants.{AtMost, AtLeast}
-use Rattle.luo_source.specs.declared.types.TypeExpr.{Named, Atom, Union', Product', Coll', end_of-TypeExpr, more_of-TypeExpr}
+use Rattle.luo_source.specs.Plain.Types.{Named, Atom, Union, Product, Coll, no_exprs, an_expr}
 use Rattle.luo_source.specs.declared.statements.Pattern.TheVariants as pattern
-use Rattle.luo_source.specs.declared.statements.Stmt.{Skip, Charge, Call, Case', Forall', end_of-Stmt, more_of-Stmt, end_of-SourceArm, more_of-SourceArm}
-use Rattle.luo_source.specs.declared.values.SourceValue.{end_of-SourceValue, more_of-SourceValue, end_of-SourceValueArm, more_of-SourceValueArm}
-use Rattle.luo_source.specs.declared.values.SourceValue as made
-use Rattle.luo_source.specs.declared.source.ProcBody.TheVariants.{Statements, Value}
-use Rattle.luo_source.specs.declared.source.Source.{Source}
+use Rattle.luo_source.specs.Plain.Statements.{Skip, Charge, Call, Case, Forall, no_stmts, a_stmt, no_source_arms, a_source_arm}
+use Rattle.luo_source.specs.Plain.Values.{no_source_values, a_source_value, no_source_value_arms, a_source_value_arm}
+use Rattle.luo_source.specs.Plain.Values as made
+use Rattle.luo_source.specs.Plain.Source.{Statements, Value, Source}
 
 -- a name at its token
 abbrev pub name : List ℕ → ℕ → Name
@@ -26,9 +25,8 @@ second_variable = record {
       ∷ record {
         names = (name (codes "t") 9) ∷ [];
         body =
-            Product' (tt ∷ tt ∷ [])
-            (more_of-TypeExpr (Named (name (codes "z") 13))
-            (more_of-TypeExpr (Named (name (codes "z") 15)) end_of-TypeExpr)) 11;
+            Product (an_expr (Named (name (codes "z") 13))
+            (an_expr (Named (name (codes "z") 15)) no_exprs)) 11;
       } ∷ [];
   measures = [];
   procs =
@@ -37,10 +35,9 @@ second_variable = record {
         param = name (codes "x") 21;
         on = name (codes "t") 23;
         body =
-            Statements ((Case' (name (codes "x") 28) (tt ∷ [])
-            (more_of-SourceArm
+            Statements (a_stmt (Case (name (codes "x") 28) (a_source_arm
             (pattern.Parts
-            ((name (codes "a") 31) ∷ (name (codes "a") 33) ∷ []) 30) Skip end_of-SourceArm)) ∷ []);
+            ((name (codes "a") 31) ∷ (name (codes "a") 33) ∷ []) 30) Skip no_source_arms)) no_stmts);
       } ∷ [];
   analyses = (name (codes "p") 41) ∷ [];
 }
@@ -56,13 +53,13 @@ second_procedure = record {
         name = name (codes "p") 9;
         param = name (codes "x") 11;
         on = name (codes "z") 13;
-        body = Statements [];
+        body = Statements no_stmts;
       }
       ∷ record {
         name = name (codes "p") 20;
         param = name (codes "y") 22;
         on = name (codes "z") 24;
-        body = Statements [];
+        body = Statements no_stmts;
       } ∷ [];
   analyses = (name (codes "p") 31) ∷ [];
 }
@@ -76,9 +73,8 @@ undefined_type = record {
       ∷ record {
         names = (name (codes "t") 9) ∷ [];
         body =
-            Product' (tt ∷ tt ∷ [])
-            (more_of-TypeExpr (Named (name (codes "y") 13))
-            (more_of-TypeExpr (Named (name (codes "z") 15)) end_of-TypeExpr)) 11;
+            Product (an_expr (Named (name (codes "y") 13))
+            (an_expr (Named (name (codes "z") 15)) no_exprs)) 11;
       } ∷ [];
   measures = [];
   procs =
@@ -86,7 +82,7 @@ undefined_type = record {
         name = name (codes "p") 19;
         param = name (codes "x") 21;
         on = name (codes "z") 23;
-        body = Statements [];
+        body = Statements no_stmts;
       } ∷ [];
   analyses = (name (codes "p") 30) ∷ [];
 }
@@ -102,7 +98,7 @@ measure_as_type = record {
         name = name (codes "p") 14;
         param = name (codes "x") 16;
         on = name (codes "m") 18;
-        body = Statements [];
+        body = Statements no_stmts;
       } ∷ [];
   analyses = (name (codes "p") 25) ∷ [];
 }
@@ -119,8 +115,7 @@ wrong_uses = record {
         param = name (codes "x") 11;
         on = name (codes "z") 13;
         body =
-            Statements ((Call (name (codes "q") 17) (name (codes "x") 19))
-            ∷ (Call (name (codes "z") 22) (name (codes "x") 24)) ∷ (Charge (name (codes "p") 27)) ∷ []);
+            Statements (a_stmt (Call (name (codes "q") 17) (name (codes "x") 19)) (a_stmt (Call (name (codes "z") 22) (name (codes "x") 24)) (a_stmt (Charge (name (codes "p") 27)) no_stmts)));
       }
       ∷ [];
   analyses = (name (codes "z") 31) ∷ [];
@@ -134,12 +129,12 @@ kinds_with_labels = record {
       record { names = (name (codes "z") 1) ∷ []; body = Atom 1 5 3 }
       ∷ record {
         names = (name (codes "s") 9) ∷ [];
-        body = Coll' Set _ (more_of-TypeExpr (Named (name (codes "z") 13)) end_of-TypeExpr) None 11;
+        body = Coll Set (Named (name (codes "z") 13)) None 11;
       }
       ∷ record {
         names = (name (codes "c") 17) ∷ [];
         body =
-            Coll' Cycle _ (more_of-TypeExpr (Named (name (codes "z") 21)) end_of-TypeExpr) None 19;
+            Coll Cycle (Named (name (codes "z") 21)) None 19;
       } ∷ [];
   measures = [];
   procs =
@@ -147,7 +142,7 @@ kinds_with_labels = record {
         name = name (codes "p") 25;
         param = name (codes "x") 27;
         on = name (codes "z") 29;
-        body = Statements [];
+        body = Statements no_stmts;
       } ∷ [];
   analyses = (name (codes "p") 36) ∷ [];
 }
@@ -162,12 +157,12 @@ kinds_without = record {
       ∷ record {
         names = (name (codes "m") 11) ∷ [];
         body =
-            Coll' Multiset _ (more_of-TypeExpr (Named (name (codes "z") 15)) end_of-TypeExpr) None 13;
+            Coll Multiset (Named (name (codes "z") 15)) None 13;
       }
       ∷ record {
         names = (name (codes "w") 19) ∷ [];
         body =
-            Coll' Powerset _ (more_of-TypeExpr (Named (name (codes "z") 23)) end_of-TypeExpr) None 21;
+            Coll Powerset (Named (name (codes "z") 23)) None 21;
       }
       ∷ [];
   measures = [];
@@ -176,7 +171,7 @@ kinds_without = record {
         name = name (codes "p") 27;
         param = name (codes "x") 29;
         on = name (codes "z") 31;
-        body = Statements [];
+        body = Statements no_stmts;
       } ∷ [];
   analyses = (name (codes "p") 38) ∷ [];
 }
@@ -191,13 +186,13 @@ low_cycles = record {
       ∷ record {
         names = (name (codes "a") 11) ∷ [];
         body =
-            Coll' Cycle _ (more_of-TypeExpr (Named (name (codes "z") 15)) end_of-TypeExpr)
+            Coll Cycle (Named (name (codes "z") 15))
             (Some (record { range = AtMost 0; at = 17 })) 13;
       }
       ∷ record {
         names = (name (codes "b") 23) ∷ [];
         body =
-            Coll' Cycle _ (more_of-TypeExpr (Named (name (codes "z") 27)) end_of-TypeExpr)
+            Coll Cycle (Named (name (codes "z") 27))
             (Some (record { range = AtLeast 0; at = 29 })) 25;
       } ∷ [];
   measures = [];
@@ -206,7 +201,7 @@ low_cycles = record {
         name = name (codes "p") 35;
         param = name (codes "x") 37;
         on = name (codes "z") 39;
-        body = Statements [];
+        body = Statements no_stmts;
       } ∷ [];
   analyses = (name (codes "p") 46) ∷ [];
 }
@@ -220,7 +215,7 @@ low_powerset = record {
       ∷ record {
         names = (name (codes "a") 9) ∷ [];
         body =
-            Coll' Powerset _ (more_of-TypeExpr (Named (name (codes "z") 13)) end_of-TypeExpr)
+            Coll Powerset (Named (name (codes "z") 13))
             (Some (record { range = AtLeast 2; at = 15 })) 11;
       } ∷ [];
   measures = [];
@@ -229,7 +224,7 @@ low_powerset = record {
         name = name (codes "p") 21;
         param = name (codes "x") 23;
         on = name (codes "z") 25;
-        body = Statements [];
+        body = Statements no_stmts;
       } ∷ [];
   analyses = (name (codes "p") 32) ∷ [];
 }
@@ -245,7 +240,7 @@ heavy = record {
         name = name (codes "p") 9;
         param = name (codes "x") 11;
         on = name (codes "z") 13;
-        body = Statements [];
+        body = Statements no_stmts;
       } ∷ [];
   analyses = (name (codes "p") 20) ∷ [];
 }
@@ -261,7 +256,7 @@ heavy_label = record {
         name = name (codes "p") 11;
         param = name (codes "x") 13;
         on = name (codes "z") 15;
-        body = Statements [];
+        body = Statements no_stmts;
       } ∷ [];
   analyses = (name (codes "p") 22) ∷ [];
 }
@@ -280,13 +275,13 @@ other_argument = record {
         name = name (codes "p") 17;
         param = name (codes "x") 19;
         on = name (codes "z") 21;
-        body = Statements ((Call (name (codes "q") 25) (name (codes "x") 27)) ∷ []);
+        body = Statements (a_stmt (Call (name (codes "q") 25) (name (codes "x") 27)) no_stmts);
       }
       ∷ record {
         name = name (codes "q") 32;
         param = name (codes "y") 34;
         on = name (codes "w") 36;
-        body = Statements [];
+        body = Statements no_stmts;
       } ∷ [];
   analyses = (name (codes "p") 43) ∷ [];
 }
@@ -303,8 +298,7 @@ case_on_atom = record {
         param = name (codes "x") 11;
         on = name (codes "z") 13;
         body =
-            Statements ((Case' (name (codes "x") 18) (tt ∷ [])
-            (more_of-SourceArm (pattern.Any 20) Skip end_of-SourceArm)) ∷ []);
+            Statements (a_stmt (Case (name (codes "x") 18) (a_source_arm (pattern.Any 20) Skip no_source_arms)) no_stmts);
       } ∷ [];
   analyses = (name (codes "p") 27) ∷ [];
 }
@@ -319,9 +313,8 @@ missing_arm = record {
       ∷ record {
         names = (name (codes "t") 9) ∷ [];
         body =
-            Union' (tt ∷ tt ∷ [])
-            (more_of-TypeExpr (Named (name (codes "z") 11))
-            (more_of-TypeExpr (Named (name (codes "z") 13)) end_of-TypeExpr));
+            Union (an_expr (Named (name (codes "z") 11))
+            (an_expr (Named (name (codes "z") 13)) no_exprs));
       } ∷ [];
   measures = [];
   procs =
@@ -330,8 +323,7 @@ missing_arm = record {
         param = name (codes "x") 18;
         on = name (codes "t") 20;
         body =
-            Statements ((Case' (name (codes "x") 25) (tt ∷ [])
-            (more_of-SourceArm (pattern.Any 27) Skip end_of-SourceArm)) ∷ []);
+            Statements (a_stmt (Case (name (codes "x") 25) (a_source_arm (pattern.Any 27) Skip no_source_arms)) no_stmts);
       } ∷ [];
   analyses = (name (codes "p") 34) ∷ [];
 }
@@ -346,9 +338,8 @@ wrong_pattern = record {
       ∷ record {
         names = (name (codes "t") 9) ∷ [];
         body =
-            Union' (tt ∷ tt ∷ [])
-            (more_of-TypeExpr (Named (name (codes "z") 11))
-            (more_of-TypeExpr (Named (name (codes "z") 13)) end_of-TypeExpr));
+            Union (an_expr (Named (name (codes "z") 11))
+            (an_expr (Named (name (codes "z") 13)) no_exprs));
       } ∷ [];
   measures = [];
   procs =
@@ -357,10 +348,9 @@ wrong_pattern = record {
         param = name (codes "x") 18;
         on = name (codes "t") 20;
         body =
-            Statements ((Case' (name (codes "x") 25) (tt ∷ tt ∷ [])
-            (more_of-SourceArm
+            Statements (a_stmt (Case (name (codes "x") 25) (a_source_arm
             (pattern.Parts ((name (codes "a") 28) ∷ (name (codes "b") 30) ∷ []) 27) Skip
-            (more_of-SourceArm (pattern.Named (name (codes "z") 35)) Skip end_of-SourceArm))) ∷ []);
+            (a_source_arm (pattern.Named (name (codes "z") 35)) Skip no_source_arms))) no_stmts);
       }
       ∷ [];
   analyses = (name (codes "p") 42) ∷ [];
@@ -376,10 +366,9 @@ wrong_and_twice = record {
       ∷ record {
         names = (name (codes "t") 9) ∷ [];
         body =
-            Product' (tt ∷ tt ∷ tt ∷ [])
-            (more_of-TypeExpr (Named (name (codes "z") 13))
-            (more_of-TypeExpr (Named (name (codes "z") 15))
-            (more_of-TypeExpr (Named (name (codes "z") 17)) end_of-TypeExpr))) 11;
+            Product (an_expr (Named (name (codes "z") 13))
+            (an_expr (Named (name (codes "z") 15))
+            (an_expr (Named (name (codes "z") 17)) no_exprs))) 11;
       } ∷ [];
   measures = [];
   procs =
@@ -388,10 +377,9 @@ wrong_and_twice = record {
         param = name (codes "x") 23;
         on = name (codes "t") 25;
         body =
-            Statements ((Case' (name (codes "x") 30) (tt ∷ [])
-            (more_of-SourceArm
+            Statements (a_stmt (Case (name (codes "x") 30) (a_source_arm
             (pattern.Parts
-            ((name (codes "a") 33) ∷ (name (codes "a") 35) ∷ []) 32) Skip end_of-SourceArm)) ∷ []);
+            ((name (codes "a") 33) ∷ (name (codes "a") 35) ∷ []) 32) Skip no_source_arms)) no_stmts);
       } ∷ [];
   analyses = (name (codes "p") 43) ∷ [];
 }
@@ -408,8 +396,7 @@ walk_on_atom = record {
         param = name (codes "x") 11;
         on = name (codes "z") 13;
         body =
-            Statements ((Forall' (name (codes "u") 18) (name (codes "x") 20) _
-            (more_of-Stmt Skip end_of-Stmt)) ∷ []);
+            Statements (a_stmt (Forall (name (codes "u") 18) (name (codes "x") 20) Skip) no_stmts);
       } ∷ [];
   analyses = (name (codes "p") 26) ∷ [];
 }
@@ -424,7 +411,7 @@ outer_variable = record {
       ∷ record {
         names = (name (codes "s") 9) ∷ [];
         body =
-            Coll' Sequence _ (more_of-TypeExpr (Named (name (codes "z") 13)) end_of-TypeExpr) None 11;
+            Coll Sequence (Named (name (codes "z") 13)) None 11;
       }
       ∷ [];
   measures = [];
@@ -434,8 +421,7 @@ outer_variable = record {
         param = name (codes "x") 19;
         on = name (codes "s") 21;
         body =
-            Statements ((Forall' (name (codes "u") 26) (name (codes "x") 28) _
-            (more_of-Stmt (Call (name (codes "p") 30) (name (codes "x") 32)) end_of-Stmt)) ∷ []);
+            Statements (a_stmt (Forall (name (codes "u") 26) (name (codes "x") 28) (Call (name (codes "p") 30) (name (codes "x") 32))) no_stmts);
       } ∷ [];
   analyses = (name (codes "p") 37) ∷ [];
 }
@@ -467,9 +453,8 @@ other_results = record {
       ∷ record {
         names = (name (codes "t") 17) ∷ [];
         body =
-            Product' (tt ∷ tt ∷ [])
-            (more_of-TypeExpr (Named (name (codes "z") 21))
-            (more_of-TypeExpr (Named (name (codes "w") 23)) end_of-TypeExpr)) 19;
+            Product (an_expr (Named (name (codes "z") 21))
+            (an_expr (Named (name (codes "w") 23)) no_exprs)) 19;
       } ∷ [];
   measures = [];
   procs =
@@ -479,14 +464,12 @@ other_results = record {
         on = name (codes "t") 31;
         body =
             Value 33 (name (codes "t") 34)
-            (made.Case' (name (codes "x") 37) (tt ∷ [])
-            (more_of-SourceValueArm
+            (made.Case (name (codes "x") 37) (a_source_value_arm
             (pattern.Parts ((name (codes "a") 40) ∷ (name (codes "b") 42) ∷ []) 39)
-            (made.Tuple' (tt ∷ tt ∷ [])
-            (more_of-SourceValue (made.Given (name (codes "b") 47))
-            (more_of-SourceValue
+            (made.Tuple (a_source_value (made.Given (name (codes "b") 47))
+            (a_source_value
             (made.Made (name (codes "q") 49)
-            (name (codes "a") 51)) end_of-SourceValue)) 45) end_of-SourceValueArm));
+            (name (codes "a") 51)) no_source_values)) 45) no_source_value_arms));
       }
       ∷ record {
         name = name (codes "q") 57;
@@ -515,7 +498,7 @@ no_results = record {
         name = name (codes "q") 24;
         param = name (codes "y") 26;
         on = name (codes "z") 28;
-        body = Statements [];
+        body = Statements no_stmts;
       } ∷ [];
   analyses = (name (codes "p") 35) ∷ [];
 }
@@ -538,7 +521,7 @@ result_and_argument = record {
         name = name (codes "q") 24;
         param = name (codes "y") 26;
         on = name (codes "z") 28;
-        body = Statements [];
+        body = Statements no_stmts;
       } ∷ [];
   analyses = (name (codes "p") 35) ∷ [];
 }
@@ -553,9 +536,8 @@ other_constructs = record {
       ∷ record {
         names = (name (codes "t") 9) ∷ [];
         body =
-            Product' (tt ∷ tt ∷ [])
-            (more_of-TypeExpr (Named (name (codes "z") 13))
-            (more_of-TypeExpr (Named (name (codes "z") 15)) end_of-TypeExpr)) 11;
+            Product (an_expr (Named (name (codes "z") 13))
+            (an_expr (Named (name (codes "z") 15)) no_exprs)) 11;
       } ∷ [];
   measures = [];
   procs =
@@ -571,9 +553,8 @@ other_constructs = record {
         on = name (codes "z") 35;
         body =
             Value 37 (name (codes "z") 38)
-            (made.Tuple' (tt ∷ tt ∷ [])
-            (more_of-SourceValue (made.Given (name (codes "x") 42))
-            (more_of-SourceValue (made.Given (name (codes "x") 44)) end_of-SourceValue)) 40);
+            (made.Tuple (a_source_value (made.Given (name (codes "x") 42))
+            (a_source_value (made.Given (name (codes "x") 44)) no_source_values)) 40);
       } ∷ [];
   analyses = (name (codes "p") 48) ∷ [];
 }
@@ -587,9 +568,8 @@ no_branch = record {
       ∷ record {
         names = (name (codes "u") 9) ∷ [];
         body =
-            Union' (tt ∷ tt ∷ [])
-            (more_of-TypeExpr (Named (name (codes "z") 11))
-            (more_of-TypeExpr (Named (name (codes "z") 13)) end_of-TypeExpr));
+            Union (an_expr (Named (name (codes "z") 11))
+            (an_expr (Named (name (codes "z") 13)) no_exprs));
       } ∷ [];
   measures = [];
   procs =
@@ -599,8 +579,7 @@ no_branch = record {
         on = name (codes "z") 20;
         body =
             Value 22 (name (codes "u") 23)
-            (made.Branch' 3 25 _
-            (more_of-SourceValue (made.Given (name (codes "x") 27)) end_of-SourceValue));
+            (made.Branch 3 25 (made.Given (name (codes "x") 27)));
       } ∷ [];
   analyses = (name (codes "p") 30) ∷ [];
 }

@@ -5,7 +5,9 @@ use Rattle.luo_model.specs.Program.{Program}
 use Rattle.luo_model.specs.View.{Held}
 use Rattle.luo_scan.specs.declared.token.Token.{Token}
 use Rattle.luo_scan.specs.Tokens.{Tokens}
-use Rattle.luo_source.specs.declared.source.Source.{Source}
+use Rattle.luo_source.specs.Plain.Source.{Source}
+use Rattle.luo_source.specs.declared.source.Source as declared
+use Rattle.luo_source.specs.View.{plain_source}
 use Rattle.luo_source.specs.Grammar.{Derives}
 use Rattle.luo_rules.specs.declared.rule.Breach.{Breach}
 use Rattle.luo_rules.specs.declared.rule.Stop.TheVariants as stop
@@ -21,8 +23,10 @@ use Rattle.luo_rules.specs.Whole.{breaches, IsCore, core, walk_count}
 pub record IsSource (source : Source) : Type 0 where
   pub text : List ℕ
   pub tokens : List Token
+  pub read : declared.Source
   pub scanned : Tokens text tokens
-  pub derived : Derives text tokens source
+  pub derived : Derives text tokens read
+  pub shown : plain_source read ≡ source
 
 -- the first limit that the source passes, in their order
 abbrev pub PassesFirst : Source → CountLimit → Type 0

@@ -6,11 +6,9 @@ use Rattle.luo_model.specs.declared.program.Kind.TheVariants.{Multiset, Powerset
 use Rattle.luo_source.specs.declared.types.Range.{Range}
 use Rattle.luo_source.specs.declared.types.Range.TheVariants.{Exactly, AtMost, AtLeast, Between}
 use Rattle.luo_source.specs.declared.types.Bound.{Bound}
-use Rattle.luo_source.specs.declared.types.TypeExpr.{TypeExpr, Named, Epsilon, Atom, Union', Product', Coll', Row_of-TypeExpr, end_of-TypeExpr, more_of-TypeExpr}
-use Rattle.luo_source.specs.declared.statements.Stmt.{Stmt, Skip, Charge, Call, Block', Case', Forall', Row_of-Stmt, end_of-Stmt, more_of-Stmt, Row_of-SourceArm, end_of-SourceArm, more_of-SourceArm}
-use Rattle.luo_source.specs.declared.source.ProcBody.{ProcBody}
-use Rattle.luo_source.specs.declared.source.ProcBody.TheVariants.{Statements, Value}
-use Rattle.luo_source.specs.declared.source.Source.{Source}
+use Rattle.luo_source.specs.Plain.Types.{TypeExpr, Named, Epsilon, Atom, Union, Product, Coll, TypeExprs, no_exprs, an_expr}
+use Rattle.luo_source.specs.Plain.Statements.{Stmt, Skip, Charge, Call, Block, Case, Forall, Stmts, no_stmts, a_stmt, SourceArms, no_source_arms, a_source_arm}
+use Rattle.luo_source.specs.Plain.Source.{ProcBody, Statements, Value, Source}
 use Rattle.luo_rules.specs.Statements.{value_statements}
 use Rattle.luo_rules.specs.declared.error.CountLimit.{CountLimit}
 use Rattle.luo_rules.specs.declared.error.CountLimit.TheVariants as count
@@ -38,13 +36,13 @@ abbrev mutual
   own_nodes (Named name) = 0
   own_nodes (Epsilon at) = 1
   own_nodes (Atom weight weight_at at) = 1
-  own_nodes (Union' size parts) = suc (own_nodes_of parts)
-  own_nodes (Product' size parts at) = suc (own_nodes_of parts)
-  own_nodes (Coll' kind size part bound at) = suc (own_nodes_of part)
+  own_nodes (Union parts) = suc (own_nodes_of parts)
+  own_nodes (Product parts at) = suc (own_nodes_of parts)
+  own_nodes (Coll kind part bound at) = suc (own_nodes part)
 
-  pub own_nodes_of : {n : _} → Row_of-TypeExpr n → ℕ
-  own_nodes_of end_of-TypeExpr = 0
-  own_nodes_of (more_of-TypeExpr e rest) = own_nodes e + own_nodes_of rest
+  pub own_nodes_of : TypeExprs → ℕ
+  own_nodes_of no_exprs = 0
+  own_nodes_of (an_expr e rest) = own_nodes e + own_nodes_of rest
 
 abbrev mutual
   -- the multisets and powersets of a type expression
@@ -52,17 +50,17 @@ abbrev mutual
   own_multisets (Named name) = 0
   own_multisets (Epsilon at) = 0
   own_multisets (Atom weight weight_at at) = 0
-  own_multisets (Union' size parts) = own_multisets_of parts
-  own_multisets (Product' size parts at) = own_multisets_of parts
-  own_multisets (Coll' kind size part bound at) = multiset_of kind + own_multisets_of part
+  own_multisets (Union parts) = own_multisets_of parts
+  own_multisets (Product parts at) = own_multisets_of parts
+  own_multisets (Coll kind part bound at) = multiset_of kind + own_multisets part
 
-  pub own_multisets_of : {n : _} → Row_of-TypeExpr n → ℕ
-  own_multisets_of end_of-TypeExpr = 0
-  own_multisets_of (more_of-TypeExpr e rest) = own_multisets e + own_multisets_of rest
+  pub own_multisets_of : TypeExprs → ℕ
+  own_multisets_of no_exprs = 0
+  own_multisets_of (an_expr e rest) = own_multisets e + own_multisets_of rest
 
-abbrev pub count_exprs : {n : _} → Row_of-TypeExpr n → ℕ
-count_exprs end_of-TypeExpr = 0
-count_exprs (more_of-TypeExpr e rest) = suc (count_exprs rest)
+abbrev pub count_exprs : TypeExprs → ℕ
+count_exprs no_exprs = 0
+count_exprs (an_expr e rest) = suc (count_exprs rest)
 
 abbrev mutual
   -- the most branches or factors of one union or product
@@ -70,13 +68,13 @@ abbrev mutual
   most_parts (Named name) = 0
   most_parts (Epsilon at) = 0
   most_parts (Atom weight weight_at at) = 0
-  most_parts (Union' size parts) = max (count_exprs parts) (most_parts_of parts)
-  most_parts (Product' size parts at) = max (count_exprs parts) (most_parts_of parts)
-  most_parts (Coll' kind size part bound at) = most_parts_of part
+  most_parts (Union parts) = max (count_exprs parts) (most_parts_of parts)
+  most_parts (Product parts at) = max (count_exprs parts) (most_parts_of parts)
+  most_parts (Coll kind part bound at) = most_parts part
 
-  pub most_parts_of : {n : _} → Row_of-TypeExpr n → ℕ
-  most_parts_of end_of-TypeExpr = 0
-  most_parts_of (more_of-TypeExpr e rest) = max (most_parts e) (most_parts_of rest)
+  pub most_parts_of : TypeExprs → ℕ
+  most_parts_of no_exprs = 0
+  most_parts_of (an_expr e rest) = max (most_parts e) (most_parts_of rest)
 
 abbrev mutual
   -- the greatest number in a bound
@@ -84,13 +82,13 @@ abbrev mutual
   greatest_bound (Named name) = 0
   greatest_bound (Epsilon at) = 0
   greatest_bound (Atom weight weight_at at) = 0
-  greatest_bound (Union' size parts) = greatest_bound_of parts
-  greatest_bound (Product' size parts at) = greatest_bound_of parts
-  greatest_bound (Coll' kind size part bound at) = max (greatest_bound_of part) (greatest_of bound)
+  greatest_bound (Union parts) = greatest_bound_of parts
+  greatest_bound (Product parts at) = greatest_bound_of parts
+  greatest_bound (Coll kind part bound at) = max (greatest_bound part) (greatest_of bound)
 
-  pub greatest_bound_of : {n : _} → Row_of-TypeExpr n → ℕ
-  greatest_bound_of end_of-TypeExpr = 0
-  greatest_bound_of (more_of-TypeExpr e rest) = max (greatest_bound e) (greatest_bound_of rest)
+  pub greatest_bound_of : TypeExprs → ℕ
+  greatest_bound_of no_exprs = 0
+  greatest_bound_of (an_expr e rest) = max (greatest_bound e) (greatest_bound_of rest)
 
 abbrev mutual
   -- each `skip`, charge, call, case and walk counts one, and a block what it holds
@@ -98,21 +96,21 @@ abbrev mutual
   stmt_statements Skip = 1
   stmt_statements (Charge measure) = 1
   stmt_statements (Call callee arg) = 1
-  stmt_statements (Block' size stmts) = stmts_statements stmts
-  stmt_statements (Case' var size arms) = suc (arms_statements arms)
-  stmt_statements (Forall' var source size body) = suc (stmts_statements body)
+  stmt_statements (Block stmts) = stmts_statements stmts
+  stmt_statements (Case var arms) = suc (arms_statements arms)
+  stmt_statements (Forall var source body) = suc (stmt_statements body)
 
-  pub stmts_statements : {n : _} → Row_of-Stmt n → ℕ
-  stmts_statements end_of-Stmt = 0
-  stmts_statements (more_of-Stmt s rest) = stmt_statements s + stmts_statements rest
+  pub stmts_statements : Stmts → ℕ
+  stmts_statements no_stmts = 0
+  stmts_statements (a_stmt s rest) = stmt_statements s + stmts_statements rest
 
-  pub arms_statements : {n : _} → Row_of-SourceArm n → ℕ
-  arms_statements end_of-SourceArm = 0
-  arms_statements (more_of-SourceArm pattern body rest) =
+  pub arms_statements : SourceArms → ℕ
+  arms_statements no_source_arms = 0
+  arms_statements (a_source_arm pattern body rest) =
       stmt_statements body + arms_statements rest
 
 abbrev pub body_statements : ProcBody → ℕ
-body_statements (Statements stmts) = sum_by stmt_statements stmts
+body_statements (Statements stmts) = stmts_statements stmts
 body_statements (Value colon result value) = value_statements value
 
 -- the greatest number of the elements

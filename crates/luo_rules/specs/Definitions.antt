@@ -1,11 +1,9 @@
 -- The definitions of a source, one for each name, and what all its names mean.
 use Rattle.std.specs.Prelude.{ℕ, suc, List, [], ◌∷◌, map, flat_map, sum_by, take, Option, Some, None, slice_get}
 use Rattle.luo_source.specs.declared.names.Name.{Name}
-use Rattle.luo_source.specs.declared.types.TypeExpr.{TypeExpr, Named}
-use Rattle.luo_source.specs.declared.types.TypeDef.{TypeDef}
+use Rattle.luo_source.specs.Plain.Types.{TypeExpr, Named, TypeDef}
 use Rattle.luo_source.specs.declared.types.MeasureDef.{MeasureDef}
-use Rattle.luo_source.specs.declared.source.ProcDef.{ProcDef}
-use Rattle.luo_source.specs.declared.source.Source.{Source}
+use Rattle.luo_source.specs.Plain.Source.{ProcDef, Source}
 use Rattle.luo_rules.specs.declared.names.Meaning.{Meaning}
 use Rattle.luo_rules.specs.declared.names.Meaning.TheVariants as mean
 use Rattle.luo_rules.specs.Meanings.{meaning, with_name}

@@ -2,16 +2,13 @@
 use Rattle.std.specs.Prelude.{ℕ, ◌+◌, List, [], ◌∷◌, codes, Some}
 use Rattle.luo_model.specs.declared.program.Universe.TheVariants.{Unlabelled}
 use Rattle.luo_source.specs.declared.names.Name.{Name}
-use Rattle.luo_source.specs.declared.types.TypeExpr.{TypeExpr}
-use Rattle.luo_source.specs.declared.types.TypeExpr.TheVariants as expr
-use Rattle.luo_source.specs.declared.types.TypeDef.{TypeDef}
+use Rattle.luo_source.specs.Plain.Types.{TypeExpr, TypeDef}
+use Rattle.luo_source.specs.Plain.Types as expr
 use Rattle.luo_source.specs.declared.types.MeasureDef.{MeasureDef}
-use Rattle.luo_source.specs.declared.values.SourceValue.TheVariants as made
-use Rattle.luo_source.specs.declared.statements.Stmt.{Stmt}
-use Rattle.luo_source.specs.declared.statements.Stmt.TheVariants as stmt
-use Rattle.luo_source.specs.declared.source.ProcBody.TheVariants.{Statements, Value}
-use Rattle.luo_source.specs.declared.source.ProcDef.{ProcDef}
-use Rattle.luo_source.specs.declared.source.Source.{Source}
+use Rattle.luo_source.specs.Plain.Values as made
+use Rattle.luo_source.specs.Plain.Statements.{Stmts, no_stmts, a_stmt}
+use Rattle.luo_source.specs.Plain.Statements as stmt
+use Rattle.luo_source.specs.Plain.Source.{Statements, Value, ProcDef, Source}
 
 -- names of one letter, by their tokens
 abbrev pub a_at : ℕ → Name
@@ -44,7 +41,7 @@ abbrev pub point_at : ℕ → TypeExpr
 point_at at = expr.Atom 1 (at + 2) at
 
 -- a procedure with statements
-abbrev pub runs : Name → Name → Name → List Stmt → ProcDef
+abbrev pub runs : Name → Name → Name → Stmts → ProcDef
 runs name param type stmts =
     record { name = name; param = param; on = type; body = Statements stmts }
 
@@ -74,7 +71,7 @@ twice =
 abbrev pub unbound : Source
 unbound =
     unlabelled (defines (z_at 1) (point_at 3) ∷ []) []
-    (runs (p_at 9) (x_at 11) (z_at 13) (stmt.Call (p_at 17) (u_at 19) ∷ []) ∷ []) (p_at 24 ∷ [])
+    (runs (p_at 9) (x_at 11) (z_at 13) (a_stmt (stmt.Call (p_at 17) (u_at 19)) no_stmts) ∷ []) (p_at 24 ∷ [])
 
 -- type a, b = atom(1); type z = b;
 abbrev pub copied : Source
@@ -88,7 +85,8 @@ abbrev pub called : Source
 called =
     unlabelled (defines (z_at 1) (point_at 3) ∷ []) (record { names = m_at 9 ∷ []; value = 3 } ∷ [])
     (runs (p_at 14) (x_at 16) (z_at 18)
-    (stmt.Charge (m_at 22) ∷ stmt.Call (u_at 24) (x_at 26) ∷ stmt.Charge (m_at 29) ∷ [])
+    (a_stmt (stmt.Charge (m_at 22))
+    (a_stmt (stmt.Call (u_at 24) (x_at 26)) (a_stmt (stmt.Charge (m_at 29)) no_stmts)))
     ∷ record {
       name = u_at 33;
       param = x_at 35;

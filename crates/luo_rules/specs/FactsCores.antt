@@ -6,7 +6,7 @@ use Rattle.luo_model.specs.declared.program.Kind.TheVariants.{Set, Cycle}
 use Rattle.luo_model.specs.declared.program.Shape.TheVariants as shape
 use Rattle.luo_model.specs.Program.{Program, Does, no_items, item, Call, Case, no_arms, arm, Given, Made, Atom, Tuple, Branch, Chosen, no_values, value, no_value_arms, value_arm}
 use Rattle.luo_model.specs.Programs.{named, alone, node, definition, procedure, site, only, binary, permutations, partitions, hierarchies, rooted}
-use Rattle.luo_source.specs.declared.source.Source.{Source}
+use Rattle.luo_source.specs.Plain.Source.{Source}
 use Rattle.luo_rules.specs.Sources.{binary_source, permutations_source, partitions_source, hierarchies_source, rooted_source, few_cycles, nested, copying}
 use Rattle.luo_rules.specs.Whole.{breaches, core}
 

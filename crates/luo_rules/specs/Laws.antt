@@ -2,7 +2,7 @@
 use Rattle.std.specs.Prelude.{◌≡◌, ◌↔◌, ℕ, List, [], ◌≤◌, Some}
 use Rattle.luo_model.specs.Program.{Program}
 use Rattle.luo_model.specs.Invariant.{IsProgram}
-use Rattle.luo_source.specs.declared.source.Source.{Source}
+use Rattle.luo_source.specs.Plain.Source.{Source}
 use Rattle.luo_rules.specs.declared.error.CheckError.{CheckError}
 use Rattle.luo_rules.specs.declared.error.CheckError.TheVariants.{NoMemory}
 use Rattle.luo_rules.specs.Checks.{IsChecked, IsUnchecked, IsSource, BreaksFirst}

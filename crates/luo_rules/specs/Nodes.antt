@@ -7,11 +7,8 @@ use Rattle.luo_model.specs.declared.program.Node.{Node}
 use Rattle.luo_model.specs.declared.program.Shape.TheVariants as shape
 use Rattle.luo_model.specs.Invariant.{bare}
 use Rattle.luo_source.specs.declared.names.Name.{Name}
-use Rattle.luo_source.specs.declared.types.TypeExpr.{TypeExpr, Named, Epsilon, Atom, Union', Product', Coll', Row_of-TypeExpr, end_of-TypeExpr, more_of-TypeExpr}
-use Rattle.luo_source.specs.declared.source.ProcBody.{ProcBody}
-use Rattle.luo_source.specs.declared.source.ProcBody.TheVariants.{Statements, Value}
-use Rattle.luo_source.specs.declared.source.ProcDef.{ProcDef}
-use Rattle.luo_source.specs.declared.source.Source.{Source}
+use Rattle.luo_source.specs.Plain.Types.{TypeExpr, Named, Epsilon, Atom, Union, Product, Coll, TypeExprs, no_exprs, an_expr}
+use Rattle.luo_source.specs.Plain.Source.{ProcBody, Statements, Value, ProcDef, Source}
 use Rattle.luo_rules.specs.declared.names.Meaning.{Meaning}
 use Rattle.luo_rules.specs.declared.setting.Setting.{Setting}
 use Rattle.luo_rules.specs.declared.setting.Signature.{Signature}
@@ -42,14 +39,9 @@ module _ (names : List (List ℕ × Meaning)) (defs : List Definition) where
   part_at at _ = bare at.node
 
   -- the parts that stand for type expressions, one behind the other
-  abbrev pub parts_at : Spot → {n : _} → Row_of-TypeExpr n → List Part
-  parts_at at end_of-TypeExpr = []
-  parts_at at (more_of-TypeExpr e rest) = part_at at e ∷ parts_at (behind at (own_nodes e)) rest
-
-  -- the part that stands for what a box holds
-  abbrev pub boxed_part_at : Spot → {n : _} → Row_of-TypeExpr n → Part
-  boxed_part_at at end_of-TypeExpr = bare 0
-  boxed_part_at at (more_of-TypeExpr e rest) = part_at at e
+  abbrev pub parts_at : Spot → TypeExprs → List Part
+  parts_at at no_exprs = []
+  parts_at at (an_expr e rest) = part_at at e ∷ parts_at (behind at (own_nodes e)) rest
 
   abbrev mutual
     -- the nodes of a type expression of definition `owner`: a construct stands before those inside
@@ -60,29 +52,29 @@ module _ (names : List (List ℕ × Meaning)) (defs : List Definition) where
         record { shape = shape.Atom 0; owner = owner; place = at.place } ∷ []
     nodes_at owner at (Atom weight weight_at token) =
         record { shape = shape.Atom weight; owner = owner; place = at.place } ∷ []
-    nodes_at owner at (Union' size parts) =
+    nodes_at owner at (Union parts) =
         record {
           shape = shape.Union (parts_at (behind at 1) parts);
           owner = owner;
           place = at.place;
         } ∷ all_nodes_at owner (behind at 1) parts
-    nodes_at owner at (Product' size parts token) =
+    nodes_at owner at (Product parts token) =
         record {
           shape = shape.Product (parts_at (behind at 1) parts);
           owner = owner;
           place = at.place;
         } ∷ all_nodes_at owner (behind at 1) parts
-    nodes_at owner at (Coll' kind size part bound token) =
+    nodes_at owner at (Coll kind part bound token) =
         record {
-          shape = shape.Coll kind (boxed_part_at (behind at 1) part) (low_of kind bound)
+          shape = shape.Coll kind (part_at (behind at 1) part) (low_of kind bound)
               (high_of bound);
           owner = owner;
           place = at.place;
-        } ∷ all_nodes_at owner (behind at 1) part
+        } ∷ nodes_at owner (behind at 1) part
 
-    pub all_nodes_at : ℕ → Spot → {n : _} → Row_of-TypeExpr n → List Node
-    all_nodes_at owner at end_of-TypeExpr = []
-    all_nodes_at owner at (more_of-TypeExpr e rest) =
+    pub all_nodes_at : ℕ → Spot → TypeExprs → List Node
+    all_nodes_at owner at no_exprs = []
+    all_nodes_at owner at (an_expr e rest) =
         nodes_at owner at e ++ all_nodes_at owner (behind at (own_nodes e)) rest
 
   -- the spot of a definition's first node

@@ -4,13 +4,12 @@ use Rattle.luo_model.specs.declared.program.Universe.TheVariants.{Unlabelled, La
 use Rattle.luo_model.specs.declared.program.Kind.TheVariants.{Sequence, Set, Cycle, Multiset}
 use Rattle.luo_source.specs.declared.names.Name.{Name}
 use Rattle.luo_source.specs.declared.types.Range.TheVariants.{Exactly, AtMost, AtLeast}
-use Rattle.luo_source.specs.declared.types.TypeExpr.{Named, Epsilon, Atom, Union', Product', Coll', end_of-TypeExpr, more_of-TypeExpr}
+use Rattle.luo_source.specs.Plain.Types.{Named, Epsilon, Atom, Union, Product, Coll, no_exprs, an_expr}
 use Rattle.luo_source.specs.declared.statements.Pattern.TheVariants as pattern
-use Rattle.luo_source.specs.declared.statements.Stmt.{Skip, Charge, Call, Block', Case', Forall', end_of-Stmt, more_of-Stmt, end_of-SourceArm, more_of-SourceArm}
-use Rattle.luo_source.specs.declared.values.SourceValue.{end_of-SourceValue, more_of-SourceValue, end_of-SourceValueArm, more_of-SourceValueArm}
-use Rattle.luo_source.specs.declared.values.SourceValue as made
-use Rattle.luo_source.specs.declared.source.ProcBody.TheVariants.{Statements, Value}
-use Rattle.luo_source.specs.declared.source.Source.{Source}
+use Rattle.luo_source.specs.Plain.Statements.{Skip, Charge, Call, Block, Case, Forall, no_stmts, a_stmt, no_source_arms, a_source_arm}
+use Rattle.luo_source.specs.Plain.Values.{no_source_values, a_source_value, no_source_value_arms, a_source_value_arm}
+use Rattle.luo_source.specs.Plain.Values as made
+use Rattle.luo_source.specs.Plain.Source.{Statements, Value, Source}
 
 -- a name at its token
 abbrev pub name : List ℕ → ℕ → Name
@@ -29,13 +28,11 @@ binary_source = record {
       ∷ record {
         names = (name (codes "tree") 14) ∷ [];
         body =
-            Union' (tt ∷ tt ∷ [])
-            (more_of-TypeExpr (Named (name (codes "leaf") 16))
-            (more_of-TypeExpr
-            (Product' (tt ∷ tt ∷ tt ∷ [])
-            (more_of-TypeExpr (Named (name (codes "node") 20))
-            (more_of-TypeExpr (Named (name (codes "tree") 22))
-            (more_of-TypeExpr (Named (name (codes "tree") 24)) end_of-TypeExpr))) 18) end_of-TypeExpr));
+            Union (an_expr (Named (name (codes "leaf") 16))
+            (an_expr
+            (Product (an_expr (Named (name (codes "node") 20))
+            (an_expr (Named (name (codes "tree") 22))
+            (an_expr (Named (name (codes "tree") 24)) no_exprs))) 18) no_exprs));
       }
       ∷ [];
   measures = record { names = (name (codes "step") 28) ∷ []; value = 1 } ∷ [];
@@ -45,35 +42,29 @@ binary_source = record {
         param = name (codes "t") 35;
         on = name (codes "tree") 37;
         body =
-            Statements ((Case' (name (codes "t") 42) (tt ∷ tt ∷ [])
-            (more_of-SourceArm (pattern.Named (name (codes "leaf") 44)) Skip
-            (more_of-SourceArm
+            Statements (a_stmt (Case (name (codes "t") 42) (a_source_arm (pattern.Named (name (codes "leaf") 44)) Skip
+            (a_source_arm
             (pattern.Parts
             ((name (codes "n") 49) ∷ (name (codes "l") 51) ∷ (name (codes "r") 53) ∷ []) 48)
-            (Block' (tt ∷ tt ∷ tt ∷ [])
-            (more_of-Stmt (Charge (name (codes "step") 57))
-            (more_of-Stmt (Call (name (codes "size") 59) (name (codes "l") 61))
-            (more_of-Stmt
-            (Call (name (codes "size") 64) (name (codes "r") 66)) end_of-Stmt)))) end_of-SourceArm)))
-            ∷ []);
+            (Block (a_stmt (Charge (name (codes "step") 57))
+            (a_stmt (Call (name (codes "size") 59) (name (codes "l") 61))
+            (a_stmt
+            (Call (name (codes "size") 64) (name (codes "r") 66)) no_stmts)))) no_source_arms))) no_stmts);
       } ∷ record {
         name = name (codes "path") 73;
         param = name (codes "t") 75;
         on = name
             (codes "tree") 77;
         body =
-            Statements ((Case' (name (codes "t") 82) (tt ∷ tt ∷ [])
-            (more_of-SourceArm (pattern.Named (name (codes "leaf") 84)) Skip
-            (more_of-SourceArm
+            Statements (a_stmt (Case (name (codes "t") 82) (a_source_arm (pattern.Named (name (codes "leaf") 84)) Skip
+            (a_source_arm
             (pattern.Parts
             ((name (codes "n") 89) ∷ (name (codes "l") 91) ∷ (name (codes "r") 93) ∷ []) 88)
-            (Block' (tt ∷ tt ∷ tt ∷ tt ∷ [])
-            (more_of-Stmt (Call (name (codes "size") 97) (name (codes "l") 99))
-            (more_of-Stmt (Call (name (codes "size") 102) (name (codes "r") 104))
-            (more_of-Stmt (Call (name (codes "path") 107) (name (codes "l") 109))
-            (more_of-Stmt
-            (Call (name (codes "path") 112) (name (codes "r") 114)) end_of-Stmt))))) end_of-SourceArm)))
-            ∷ []);
+            (Block (a_stmt (Call (name (codes "size") 97) (name (codes "l") 99))
+            (a_stmt (Call (name (codes "size") 102) (name (codes "r") 104))
+            (a_stmt (Call (name (codes "path") 107) (name (codes "l") 109))
+            (a_stmt
+            (Call (name (codes "path") 112) (name (codes "r") 114)) no_stmts))))) no_source_arms))) no_stmts);
       } ∷ [];
   analyses = (name (codes "path") 121) ∷ [];
 }
@@ -88,12 +79,12 @@ permutations_source = record {
       ∷ record {
         names = (name (codes "cyc") 11) ∷ [];
         body =
-            Coll' Cycle _ (more_of-TypeExpr (Named (name (codes "point") 15)) end_of-TypeExpr) None 13;
+            Coll Cycle (Named (name (codes "point") 15)) None 13;
       }
       ∷ record {
         names = (name (codes "perm") 19) ∷ [];
         body =
-            Coll' Set _ (more_of-TypeExpr (Named (name (codes "cyc") 23)) end_of-TypeExpr) None 21;
+            Coll Set (Named (name (codes "cyc") 23)) None 21;
       } ∷ [];
   measures = record { names = (name (codes "one") 27) ∷ []; value = 1 } ∷ [];
   procs =
@@ -102,8 +93,7 @@ permutations_source = record {
         param = name (codes "p") 34;
         on = name (codes "perm") 36;
         body =
-            Statements ((Forall' (name (codes "c") 41) (name (codes "p") 43) _
-            (more_of-Stmt (Charge (name (codes "one") 45)) end_of-Stmt)) ∷ []);
+            Statements (a_stmt (Forall (name (codes "c") 41) (name (codes "p") 43) (Charge (name (codes "one") 45))) no_stmts);
       } ∷ [];
   analyses = (name (codes "cycles") 49) ∷ [];
 }
@@ -118,13 +108,13 @@ partitions_source = record {
       ∷ record {
         names = (name (codes "part") 9) ∷ [];
         body =
-            Coll' Sequence _ (more_of-TypeExpr (Named (name (codes "unit") 13)) end_of-TypeExpr)
+            Coll Sequence (Named (name (codes "unit") 13))
             (Some (record { range = AtLeast 1; at = 15 })) 11;
       }
       ∷ record {
         names = (name (codes "partition") 21) ∷ [];
         body =
-            Coll' Multiset _ (more_of-TypeExpr (Named (name (codes "part") 25)) end_of-TypeExpr) None 23;
+            Coll Multiset (Named (name (codes "part") 25)) None 23;
       }
       ∷ [];
   measures = record { names = (name (codes "one") 29) ∷ []; value = 1 } ∷ [];
@@ -134,8 +124,7 @@ partitions_source = record {
         param = name (codes "p") 36;
         on = name (codes "partition") 38;
         body =
-            Statements ((Forall' (name (codes "x") 43) (name (codes "p") 45) _
-            (more_of-Stmt (Charge (name (codes "one") 47)) end_of-Stmt)) ∷ []);
+            Statements (a_stmt (Forall (name (codes "x") 43) (name (codes "p") 45) (Charge (name (codes "one") 47))) no_stmts);
       } ∷ [];
   analyses = (name (codes "parts") 51) ∷ [];
 }
@@ -151,11 +140,10 @@ hierarchies_source = record {
       ∷ record {
         names = (name (codes "h") 9) ∷ [];
         body =
-            Union' (tt ∷ tt ∷ [])
-            (more_of-TypeExpr (Named (name (codes "leaf") 11))
-            (more_of-TypeExpr
-            (Coll' Multiset _ (more_of-TypeExpr (Named (name (codes "h") 15)) end_of-TypeExpr)
-            (Some (record { range = AtLeast 2; at = 17 })) 13) end_of-TypeExpr));
+            Union (an_expr (Named (name (codes "leaf") 11))
+            (an_expr
+            (Coll Multiset (Named (name (codes "h") 15))
+            (Some (record { range = AtLeast 2; at = 17 })) 13) no_exprs));
       } ∷ [];
   measures = record { names = (name (codes "one") 23) ∷ []; value = 1 } ∷ [];
   procs =
@@ -164,15 +152,11 @@ hierarchies_source = record {
         param = name (codes "t") 30;
         on = name (codes "h") 32;
         body =
-            Statements ((Case' (name (codes "t") 37) (tt ∷ tt ∷ [])
-            (more_of-SourceArm (pattern.Named (name (codes "leaf") 39)) (Charge (name (codes "one") 41))
-            (more_of-SourceArm (pattern.AnyWhole (name (codes "s") 45) 43)
-            (Block' (tt ∷ [])
-            (more_of-Stmt
-            (Forall' (name (codes "u") 49) (name (codes "s") 51) _
-            (more_of-Stmt
-            (Call (name (codes "leaves") 53)
-            (name (codes "u") 55)) end_of-Stmt)) end_of-Stmt)) end_of-SourceArm))) ∷ []);
+            Statements (a_stmt (Case (name (codes "t") 37) (a_source_arm (pattern.Named (name (codes "leaf") 39)) (Charge (name (codes "one") 41))
+            (a_source_arm (pattern.AnyWhole (name (codes "s") 45) 43)
+            (Block (a_stmt
+            (Forall (name (codes "u") 49) (name (codes "s") 51) (Call (name (codes "leaves") 53)
+            (name (codes "u") 55))) no_stmts)) no_source_arms))) no_stmts);
       } ∷ [];
   analyses = (name (codes "leaves") 62) ∷ [];
 }
@@ -188,12 +172,9 @@ rooted_source = record {
       ∷ record {
         names = (name (codes "tree") 11) ∷ [];
         body =
-            Product' (tt ∷ tt ∷ [])
-            (more_of-TypeExpr (Named (name (codes "node") 15))
-            (more_of-TypeExpr
-            (Coll' Set _
-            (more_of-TypeExpr
-            (Named (name (codes "tree") 19)) end_of-TypeExpr) None 17) end_of-TypeExpr)) 13;
+            Product (an_expr (Named (name (codes "node") 15))
+            (an_expr
+            (Coll Set (Named (name (codes "tree") 19)) None 17) no_exprs)) 13;
       } ∷ [];
   measures = record { names = (name (codes "one") 24) ∷ []; value = 1 } ∷ [];
   procs =
@@ -202,15 +183,10 @@ rooted_source = record {
         param = name (codes "t") 31;
         on = name (codes "tree") 33;
         body =
-            Statements ((Charge (name (codes "one") 37))
-            ∷ (Case' (name (codes "t") 40) (tt ∷ [])
-            (more_of-SourceArm (pattern.Parts ((name (codes "n") 43) ∷ (name (codes "s") 45) ∷ []) 42)
-            (Block' (tt ∷ [])
-            (more_of-Stmt
-            (Forall' (name (codes "u") 50) (name (codes "s") 52) _
-            (more_of-Stmt
-            (Call (name (codes "size") 54)
-            (name (codes "u") 56)) end_of-Stmt)) end_of-Stmt)) end_of-SourceArm)) ∷ []);
+            Statements (a_stmt (Charge (name (codes "one") 37)) (a_stmt (Case (name (codes "t") 40) (a_source_arm (pattern.Parts ((name (codes "n") 43) ∷ (name (codes "s") 45) ∷ []) 42)
+            (Block (a_stmt
+            (Forall (name (codes "u") 50) (name (codes "s") 52) (Call (name (codes "size") 54)
+            (name (codes "u") 56))) no_stmts)) no_source_arms)) no_stmts));
       } ∷ [];
   analyses = (name (codes "size") 63) ∷ [];
 }
@@ -225,13 +201,13 @@ few_cycles = record {
       ∷ record {
         names = (name (codes "cyc") 11) ∷ [];
         body =
-            Coll' Cycle _ (more_of-TypeExpr (Named (name (codes "point") 15)) end_of-TypeExpr)
+            Coll Cycle (Named (name (codes "point") 15))
             (Some (record { range = AtMost 3; at = 17 })) 13;
       }
       ∷ record {
         names = (name (codes "perm") 23) ∷ [];
         body =
-            Coll' Set _ (more_of-TypeExpr (Named (name (codes "cyc") 27)) end_of-TypeExpr)
+            Coll Set (Named (name (codes "cyc") 27))
             (Some (record { range = Exactly 2; at = 29 })) 25;
       } ∷ [];
   measures = record { names = (name (codes "one") 35) ∷ []; value = 1 } ∷ [];
@@ -241,8 +217,7 @@ few_cycles = record {
         param = name (codes "p") 42;
         on = name (codes "perm") 44;
         body =
-            Statements ((Forall' (name (codes "c") 49) (name (codes "p") 51) _
-            (more_of-Stmt (Charge (name (codes "one") 53)) end_of-Stmt)) ∷ []);
+            Statements (a_stmt (Forall (name (codes "c") 49) (name (codes "p") 51) (Charge (name (codes "one") 53))) no_stmts);
       } ∷ [];
   analyses = (name (codes "cycles") 57) ∷ [];
 }
@@ -258,9 +233,8 @@ nested = record {
       ∷ record {
         names = (name (codes "pair") 9) ∷ [];
         body =
-            Product' (tt ∷ tt ∷ [])
-            (more_of-TypeExpr (Named (name (codes "z") 13))
-            (more_of-TypeExpr (Named (name (codes "z") 15)) end_of-TypeExpr)) 11;
+            Product (an_expr (Named (name (codes "z") 13))
+            (an_expr (Named (name (codes "z") 15)) no_exprs)) 11;
       } ∷ [];
   measures =
       record { names = (name (codes "one") 19) ∷ []; value = 1 }
@@ -271,22 +245,17 @@ nested = record {
         param = name (codes "x") 31;
         on = name (codes "pair") 33;
         body =
-            Statements ((Charge (name (codes "one") 37))
-            ∷ (Block' (tt ∷ tt ∷ [])
-            (more_of-Stmt
-            (Case' (name (codes "x") 41) (tt ∷ [])
-            (more_of-SourceArm (pattern.Parts ((name (codes "a") 44) ∷ (name (codes "b") 46) ∷ []) 43)
-            (Block' (tt ∷ tt ∷ [])
-            (more_of-Stmt (Call (name (codes "q") 50) (name (codes "b") 52))
-            (more_of-Stmt (Charge (name (codes "two") 55)) end_of-Stmt))) end_of-SourceArm))
-            (more_of-Stmt (Charge (name (codes "two") 59)) end_of-Stmt))) ∷ (Block' ([]) end_of-Stmt)
-            ∷ []);
+            Statements (a_stmt (Charge (name (codes "one") 37)) (a_stmt (Block (a_stmt
+            (Case (name (codes "x") 41) (a_source_arm (pattern.Parts ((name (codes "a") 44) ∷ (name (codes "b") 46) ∷ []) 43)
+            (Block (a_stmt (Call (name (codes "q") 50) (name (codes "b") 52))
+            (a_stmt (Charge (name (codes "two") 55)) no_stmts))) no_source_arms))
+            (a_stmt (Charge (name (codes "two") 59)) no_stmts))) (a_stmt (Block no_stmts) no_stmts)));
       } ∷ record {
         name = name (codes "q") 67;
         param = name (codes "y") 69;
         on = name
             (codes "z") 71;
-        body = Statements ((Charge (name (codes "one") 75)) ∷ []);
+        body = Statements (a_stmt (Charge (name (codes "one") 75)) no_stmts);
       } ∷ [];
   analyses = (name (codes "q") 79) ∷ (name (codes "p") 82) ∷ [];
 }
@@ -302,16 +271,14 @@ copying = record {
       ∷ record {
         names = (name (codes "bit") 11) ∷ [];
         body =
-            Union' (tt ∷ tt ∷ [])
-            (more_of-TypeExpr (Named (name (codes "zero") 13))
-            (more_of-TypeExpr (Named (name (codes "one") 15)) end_of-TypeExpr));
+            Union (an_expr (Named (name (codes "zero") 13))
+            (an_expr (Named (name (codes "one") 15)) no_exprs));
       }
       ∷ record {
         names = (name (codes "pair") 18) ∷ [];
         body =
-            Product' (tt ∷ tt ∷ [])
-            (more_of-TypeExpr (Named (name (codes "bit") 22))
-            (more_of-TypeExpr (Named (name (codes "bit") 24)) end_of-TypeExpr)) 20;
+            Product (an_expr (Named (name (codes "bit") 22))
+            (an_expr (Named (name (codes "bit") 24)) no_exprs)) 20;
       } ∷ [];
   measures = record { names = (name (codes "step") 28) ∷ []; value = 3 } ∷ [];
   procs =
@@ -321,13 +288,10 @@ copying = record {
         on = name (codes "bit") 37;
         body =
             Value 39 (name (codes "bit") 40)
-            (made.Case' (name (codes "b") 43) (tt ∷ tt ∷ [])
-            (more_of-SourceValueArm (pattern.Named (name (codes "zero") 45))
-            (made.Branch' 2 47 _
-            (more_of-SourceValue (made.Atom (Some (name (codes "step") 49)) 50) end_of-SourceValue))
-            (more_of-SourceValueArm (pattern.AnyWhole (name (codes "o") 54) 52)
-            (made.Branch' 1 56 _
-            (more_of-SourceValue (made.Atom None 58) end_of-SourceValue)) end_of-SourceValueArm)));
+            (made.Case (name (codes "b") 43) (a_source_value_arm (pattern.Named (name (codes "zero") 45))
+            (made.Branch 2 47 (made.Atom (Some (name (codes "step") 49)) 50))
+            (a_source_value_arm (pattern.AnyWhole (name (codes "o") 54) 52)
+            (made.Branch 1 56 (made.Atom None 58)) no_source_value_arms)));
       }
       ∷ record {
         name = name (codes "both") 62;
@@ -335,13 +299,11 @@ copying = record {
         on = name (codes "pair") 66;
         body =
             Value 68 (name (codes "pair") 69)
-            (made.Case' (name (codes "p") 72) (tt ∷ [])
-            (more_of-SourceValueArm
+            (made.Case (name (codes "p") 72) (a_source_value_arm
             (pattern.Parts ((name (codes "a") 75) ∷ (name (codes "b") 77) ∷ []) 74)
-            (made.Tuple' (tt ∷ tt ∷ [])
-            (more_of-SourceValue (made.Made (name (codes "turn") 82) (name (codes "b") 84))
-            (more_of-SourceValue
-            (made.Given (name (codes "a") 87)) end_of-SourceValue)) 80) end_of-SourceValueArm));
+            (made.Tuple (a_source_value (made.Made (name (codes "turn") 82) (name (codes "b") 84))
+            (a_source_value
+            (made.Given (name (codes "a") 87)) no_source_values)) 80) no_source_value_arms));
       } ∷ [];
   analyses = (name (codes "both") 92) ∷ [];
 }

@@ -5,7 +5,7 @@ use Rattle.luo_model.specs.declared.program.Shape.{Shape}
 use Rattle.luo_model.specs.declared.program.Shape.TheVariants as shape
 use Rattle.luo_model.specs.Scopes.Stands.{Stand, component, no_part}
 use Rattle.luo_source.specs.declared.names.Name.{Name}
-use Rattle.luo_source.specs.declared.statements.Stmt.{Stmt, Skip, Charge, Call, Block', Case', Forall', Row_of-Stmt, end_of-Stmt, more_of-Stmt, Row_of-SourceArm, end_of-SourceArm, more_of-SourceArm}
+use Rattle.luo_source.specs.Plain.Statements.{Stmt, Skip, Charge, Call, Block, Case, Forall, Stmts, no_stmts, a_stmt, SourceArms, no_source_arms, a_source_arm}
 use Rattle.luo_rules.specs.declared.rule.Breach.{Breach}
 use Rattle.luo_rules.specs.declared.rule.Rule.TheVariants.{Y12, Y13}
 use Rattle.luo_rules.specs.declared.setting.Setting.{Setting}
@@ -15,9 +15,9 @@ use Rattle.luo_rules.specs.Meanings.{measure_use, procedure_use}
 use Rattle.luo_rules.specs.Settings.{meant, signature_meant, shape_at, found, argument_breaches, case_stands}
 use Rattle.luo_rules.specs.Patterns.{bound, arm_breaches, case_breaches}
 
-abbrev pub count_arms : {n : _} → Row_of-SourceArm n → ℕ
-count_arms end_of-SourceArm = 0
-count_arms (more_of-SourceArm pattern body rest) = suc (count_arms rest)
+abbrev pub count_arms : SourceArms → ℕ
+count_arms no_source_arms = 0
+count_arms (a_source_arm pattern body rest) = suc (count_arms rest)
 
 -- the part of what a walk over a variable binds
 abbrev pub walked : Setting → Option (ℕ × Part) → Part
@@ -42,24 +42,24 @@ abbrev mutual
   stmt_breaches s scope (Call callee arg) =
       procedure_use (meant s callee) callee
       ++ argument_breaches (found scope arg) (signature_meant s (meant s callee)).on arg callee
-  stmt_breaches s scope (Block' size stmts) = stmts_breaches s scope stmts
-  stmt_breaches s scope (Case' var size arms) =
+  stmt_breaches s scope (Block stmts) = stmts_breaches s scope stmts
+  stmt_breaches s scope (Case var arms) =
       case_breaches s (found scope var) var (count_arms arms)
       (arms_breaches s (case_stands s (found scope var)) var arms)
-  stmt_breaches s scope (Forall' var source size body) =
+  stmt_breaches s scope (Forall var source body) =
       walk_breaches s (found scope source) source
-      (stmts_breaches s
+      (stmt_breaches s
       (record { name = var.text; part = walked s (found scope source) } ∷ []) body)
 
-  pub stmts_breaches : Setting → List Variable → {n : _} → Row_of-Stmt n → List Breach
-  stmts_breaches s scope end_of-Stmt = []
-  stmts_breaches s scope (more_of-Stmt stmt rest) =
+  pub stmts_breaches : Setting → List Variable → Stmts → List Breach
+  stmts_breaches s scope no_stmts = []
+  stmts_breaches s scope (a_stmt stmt rest) =
       stmt_breaches s scope stmt ++ stmts_breaches s scope rest
 
   -- those of arms that stand for these, in a case on this variable
-  pub arms_breaches : Setting → List Stand → Name → {n : _} → Row_of-SourceArm n → List Breach
-  arms_breaches s stands var end_of-SourceArm = []
-  arms_breaches s [] var (more_of-SourceArm pattern body rest) = []
-  arms_breaches s (stand ∷ stands) var (more_of-SourceArm pattern body rest) =
+  pub arms_breaches : Setting → List Stand → Name → SourceArms → List Breach
+  arms_breaches s stands var no_source_arms = []
+  arms_breaches s [] var (a_source_arm pattern body rest) = []
+  arms_breaches s (stand ∷ stands) var (a_source_arm pattern body rest) =
       arm_breaches s stand var pattern (stmt_breaches s (bound s stand pattern) body)
       ++ arms_breaches s stands var rest

@@ -9,9 +9,8 @@ use Rattle.luo_source.specs.declared.names.Name.{Name}
 use Rattle.luo_source.specs.declared.types.Range.{Range}
 use Rattle.luo_source.specs.declared.types.Range.TheVariants.{Exactly, AtMost, AtLeast, Between}
 use Rattle.luo_source.specs.declared.types.Bound.{Bound}
-use Rattle.luo_source.specs.declared.types.TypeExpr.{TypeExpr, Named, Epsilon, Atom, Union', Product', Coll', Row_of-TypeExpr, end_of-TypeExpr, more_of-TypeExpr}
-use Rattle.luo_source.specs.declared.types.TypeDef.{TypeDef}
-use Rattle.luo_source.specs.declared.source.Source.{Source}
+use Rattle.luo_source.specs.Plain.Types.{TypeExpr, Named, Epsilon, Atom, Union, Product, Coll, TypeExprs, no_exprs, an_expr, TypeDef}
+use Rattle.luo_source.specs.Plain.Source.{Source}
 use Rattle.luo_rules.specs.declared.names.Meaning.{Meaning}
 use Rattle.luo_rules.specs.declared.names.Meaning.TheVariants as mean
 use Rattle.luo_rules.specs.declared.rule.Breach.{Breach}
@@ -100,16 +99,16 @@ abbrev mutual
   expr_breaches universe names (Epsilon at) = []
   expr_breaches universe names (Atom weight weight_at at) =
       if nat_le weight (greatest_weight universe) then [] else broken Y8 weight_at (decimal weight)
-  expr_breaches universe names (Union' size parts) = exprs_breaches universe names parts
-  expr_breaches universe names (Product' size parts at) = exprs_breaches universe names parts
-  expr_breaches universe names (Coll' kind size part bound at) =
-      kind_breaches universe kind at ++ exprs_breaches universe names part
+  expr_breaches universe names (Union parts) = exprs_breaches universe names parts
+  expr_breaches universe names (Product parts at) = exprs_breaches universe names parts
+  expr_breaches universe names (Coll kind part bound at) =
+      kind_breaches universe kind at ++ expr_breaches universe names part
       ++ bound_breaches kind bound
 
-  pub exprs_breaches : Universe → List (List ℕ × Meaning) → {n : _} → Row_of-TypeExpr n
+  pub exprs_breaches : Universe → List (List ℕ × Meaning) → TypeExprs
       → List Breach
-  exprs_breaches universe names end_of-TypeExpr = []
-  exprs_breaches universe names (more_of-TypeExpr e rest) =
+  exprs_breaches universe names no_exprs = []
+  exprs_breaches universe names (an_expr e rest) =
       expr_breaches universe names e ++ exprs_breaches universe names rest
 
 -- the first that there is

@@ -1,7 +1,7 @@
 -- The breaches of a value, in text order.
 use Rattle.std.specs.Prelude.{ℕ, zero, suc, List, [], ◌∷◌, ◌++◌, map, Option, Some, None, is_some, Bool, true, false, not, nat_eq, if◌then◌else◌, codes, decimal}
 use Rattle.luo_source.specs.declared.names.Name.{Name}
-use Rattle.luo_source.specs.declared.values.SourceValue.{SourceValue, Given, Made, Atom, Tuple', Branch', Case', Row_of-SourceValue, end_of-SourceValue, more_of-SourceValue, Row_of-SourceValueArm, end_of-SourceValueArm, more_of-SourceValueArm}
+use Rattle.luo_source.specs.Plain.Values.{SourceValue, Given, Made, Atom, Tuple, Branch, Case, SourceValues, no_source_values, a_source_value, SourceValueArms, no_source_value_arms, a_source_value_arm}
 use Rattle.luo_model.specs.declared.program.Part.{Part}
 use Rattle.luo_model.specs.declared.program.Shape.{Shape}
 use Rattle.luo_model.specs.declared.program.Shape.TheVariants as shape
@@ -79,13 +79,13 @@ abbrev pub misplaced : Bool → ℕ → List ℕ → List Breach
 misplaced true token text = []
 misplaced false token text = broken Y15 token text
 
-abbrev pub count_values : {n : _} → Row_of-SourceValue n → ℕ
-count_values end_of-SourceValue = 0
-count_values (more_of-SourceValue v rest) = suc (count_values rest)
+abbrev pub count_values : SourceValues → ℕ
+count_values no_source_values = 0
+count_values (a_source_value v rest) = suc (count_values rest)
 
-abbrev pub count_value_arms : {n : _} → Row_of-SourceValueArm n → ℕ
-count_value_arms end_of-SourceValueArm = 0
-count_value_arms (more_of-SourceValueArm pattern body rest) = suc (count_value_arms rest)
+abbrev pub count_value_arms : SourceValueArms → ℕ
+count_value_arms no_source_value_arms = 0
+count_value_arms (a_source_value_arm pattern body rest) = suc (count_value_arms rest)
 
 abbrev mutual
   -- the breaches of a value in a scope, where a structure of this node is expected
@@ -97,37 +97,29 @@ abbrev mutual
       ++ argument_breaches (found scope arg) (signature_meant s (meant s callee)).on arg callee
   value_breaches s scope expected (Atom charge at) =
       charge_use s charge ++ misplaced (may_stand s expected is_atom) at (codes "atom")
-  value_breaches s scope expected (Tuple' size parts at) =
+  value_breaches s scope expected (Tuple parts at) =
       misplaced (may_stand s expected (has_factors (count_values parts))) at (codes "product")
       ++ values_breaches s scope (part_nodes s expected (count_values parts)) parts
-  value_breaches s scope expected (Branch' number at size inner) =
+  value_breaches s scope expected (Branch number at inner) =
       misplaced (may_stand s expected (has_branch number)) at (decimal number)
-      ++ boxed_value_breaches s scope (inner_node s expected number) inner
-  value_breaches s scope expected (Case' var size arms) =
+      ++ value_breaches s scope (inner_node s expected number) inner
+  value_breaches s scope expected (Case var arms) =
       case_breaches s (found scope var) var (count_value_arms arms)
       (value_arms_breaches s (case_stands s (found scope var)) expected var arms)
 
   -- the breaches of parts, of which these nodes are expected, and nothing of further ones
-  pub values_breaches : Setting → List Variable → List ℕ → {n : _} → Row_of-SourceValue n
+  pub values_breaches : Setting → List Variable → List ℕ → SourceValues
       → List Breach
-  values_breaches s scope nodes end_of-SourceValue = []
-  values_breaches s scope [] (more_of-SourceValue v rest) =
+  values_breaches s scope nodes no_source_values = []
+  values_breaches s scope [] (a_source_value v rest) =
       value_breaches s scope None v ++ values_breaches s scope [] rest
-  values_breaches s scope (node ∷ nodes) (more_of-SourceValue v rest) =
+  values_breaches s scope (node ∷ nodes) (a_source_value v rest) =
       value_breaches s scope (Some node) v ++ values_breaches s scope nodes rest
 
-  -- those of what a box holds
-  pub boxed_value_breaches : Setting → List Variable → Option ℕ → {n : _} → Row_of-SourceValue n
-      → List Breach
-  boxed_value_breaches s scope expected end_of-SourceValue = []
-  boxed_value_breaches s scope expected (more_of-SourceValue v rest) =
-      value_breaches s scope expected v
-
   -- those of arms that stand for these, in a case on this variable
-  pub value_arms_breaches : Setting → List Stand → Option ℕ → Name → {n : _}
-      → Row_of-SourceValueArm n → List Breach
-  value_arms_breaches s stands expected var end_of-SourceValueArm = []
-  value_arms_breaches s [] expected var (more_of-SourceValueArm pattern body rest) = []
-  value_arms_breaches s (stand ∷ stands) expected var (more_of-SourceValueArm pattern body rest) =
+  pub value_arms_breaches : Setting → List Stand → Option ℕ → Name → SourceValueArms → List Breach
+  value_arms_breaches s stands expected var no_source_value_arms = []
+  value_arms_breaches s [] expected var (a_source_value_arm pattern body rest) = []
+  value_arms_breaches s (stand ∷ stands) expected var (a_source_value_arm pattern body rest) =
       arm_breaches s stand var pattern (value_breaches s (bound s stand pattern) expected body)
       ++ value_arms_breaches s stands expected var rest

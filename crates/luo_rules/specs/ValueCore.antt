@@ -1,7 +1,7 @@
 -- The core form of a value.
 use Rattle.std.specs.Prelude.{ℕ, List, [], ◌∷◌, Option, Some, None}
 use Rattle.luo_source.specs.declared.names.Name.{Name}
-use Rattle.luo_source.specs.declared.values.SourceValue.{SourceValue, Given, Made, Atom, Tuple', Branch', Case', Row_of-SourceValue, end_of-SourceValue, more_of-SourceValue, Row_of-SourceValueArm, end_of-SourceValueArm, more_of-SourceValueArm}
+use Rattle.luo_source.specs.Plain.Values.{SourceValue, Given, Made, Atom, Tuple, Branch, Case, SourceValues, no_source_values, a_source_value, SourceValueArms, no_source_value_arms, a_source_value_arm}
 use Rattle.luo_model.specs.declared.program.Shape.{Shape}
 use Rattle.luo_model.specs.declared.program.Shape.TheVariants as shape
 use Rattle.luo_model.specs.Program as plain
@@ -35,30 +35,25 @@ abbrev mutual
       plain.Made (place_of (found scope arg)) (procedure_of (meant s callee))
   value_core s scope expected (Atom charge at) =
       plain.Atom (expected_weight s expected) (charge_of s charge)
-  value_core s scope expected (Tuple' size parts at) =
+  value_core s scope expected (Tuple parts at) =
       plain.Tuple (values_core s scope (part_nodes s expected (count_values parts)) parts)
-  value_core s scope expected (Branch' number at size inner) =
-      plain.Branch number (boxed_value_core s scope (inner_node s expected number) inner)
-  value_core s scope expected (Case' var size arms) =
+  value_core s scope expected (Branch number at inner) =
+      plain.Branch number (value_core s scope (inner_node s expected number) inner)
+  value_core s scope expected (Case var arms) =
       plain.Chosen (place_of (found scope var))
       (value_arms_core s (case_stands s (found scope var)) expected arms)
 
-  pub values_core : Setting → List Variable → List ℕ → {n : _} → Row_of-SourceValue n → plain.Values
-  values_core s scope nodes end_of-SourceValue = plain.no_values
-  values_core s scope [] (more_of-SourceValue v rest) =
+  pub values_core : Setting → List Variable → List ℕ → SourceValues → plain.Values
+  values_core s scope nodes no_source_values = plain.no_values
+  values_core s scope [] (a_source_value v rest) =
       plain.value (value_core s scope None v) (values_core s scope [] rest)
-  values_core s scope (node ∷ nodes) (more_of-SourceValue v rest) =
+  values_core s scope (node ∷ nodes) (a_source_value v rest) =
       plain.value (value_core s scope (Some node) v) (values_core s scope nodes rest)
 
-  pub boxed_value_core : Setting → List Variable → Option ℕ → {n : _} → Row_of-SourceValue n
-      → plain.Value
-  boxed_value_core s scope expected end_of-SourceValue = plain.Tuple plain.no_values
-  boxed_value_core s scope expected (more_of-SourceValue v rest) = value_core s scope expected v
-
-  pub value_arms_core : Setting → List Stand → Option ℕ → {n : _} → Row_of-SourceValueArm n
+  pub value_arms_core : Setting → List Stand → Option ℕ → SourceValueArms
       → plain.ValueArms
-  value_arms_core s stands expected end_of-SourceValueArm = plain.no_value_arms
-  value_arms_core s [] expected (more_of-SourceValueArm pattern body rest) = plain.no_value_arms
-  value_arms_core s (stand ∷ stands) expected (more_of-SourceValueArm pattern body rest) =
+  value_arms_core s stands expected no_source_value_arms = plain.no_value_arms
+  value_arms_core s [] expected (a_source_value_arm pattern body rest) = plain.no_value_arms
+  value_arms_core s (stand ∷ stands) expected (a_source_value_arm pattern body rest) =
       plain.value_arm (bind_of pattern) (value_core s (bound s stand pattern) expected body)
       (value_arms_core s stands expected rest)

@@ -3,15 +3,12 @@ use Rattle.std.specs.Prelude.{◌≡◌, ℕ, suc, ◌+◌, List, [], ◌∷◌,
 use Rattle.luo_model.specs.declared.program.Universe.{Universe}
 use Rattle.luo_model.specs.declared.program.Universe.TheVariants.{Unlabelled, Labelled}
 use Rattle.luo_model.specs.Program as plain
-use Rattle.luo_model.specs.Scopes.ValueBodies.{join_items, value_body, value_sites}
+use Rattle.luo_model.specs.Scopes.ValueBodies.{value_body, value_sites}
 use Rattle.luo_model.specs.Scopes.Walks.{body_walks}
 use Rattle.luo_model.specs.Invariant.{sites_from}
 use Rattle.luo_source.specs.declared.names.Name.{Name}
-use Rattle.luo_source.specs.declared.statements.Stmt.{Stmt}
-use Rattle.luo_source.specs.declared.source.ProcBody.{ProcBody}
-use Rattle.luo_source.specs.declared.source.ProcBody.TheVariants.{Statements, Value}
-use Rattle.luo_source.specs.declared.source.ProcDef.{ProcDef}
-use Rattle.luo_source.specs.declared.source.Source.{Source}
+use Rattle.luo_source.specs.Plain.Statements.{Stmt}
+use Rattle.luo_source.specs.Plain.Source.{ProcBody, Statements, Value, ProcDef, Source}
 use Rattle.luo_rules.specs.declared.names.Meaning.TheVariants as mean
 use Rattle.luo_rules.specs.declared.rule.Breach.{Breach}
 use Rattle.luo_rules.specs.declared.rule.Rule.TheVariants.{Y14}
@@ -25,8 +22,8 @@ use Rattle.luo_rules.specs.ValueCore.{value_core}
 use Rattle.luo_rules.specs.Definitions.{definitions, measures, names_of}
 use Rattle.luo_rules.specs.TypeBreaches.{name_breaches, types_breaches, measures_breaches}
 use Rattle.luo_rules.specs.Nodes.{setting_of}
-use Rattle.luo_rules.specs.StatementBreaches.{stmt_breaches}
-use Rattle.luo_rules.specs.StatementCore.{stmt_own, stmt_sites, stmt_items}
+use Rattle.luo_rules.specs.StatementBreaches.{stmts_breaches}
+use Rattle.luo_rules.specs.StatementCore.{stmts_own, stmts_sites, stmts_items}
 
 -- a procedure with a result in the labelled universe
 abbrev pub result_breaches : Universe → ℕ → Name → List Breach
@@ -42,7 +39,7 @@ parameter s p = record { name = p.param.text; part = part_meant s (meant s p.on)
 abbrev pub body_breaches : Setting → ProcDef → Option ℕ → ProcBody → List Breach
 body_breaches s p None (Statements stmts) = []
 body_breaches s p (Some node) (Statements stmts) =
-    flat_map (stmt_breaches s (parameter s p)) stmts
+    stmts_breaches s (parameter s p) stmts
 body_breaches s p None (Value colon result value) =
     result_breaches s.universe colon p.name ++ type_use (meant s result) result
 body_breaches s p (Some node) (Value colon result value) =
@@ -68,12 +65,6 @@ breaches source =
     or_if_none (procs_breaches (setting_of source) 0 source.procs
     ++ flat_map (λ name. procedure_use (meant (setting_of source) name) name) source.analyses)
 
--- statements one behind the other, with sites from this number on
-abbrev pub items_of : Setting → List Variable → ℕ → List Stmt → plain.Items
-items_of s scope first [] = plain.no_items
-items_of s scope first (stmt ∷ stmts) =
-    join_items (stmt_items s scope first stmt) (items_of s scope (first + stmt_sites stmt) stmts)
-
 -- the value that a procedure with a result makes
 abbrev pub made_value : Setting → ProcDef → ProcBody → Option plain.Value
 made_value s p (Statements stmts) = None
@@ -82,14 +73,13 @@ made_value s p (Value colon result value) =
 
 abbrev pub body_core : Setting → ProcDef → ℕ → ProcBody → plain.Body
 body_core s p first (Statements stmts) =
-    plain.Does (sum_by (stmt_own s) stmts)
-    (items_of s (parameter s p) first stmts)
+    plain.Does (stmts_own s stmts) (stmts_items s (parameter s p) first stmts)
 body_core s p first (Value colon result value) =
     value_body first
     (value_core s (parameter s p) (type_node s result) value)
 
 abbrev pub sites_of : Setting → ProcDef → ProcBody → ℕ
-sites_of s p (Statements stmts) = sum_by stmt_sites stmts
+sites_of s p (Statements stmts) = stmts_sites stmts
 sites_of s p (Value colon result value) =
     value_sites (value_core s (parameter s p) (type_node s result) value)
 
