@@ -28,14 +28,14 @@ use Rattle.luo_rules.specs.Breaches.{broken, broken_at, ◌or_if_none◌}
 use Rattle.luo_rules.specs.Meanings.{meaning, type_use, measure_use, procedure_use}
 use Rattle.luo_rules.specs.Settings.{meant, signature_meant, type_node, shape_at, found, variable_use, argument_breaches, case_stands}
 use Rattle.luo_rules.specs.Patterns.{bound, fits, factor_names, has_factors, is_among, repeated, misfit, pattern_type_use, arm_breaches, case_breaches}
-use Rattle.luo_rules.specs.ValueBreaches.{is_atom, has_branch, may_stand, misplaced, given_breaches, part_nodes, inner_node, count_values, count_value_arms, charge_use, value_breaches, values_breaches, boxed_value_breaches, value_arms_breaches}
+use Rattle.luo_rules.specs.ValueBreaches.{is_atom, has_branch, may_stand, misplaced, given_breaches, part_nodes, inner_node, count_values, count_value_arms, charge_use, value_breaches, values_breaches, value_arms_breaches}
 use Rattle.luo_rules.specs.ValueBreaches as value
 use Rattle.luo_rules.specs.Definitions.{Definition, definitions, measures, names_of}
 use Rattle.luo_rules.specs.TypeBreaches.{name_breaches, kind_breaches, bound_breaches, expr_breaches, exprs_breaches, first_circle, circle_breach, circle_breaches, new_types, types_breaches, measures_breaches}
 use Rattle.luo_rules.specs.StatementBreaches.{count_arms, walked, walk_into, walk_breaches, stmt_breaches, stmts_breaches, arms_breaches}
 use Rattle.luo_rules.specs.Nodes.{setting_of}
 use Rattle.luo_rules.specs.Whole.{parameter, result_breaches, body_breaches, procs_breaches}
-use Rattle.luo_rules.specs.Asked.{Sort, a_type, a_measure, a_procedure, Asked, defines, uses, collects, bounds, weighs, renames, results, reads, hands, cases, walks, gives, matches, repeats, makes, builds, bound_asked, expr_asked, exprs_asked, renames_asked, new_asked, types_asked, measures_asked, type_asked, repeats_asked, arm_asked, arms_inside, case_asked, of_collection, walk_inside, stmt_asked, stmts_asked, arms_asked, charge_asked, value_asked, values_asked, boxed_value_asked, value_arms_asked, body_asked, procs_asked, first_asked, later_asked}
+use Rattle.luo_rules.specs.Asked.{Sort, a_type, a_measure, a_procedure, Asked, defines, uses, collects, bounds, weighs, renames, results, reads, hands, cases, walks, gives, matches, repeats, makes, builds, bound_asked, expr_asked, exprs_asked, renames_asked, new_asked, types_asked, measures_asked, type_asked, repeats_asked, arm_asked, arms_inside, case_asked, of_collection, walk_inside, stmt_asked, stmts_asked, arms_asked, charge_asked, value_asked, values_asked, value_arms_asked, body_asked, procs_asked, first_asked, later_asked}
 
 -- what is spoken of only where there is no breach before
 abbrev pub silent : List Breach → List Breach → List Breach
@@ -109,9 +109,9 @@ module _ (defs : List Definition) (s : Setting) where
     expr_all (Union parts) = exprs_all parts
     expr_all (Product parts at) = exprs_all parts
     expr_all (Coll kind part bound at) =
-        append_assoc (kind_breaches s.universe kind at) (exprs_breaches s.universe s.names part) (bound_breaches kind bound)
+        append_assoc (kind_breaches s.universe kind at) (expr_breaches s.universe s.names part) (bound_breaches kind bound)
         ∙ ap (λ z. kind_breaches s.universe kind at ++ z)
-        (joined defs s (exprs_asked part) (bound_asked kind bound) (exprs_breaches s.universe s.names part) (bound_breaches kind bound) (exprs_all part) (bound_all kind bound))
+        (joined defs s (expr_asked part) (bound_asked kind bound) (expr_breaches s.universe s.names part) (bound_breaches kind bound) (expr_all part) (bound_all kind bound))
 
     exprs_all : (row : TypeExprs) → exprs_breaches s.universe s.names row ≡ all defs s (exprs_asked row)
     exprs_all no_exprs = refl
@@ -222,7 +222,7 @@ module _ (defs : List Definition) (s : Setting) where
         case_all scope var (count_arms arms) (arms_breaches s (case_stands s (found scope var)) var arms) (arms_asked s (case_stands s (found scope var)) var arms) (arms_all (case_stands s (found scope var)) var arms)
     stmt_all scope (Forall var source body) =
         let inner : List Variable = record { name = var.text; part = walked s (found scope source) } ∷ [] in
-        walk_by (found scope source) source (stmts_breaches s inner body) (stmts_asked s inner body) (stmts_all inner body)
+        walk_by (found scope source) source (stmt_breaches s inner body) (stmt_asked s inner body) (stmt_all inner body)
 
     stmts_all : (scope : List Variable) (row : Stmts) → stmts_breaches s scope row ≡ all defs s (stmts_asked s scope row)
     stmts_all scope no_stmts = refl
@@ -259,7 +259,7 @@ module _ (defs : List Definition) (s : Setting) where
     value_all scope expected (made.Tuple parts at) =
         ap (λ z. misplaced (may_stand s expected (has_factors (count_values parts))) at (codes "product") ++ z) (values_all scope (part_nodes s expected (count_values parts)) parts)
     value_all scope expected (made.Branch number at inner) =
-        ap (λ z. misplaced (may_stand s expected (has_branch number)) at (decimal number) ++ z) (boxed_all scope (inner_node s expected number) inner)
+        ap (λ z. misplaced (may_stand s expected (has_branch number)) at (decimal number) ++ z) (value_all scope (inner_node s expected number) inner)
     value_all scope expected (made.Case var arms) =
         case_all scope var (count_value_arms arms) (value_arms_breaches s (case_stands s (found scope var)) expected var arms) (value_arms_asked s (case_stands s (found scope var)) expected var arms)
         (value_arms_all (case_stands s (found scope var)) expected var arms)
@@ -271,10 +271,6 @@ module _ (defs : List Definition) (s : Setting) where
     values_all scope (node ∷ nodes) (a_source_value v rest) =
         joined defs s (value_asked s scope (Some node) v) (values_asked s scope nodes rest) (value_breaches s scope (Some node) v) (values_breaches s scope nodes rest) (value_all scope (Some node) v) (values_all scope nodes rest)
 
-    boxed_all : (scope : List Variable) (expected : Option ℕ) (row : SourceValues) → boxed_value_breaches s scope expected row ≡ all defs s (boxed_value_asked s scope expected row)
-    boxed_all scope expected no_source_values = refl
-    boxed_all scope expected (a_source_value v rest) = value_all scope expected v
-
     value_arms_all : (stands : List Stand) (expected : Option ℕ) (var : Name) (row : SourceValueArms) → value_arms_breaches s stands expected var row ≡ all defs s (value_arms_asked s stands expected var row)
     value_arms_all stands expected var no_source_value_arms = refl
     value_arms_all [] expected var (a_source_value_arm p body rest) = refl
@@ -285,14 +281,9 @@ module _ (defs : List Definition) (s : Setting) where
         (arm_all stand var p bs qs (value_all (bound s stand p) expected body)) (value_arms_all stands expected var rest)
 
   -- ---- procedures
-  list_all : (scope : List Variable) (stmts : List Stmt) → flat_map (stmt_breaches s scope) stmts ≡ all defs s (flat_map (stmt_asked s scope) stmts)
-  list_all scope [] = refl
-  list_all scope (one ∷ rest) =
-      joined defs s (stmt_asked s scope one) (flat_map (stmt_asked s scope) rest) (stmt_breaches s scope one) (flat_map (stmt_breaches s scope) rest) (stmt_all scope one) (list_all scope rest)
-
   body_all : (p : ProcDef) (node : Option ℕ) (body : ProcBody) → body_breaches s p node body ≡ all defs s (body_asked s p node body)
   body_all p None (Statements stmts) = refl
-  body_all p (Some node) (Statements stmts) = list_all (parameter s p) stmts
+  body_all p (Some node) (Statements stmts) = stmts_all (parameter s p) stmts
   body_all p None (Value colon result value) = ap (λ z. result_breaches s.universe colon p.name ++ z) (sym (append_nil (type_use (meant s result) result)))
   body_all p (Some node) (Value colon result value) =
       append_assoc (result_breaches s.universe colon p.name) (type_use (meant s result) result) (value_breaches s (parameter s p) (type_node s result) value)

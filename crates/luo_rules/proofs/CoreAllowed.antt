@@ -25,7 +25,7 @@ use Rattle.luo_rules.specs.Counted as counted
 use Rattle.luo_rules.specs.Counted.{own_nodes, own_multisets, own_multisets_of, count_exprs, most_parts, most_parts_of, greatest_bound, greatest_bound_of, greatest_in, greatest_of}
 use Rattle.luo_rules.specs.Definitions.{Definition, copies, first_node}
 use Rattle.luo_rules.specs.TypeBreaches.{expr_breaches, exprs_breaches, kind_breaches, bound_breaches, least_of, low_in, high_in, low_of, high_of, is_at_most, is_low}
-use Rattle.luo_rules.specs.Nodes.{Spot, behind, parts_at, boxed_part_at, nodes_at, all_nodes_at, start, nodes_from}
+use Rattle.luo_rules.specs.Nodes.{Spot, behind, parts_at, part_at, nodes_at, all_nodes_at, start, nodes_from}
 use Rattle.luo_rules.proofs.Lists.{some_same, none_some, nil_left, nil_right, chosen_true}
 use Rattle.luo_rules.proofs.DefinitionFacts.{SoundAll}
 use Rattle.luo_rules.proofs.ProperTypes.{ProperType}
@@ -107,10 +107,10 @@ module _ (universe : Universe) (names : List (List ℕ × Meaning)) (defs : List
       let long = parts_length (behind at 1) parts in
       subst (λ (z : Node). IsAllowed universe z.shape) (some_same _ node f) (omega (arith, long, p.0), omega (arith, long, m, le-max_left (count_exprs parts) (most_parts_of parts)))
   head_allowed owner at (Coll kind part bound token) p h m g node f =
-      let first = nil_left (kind_breaches universe kind token ++ exprs_breaches universe names part) (bound_breaches kind bound) h in
-      let b = bound_allowed kind bound (nil_right (kind_breaches universe kind token ++ exprs_breaches universe names part) (bound_breaches kind bound) h) (omega (arith, g, le-max_right (greatest_bound_of part) (greatest_of bound))) in
+      let first = nil_left (kind_breaches universe kind token ++ expr_breaches universe names part) (bound_breaches kind bound) h in
+      let b = bound_allowed kind bound (nil_right (kind_breaches universe kind token ++ expr_breaches universe names part) (bound_breaches kind bound) h) (omega (arith, g, le-max_right (greatest_bound part) (greatest_of bound))) in
       subst (λ (z : Node). IsAllowed universe z.shape) (some_same _ node f)
-      (kind_allowed universe kind token (nil_left (kind_breaches universe kind token) (exprs_breaches universe names part) first), b.0, b.1, b.2)
+      (kind_allowed universe kind token (nil_left (kind_breaches universe kind token) (expr_breaches universe names part) first), b.0, b.1, b.2)
 
   pub allowed : SoundAll universe names defs → ((i : ℕ) (d : Definition) → slice_get defs i ≡ Some d → (most_parts d.right ≤ PART_LIMIT) × (greatest_bound d.right ≤ BOUND_LIMIT))
       → (x : ℕ) (node : Node) → slice_get (nodes_from names defs 0 0 defs) x ≡ Some node → IsAllowed universe node.shape
@@ -145,9 +145,9 @@ module _ (names : List (List ℕ × Meaning)) (defs : List Definition) where
     nodes_multisets owner at (Product parts token) =
         more_multisets (shape.Product (parts_at names defs (behind at 1) parts)) owner at.place (all_nodes_at names defs owner (behind at 1) parts) 0 (own_multisets_of parts) (own_multisets_of parts) refl (row_multisets owner (behind at 1) parts) (omega arith)
     nodes_multisets owner at (Coll kind part bound token) =
-        let held = boxed_part_at names defs (behind at 1) part in
-        more_multisets (shape.Coll kind held (low_of kind bound) (high_of bound)) owner at.place (all_nodes_at names defs owner (behind at 1) part) (counted.multiset_of kind) (own_multisets_of part) (counted.multiset_of kind + own_multisets_of part)
-        (kind_multiset kind held (low_of kind bound) (high_of bound)) (row_multisets owner (behind at 1) part) refl
+        let held = part_at names defs (behind at 1) part in
+        more_multisets (shape.Coll kind held (low_of kind bound) (high_of bound)) owner at.place (nodes_at names defs owner (behind at 1) part) (counted.multiset_of kind) (own_multisets part) (counted.multiset_of kind + own_multisets part)
+        (kind_multiset kind held (low_of kind bound) (high_of bound)) (nodes_multisets owner (behind at 1) part) refl
 
     row_multisets : (owner : ℕ) (at : Spot) (row : TypeExprs) → multisets_in (all_nodes_at names defs owner at row) ≡ own_multisets_of row
     row_multisets owner at no_exprs = refl

@@ -22,17 +22,17 @@ use Rattle.luo_rules.specs.declared.setting.Setting.{Setting}
 use Rattle.luo_rules.specs.Settings.{meant, def_node, node_meant, type_node, part_meant}
 use Rattle.luo_rules.specs.ValueBreaches.{value_breaches}
 use Rattle.luo_rules.specs.ValueCore.{value_core}
-use Rattle.luo_rules.specs.Counted.{stmt_statements, body_statements}
-use Rattle.luo_rules.specs.StatementCore.{stmt_own, stmt_sites}
+use Rattle.luo_rules.specs.Counted.{stmts_statements, body_statements}
+use Rattle.luo_rules.specs.StatementCore.{stmts_own, stmts_sites, stmts_items}
 use Rattle.luo_rules.specs.Nodes.{setting_of}
-use Rattle.luo_rules.specs.Whole.{result_breaches, parameter, body_breaches, items_of, body_core, sites_of, result_core, proc_core, procs_core}
+use Rattle.luo_rules.specs.Whole.{result_breaches, parameter, body_breaches, body_core, sites_of, result_core, proc_core, procs_core}
 use Rattle.luo_rules.proofs.Lists.{none_some, some_same}
 use Rattle.luo_rules.proofs.PatternFacts.{program_over}
 use Rattle.luo_rules.proofs.ProperSource.{ProperBody, ProperProc}
 use Rattle.luo_rules.proofs.ValueFits.{value_fits}
 use Rattle.luo_rules.proofs.GoodItems.{NumbersFrom, own_within, numbers_append}
 use Rattle.luo_rules.proofs.ValueItems.{value_size, value_good, value_within, items_few, core_small}
-use Rattle.luo_rules.proofs.StatementFits.{list_good, list_own, list_few}
+use Rattle.luo_rules.proofs.StatementFits.{owns_bound, stmts_good, stmts_few}
 use Rattle.luo_rules.proofs.CleanSource.{Clean, clean_proc, clean_result, type_named, sound_setting}
 use Rattle.luo_rules.proofs.CoreSites.{SitesFrom, sites_append, placed_from, placed_length}
 
@@ -76,8 +76,8 @@ module _ (source : Source) (c : Clean source) (sites : List Site) (analyses : Li
   body_good p i at (Statements stmts) on none proper few =
       let s = setting_of source in
       let procs = procs_core s 0 source.procs in
-      let g = list_good s procs sites analyses (sound_setting source c) (parameter s p) at stmts proper few none in
-      let own = own_within (sum_by (stmt_own s) stmts) (sum_by stmt_statements stmts) NUMBER_LIMIT (list_own s procs sites analyses (sound_setting source c) stmts) few in
+      let g = stmts_good s procs sites analyses (sound_setting source c) (parameter s p) at stmts proper few none in
+      let own = own_within (stmts_own s stmts) (stmts_statements stmts) NUMBER_LIMIT (owns_bound s procs sites analyses (sound_setting source c) stmts) few in
       record { fits = (own, g.fits); many = g.many; numbers = g.numbers }
   body_good p i at (Value colon result value) on none proper few =
       let s = setting_of source in
@@ -141,7 +141,7 @@ module _ (source : Source) (c : Clean source) (sites : List Site) (analyses : Li
 
 module _ (s : Setting) where
   body_few : (p : ProcDef) (at : ℕ) (body : ProcBody) → body_items (body_core s p at body) ≤ body_statements body
-  body_few p at (Statements stmts) = list_few s (parameter s p) at stmts
+  body_few p at (Statements stmts) = stmts_few s (parameter s p) at stmts
   body_few p at (Value colon result value) =
       let scope = parameter s p in
       omega (arith, items_few at (value_core s scope (type_node s result) value), core_small s scope (type_node s result) value)

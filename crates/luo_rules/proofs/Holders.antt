@@ -10,11 +10,11 @@ use Rattle.luo_rules.specs.declared.names.Meaning.{Meaning}
 use Rattle.luo_rules.specs.Counted.{own_nodes, own_nodes_of}
 use Rattle.luo_rules.specs.Definitions.{Definition}
 use Rattle.luo_rules.specs.TypeBreaches.{expr_breaches, exprs_breaches, kind_breaches, bound_breaches}
-use Rattle.luo_rules.specs.Nodes.{Spot, behind, parts_at, nodes_at, all_nodes_at}
+use Rattle.luo_rules.specs.Nodes.{Spot, behind, parts_at, nodes_at, all_nodes_at, part_at}
 use Rattle.luo_rules.proofs.Lists.{none_some, get_cases, get_left, get_right, nil_left, nil_right}
 use Rattle.luo_rules.proofs.NodeLists.{nodes_length}
 use Rattle.luo_rules.proofs.DefinitionFacts.{SoundAll, right_sort}
-use Rattle.luo_rules.proofs.NodeFacts.{PartOf, expr_stands, row_stands, row_part, head_part, boxed_one}
+use Rattle.luo_rules.proofs.NodeFacts.{PartOf, expr_stands, row_stands, row_part, head_part}
 use Rattle.luo_rules.proofs.ProperTypes.{ProperType, ProperTypes}
 
 -- node k of a list has y by itself as a part
@@ -99,6 +99,16 @@ module _ (universe : Universe) (names : List (List ℕ × Meaning)) (defs : List
         | inr f ↦ let n : k ≡ own_nodes e + f.0 = omega (arith, f.1, nodes_length names defs owner at e) in inr (f.0, n, (g.0, f.2, g.2))
       ]
 
+  -- what stands by itself as the one part isn't held among its nodes
+  apart_one : (owner : ℕ) (at : Spot) (e : TypeExpr) → ProperType e → expr_breaches universe names e ≡ [] → (y k : ℕ) → In (bare y) (part_at names defs at e ∷ []) → HeldBy (nodes_at names defs owner at e) k y → ⊥
+  apart_one owner at e p h y k (inl i) g =
+      let r = held_range owner at e p h k y g in
+      elim (right_sort universe names defs all e h) [
+        | inl s ↦ absurd (none_some s.j (ap part_name i ∙ ap part_name (s.part at)))
+        | inr s ↦ let here : y ≡ at.node = ap part_node i ∙ ap part_node (s.part at) in absurd (omega (arith, r.from, here))
+      ]
+  apart_one owner at e p h y k (inr i) g = i
+
   -- what stands by itself among the parts isn't held among their nodes
   apart : (owner : ℕ) (at : Spot) (row : TypeExprs) → ProperTypes row → exprs_breaches universe names row ≡ [] → (y k : ℕ) → In (bare y) (parts_at names defs at row) → HeldBy (all_nodes_at names defs owner at row) k y → ⊥
   apart owner at no_exprs p h y k i g = i
@@ -130,9 +140,9 @@ module _ (universe : Universe) (names : List (List ℕ × Meaning)) (defs : List
         construct_once _ (all_nodes_at names defs owner (behind at 1) parts) (parts_at names defs (behind at 1) parts) y refl (λ k i g. apart owner (behind at 1) parts p.1 h y k i g)
         (λ k j g f. row_once owner (behind at 1) parts p.1 h y k j g f) k j g f
     held_once owner at (Coll kind part bound token) p h y k j g f =
-        let inside : exprs_breaches universe names part ≡ [] = nil_right (kind_breaches universe kind token) (exprs_breaches universe names part) (nil_left (kind_breaches universe kind token ++ exprs_breaches universe names part) (bound_breaches kind bound) h) in
-        construct_once _ (all_nodes_at names defs owner (behind at 1) part) (parts_at names defs (behind at 1) part) y (boxed_one universe names defs (behind at 1) part p.0) (λ k i g. apart owner (behind at 1) part p.1 inside y k i g)
-        (λ k j g f. row_once owner (behind at 1) part p.1 inside y k j g f) k j g f
+        let inside : expr_breaches universe names part ≡ [] = nil_right (kind_breaches universe kind token) (expr_breaches universe names part) (nil_left (kind_breaches universe kind token ++ expr_breaches universe names part) (bound_breaches kind bound) h) in
+        construct_once _ (nodes_at names defs owner (behind at 1) part) (part_at names defs (behind at 1) part ∷ []) y refl (λ k i g. apart_one owner (behind at 1) part p inside y k i g)
+        (λ k j g f. held_once owner (behind at 1) part p inside y k j g f) k j g f
 
     row_once : (owner : ℕ) (at : Spot) (row : TypeExprs) → ProperTypes row → exprs_breaches universe names row ≡ [] → (y k j : ℕ) → HeldBy (all_nodes_at names defs owner at row) k y → HeldBy (all_nodes_at names defs owner at row) j y → k ≡ j
     row_once owner at no_exprs p h y k j g f = absurd (none_some g.0 g.1)
@@ -181,6 +191,16 @@ module _ (universe : Universe) (names : List (List ℕ × Meaning)) (defs : List
             | inr g ↦ inr (own_nodes e + g.0, right_held (nodes_at names defs owner at e) (all_nodes_at names defs owner (behind at (own_nodes e)) rest) (own_nodes e) g.0 y (sym (nodes_length names defs owner at e)) g.1)
           ]
 
+  -- node m of the one part is the part itself, or inside
+  one_place : (owner : ℕ) (at : Spot) (e : TypeExpr) (y m : ℕ) → y ≡ at.node + m → expr_breaches universe names e ≡ [] → (1 ≤ m → (k : ℕ) × HeldBy (nodes_at names defs owner at e) k y) → m < own_nodes e
+      → In (bare y) (part_at names defs at e ∷ []) ⊎ ((k : ℕ) × HeldBy (nodes_at names defs owner at e) k y)
+  one_place owner at e y zero n sound here u =
+      elim (right_sort universe names defs all e sound) [
+        | inl s ↦ absurd (omega (arith, s.no_nodes))
+        | inr s ↦ let place : y ≡ at.node = omega arith in inl (inl (ap bare place ∙ sym (s.part at)))
+      ]
+  one_place owner at e y (suc m) n sound here u = inr (here (omega arith))
+
   mutual
     pub held_some : (owner : ℕ) (at : Spot) (e : TypeExpr) → ProperType e → expr_breaches universe names e ≡ [] → (y m : ℕ) → y ≡ at.node + m → 1 ≤ m → m < own_nodes e → (k : ℕ) × HeldBy (nodes_at names defs owner at e) k y
     held_some owner at (Named name) p h y m n l u = absurd (omega arith)
@@ -194,9 +214,9 @@ module _ (universe : Universe) (names : List (List ℕ × Meaning)) (defs : List
         construct_some _ (all_nodes_at names defs owner (behind at 1) parts) (parts_at names defs (behind at 1) parts) y refl (row_some owner (behind at 1) parts p.1 h y m (omega arith) (omega arith))
     held_some owner at (Coll kind part bound token) p h y zero n l u = absurd (omega arith)
     held_some owner at (Coll kind part bound token) p h y (suc m) n l u =
-        let inside : exprs_breaches universe names part ≡ [] = nil_right (kind_breaches universe kind token) (exprs_breaches universe names part) (nil_left (kind_breaches universe kind token ++ exprs_breaches universe names part) (bound_breaches kind bound) h) in
-        construct_some _ (all_nodes_at names defs owner (behind at 1) part) (parts_at names defs (behind at 1) part) y (boxed_one universe names defs (behind at 1) part p.0)
-        (row_some owner (behind at 1) part p.1 inside y m (omega arith) (omega arith))
+        let inside : expr_breaches universe names part ≡ [] = nil_right (kind_breaches universe kind token) (expr_breaches universe names part) (nil_left (kind_breaches universe kind token ++ expr_breaches universe names part) (bound_breaches kind bound) h) in
+        construct_some _ (nodes_at names defs owner (behind at 1) part) (part_at names defs (behind at 1) part ∷ []) y refl
+        (one_place owner (behind at 1) part y m (omega arith) inside (λ l. held_some owner (behind at 1) part p inside y m (omega arith) l (omega arith)) (omega arith))
 
     row_some : (owner : ℕ) (at : Spot) (row : TypeExprs) → ProperTypes row → exprs_breaches universe names row ≡ [] → (y m : ℕ) → y ≡ at.node + m → m < own_nodes_of row
         → In (bare y) (parts_at names defs at row) ⊎ ((k : ℕ) × HeldBy (all_nodes_at names defs owner at row) k y)

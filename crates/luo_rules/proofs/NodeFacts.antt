@@ -11,7 +11,7 @@ use Rattle.luo_rules.specs.declared.names.Meaning.{Meaning}
 use Rattle.luo_rules.specs.Counted.{own_nodes, own_nodes_of, count_exprs, most_parts, most_parts_of, greatest_bound, greatest_bound_of, greatest_of}
 use Rattle.luo_rules.specs.Definitions.{Definition}
 use Rattle.luo_rules.specs.TypeBreaches.{expr_breaches, exprs_breaches, kind_breaches, bound_breaches}
-use Rattle.luo_rules.specs.Nodes.{Spot, behind, part_at, parts_at, boxed_part_at, nodes_at, all_nodes_at}
+use Rattle.luo_rules.specs.Nodes.{Spot, behind, part_at, parts_at, nodes_at, all_nodes_at}
 use Rattle.luo_rules.proofs.Lists.{some_same, none_some, get_cases, nil_left, nil_right}
 use Rattle.luo_rules.proofs.NodeLists.{nodes_length}
 use Rattle.luo_rules.proofs.ProperTypes.{ProperType, ProperTypes}
@@ -87,9 +87,9 @@ module _ (universe : Universe) (names : List (List ℕ × Meaning)) (defs : List
         (omega arith) (le-max_right (count_exprs parts) (most_parts_of parts)) (omega arith) (omega arith) (row_stands owner (behind at 1) parts p.1 h k node f)
     expr_stands owner at (Coll kind part bound token) p h zero node f = stands_here owner at (Coll kind part bound token) node p h f
     expr_stands owner at (Coll kind part bound token) p h (suc k) node f =
-        let inside : exprs_breaches universe names part ≡ [] = nil_right (kind_breaches universe kind token) (exprs_breaches universe names part) (nil_left (kind_breaches universe kind token ++ exprs_breaches universe names part) (bound_breaches kind bound) h) in
-        stands_behind owner at 1 (own_nodes_of part) (suc (own_nodes_of part)) (most_parts_of part) (most_parts_of part) (greatest_bound_of part) (max (greatest_bound_of part) (greatest_of bound)) k (suc k) node
-        (omega arith) (omega arith) (le-max_left (greatest_bound_of part) (greatest_of bound)) (omega arith) (row_stands owner (behind at 1) part p.1 inside k node f)
+        let inside : expr_breaches universe names part ≡ [] = nil_right (kind_breaches universe kind token) (expr_breaches universe names part) (nil_left (kind_breaches universe kind token ++ expr_breaches universe names part) (bound_breaches kind bound) h) in
+        stands_behind owner at 1 (own_nodes part) (suc (own_nodes part)) (most_parts part) (most_parts part) (greatest_bound part) (max (greatest_bound part) (greatest_of bound)) k (suc k) node
+        (omega arith) (omega arith) (le-max_left (greatest_bound part) (greatest_of bound)) (omega arith) (expr_stands owner (behind at 1) part p inside k node f)
 
     pub row_stands : (owner : ℕ) (at : Spot) (row : TypeExprs) → ProperTypes row → exprs_breaches universe names row ≡ [] → (k : ℕ) (node : Node) → slice_get (all_nodes_at names defs owner at row) k ≡ Some node
         → Stands universe names defs owner at (own_nodes_of row) (most_parts_of row) (greatest_bound_of row) k node
@@ -122,12 +122,6 @@ module _ (universe : Universe) (names : List (List ℕ × Meaning)) (defs : List
   head_owner owner at (Product parts token) node f = let e = some_same _ node f in (sym (ap (λ (z : Node). z.owner) e), sym (ap (λ (z : Node). z.place) e))
   head_owner owner at (Coll kind part bound token) node f = let e = some_same _ node f in (sym (ap (λ (z : Node). z.owner) e), sym (ap (λ (z : Node). z.place) e))
 
-  -- a box holds one part
-  pub boxed_one : (at : Spot) (row : TypeExprs) → count_exprs row ≡ 1 → boxed_part_at names defs at row ∷ [] ≡ parts_at names defs at row
-  boxed_one at no_exprs h = absurd (omega (arith, h))
-  boxed_one at (an_expr e no_exprs) h = refl
-  boxed_one at (an_expr e (an_expr f rest)) h = absurd (omega (arith, h))
-
   part_behind : (low high low' high' : ℕ) (part : Part) → low' ≤ low → high ≤ high' → PartOf universe names defs low high part → PartOf universe names defs low' high' part
   part_behind low high low' high' part l m q = record { sub = q.sub; spot = q.spot; is = q.is; is_sound = q.is_sound; from = omega (arith, q.from); to = omega (arith, q.to) }
 
@@ -151,8 +145,8 @@ module _ (universe : Universe) (names : List (List ℕ × Meaning)) (defs : List
   head_part owner at (Product parts token) p h node f part i =
       part_behind (at.node + 1) (at.node + 1 + own_nodes_of parts) (at.node + 1) (at.node + suc (own_nodes_of parts)) part (omega arith) (omega arith)
       (row_part (behind at 1) parts h part (subst (λ (z : Node). In part (inner_parts z.shape)) (sym (some_same _ node f)) i))
-  head_part owner at (Coll' kind size part' bound token) p h node f part i =
-      let inside : exprs_breaches universe names part' ≡ [] = nil_right (kind_breaches universe kind token) (exprs_breaches universe names part') (nil_left (kind_breaches universe kind token ++ exprs_breaches universe names part') (bound_breaches kind bound) h) in
-      let here : In part (boxed_part_at names defs (behind at 1) part' ∷ []) = subst (λ (z : Node). In part (inner_parts z.shape)) (sym (some_same _ node f)) i in
-      part_behind (at.node + 1) (at.node + 1 + own_nodes_of part') (at.node + 1) (at.node + suc (own_nodes_of part')) part (omega arith) (omega arith)
-      (row_part (behind at 1) part' inside part (subst (In part) (boxed_one (behind at 1) part' p.0) here))
+  head_part owner at (Coll kind inner bound token) p h node f part i =
+      let inside : expr_breaches universe names inner ≡ [] = nil_right (kind_breaches universe kind token) (expr_breaches universe names inner) (nil_left (kind_breaches universe kind token ++ expr_breaches universe names inner) (bound_breaches kind bound) h) in
+      let here : In part (part_at names defs (behind at 1) inner ∷ []) = subst (λ (z : Node). In part (inner_parts z.shape)) (sym (some_same _ node f)) i in
+      part_behind (at.node + 1) (at.node + 1 + (own_nodes inner + 0)) (at.node + 1) (at.node + suc (own_nodes inner)) part (omega arith) (omega arith)
+      (row_part (behind at 1) (an_expr inner no_exprs) (ap (λ z. z ++ []) inside) part here)

@@ -56,7 +56,7 @@ module _ (names : List (List ℕ × Meaning)) (defs : List Definition) where
     nodes_length owner at (Atom weight weight_at token) = refl
     nodes_length owner at (Union parts) = ap suc (all_nodes_length owner (behind at 1) parts)
     nodes_length owner at (Product parts token) = ap suc (all_nodes_length owner (behind at 1) parts)
-    nodes_length owner at (Coll kind part bound token) = ap suc (all_nodes_length owner (behind at 1) part)
+    nodes_length owner at (Coll kind part bound token) = ap suc (nodes_length owner (behind at 1) part)
 
     pub all_nodes_length : (owner : ℕ) (at : Spot) (row : TypeExprs) → length (all_nodes_at names defs owner at row) ≡ own_nodes_of row
     all_nodes_length owner at no_exprs = refl

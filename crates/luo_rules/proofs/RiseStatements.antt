@@ -7,15 +7,16 @@ use Rattle.luo_model.specs.declared.program.Shape.TheVariants as shape
 use Rattle.luo_scan.specs.Lexemes.{Lexeme}
 use Rattle.luo_source.specs.declared.names.Name.{Name}
 use Rattle.luo_source.specs.declared.statements.SourceArm.{SourceArm}
-use Rattle.luo_source.specs.Plain.Statements.{Stmt}
+use Rattle.luo_source.specs.declared.statements.Stmt.{Stmt}
 use Rattle.luo_source.specs.GrammarStatements.{IsBlock, empty_block, full_block, AreStmts, last_stmt, more_stmts, IsStmt, simple_stmt, case_stmt, forall_stmt, IsSimple, block_stmt, skip_stmt, charge_stmt, call_stmt, AreArms, last_arm, more_arms, IsArm, one_arm}
+use Rattle.luo_source.specs.View.{stmt_of, stmt_list, source_arm_list}
 use Rattle.luo_rules.specs.declared.rule.Breach.{Breach}
 use Rattle.luo_rules.specs.declared.setting.Setting.{Setting}
 use Rattle.luo_rules.specs.declared.setting.Variable.{Variable}
 use Rattle.luo_rules.specs.Settings.{meant, signature_meant, shape_at, found, case_stands}
 use Rattle.luo_rules.specs.Patterns.{bound}
-use Rattle.luo_rules.specs.StatementBreaches.{walk_into, walk_breaches, stmt_breaches}
-use Rattle.luo_rules.specs.inner.StatementLists.{list_breaches, one_arm_breaches, arm_list_breaches}
+use Rattle.luo_rules.specs.StatementBreaches.{walk_into, walk_breaches, stmt_breaches, stmts_breaches, arms_breaches}
+use Rattle.luo_rules.specs.inner.StatementLists.{one_arm_breaches}
 use Rattle.luo_rules.proofs.StatementForms.{walk_scope, block-breaches, case-breaches, walk-breaches}
 use Rattle.luo_rules.proofs.RiseLists.{single, nothing, placed, led}
 use Rattle.luo_rules.proofs.RiseNames.{From, Spans, behind, past, alone, from_lower, in_place, measure_use_at, procedure_use_at}
@@ -31,17 +32,17 @@ walk_spans s None source l m one = in_place (single refl) l m one
 walk_spans s (Some variable) source l m one = walk_into_spans (shape_at s variable.1.node) source l m one
 
 mutual
-  pub block_spans : (s : Setting) (scope : List Variable) (low : ℕ) {from to : List Lexeme} {stmts : List Stmt} → IsBlock from to stmts → From low from → Spans low to (list_breaches s scope stmts)
+  pub block_spans : (s : Setting) (scope : List Variable) (low : ℕ) {from to : List Lexeme} {stmts : List Stmt} → IsBlock from to stmts → From low from → Spans low to (stmts_breaches s scope (stmt_list stmts))
   block_spans s scope low (empty_block {l}) h = record { next = l + 1; left = h.1.1; within = nothing (omega (arith, h.0, h.1.0)) }
   block_spans s scope low (full_block {k = j} p) h = from_lower (omega (arith, h.0)) (stmts_spans s scope (j + 1) p h.1)
 
-  stmts_spans : (s : Setting) (scope : List Variable) (low : ℕ) {from to : List Lexeme} {stmts : List Stmt} → AreStmts from to stmts → From low from → Spans low to (list_breaches s scope stmts)
+  stmts_spans : (s : Setting) (scope : List Variable) (low : ℕ) {from to : List Lexeme} {stmts : List Stmt} → AreStmts from to stmts → From low from → Spans low to (stmts_breaches s scope (stmt_list stmts))
   stmts_spans s scope low (last_stmt p) h = alone (past (stmt_spans s scope low p h))
   stmts_spans s scope low (more_stmts {k = j} p ps) h =
       let one = stmt_spans s scope low p h in
       behind one (stmts_spans s scope (j + 1) ps one.left.1)
 
-  stmt_spans : (s : Setting) (scope : List Variable) (low : ℕ) {from to : List Lexeme} {one : Stmt} → IsStmt from to one → From low from → Spans low to (stmt_breaches s scope one)
+  stmt_spans : (s : Setting) (scope : List Variable) (low : ℕ) {from to : List Lexeme} {one : Stmt} → IsStmt from to one → From low from → Spans low to (stmt_breaches s scope (stmt_of one))
   stmt_spans s scope low (simple_stmt p) h = simple_spans s scope low p h
   stmt_spans s scope low (case_stmt {text} {at} {l} {arms} p) h =
       let var : Name = record { text = text; at = at } in
@@ -53,7 +54,7 @@ mutual
       let inner = simple_spans s (walk_scope s scope var over) (m + 1) p h.1.1.1.1.1 in
       subst (Spans low _) (sym (walk-breaches s scope var over body)) (walk_spans s (found scope over) over (omega (arith, h.0, h.1.0, h.1.1.0, h.1.1.1.0)) (omega (arith, h.1.1.1.1.0)) inner)
 
-  simple_spans : (s : Setting) (scope : List Variable) (low : ℕ) {from to : List Lexeme} {one : Stmt} → IsSimple from to one → From low from → Spans low to (stmt_breaches s scope one)
+  simple_spans : (s : Setting) (scope : List Variable) (low : ℕ) {from to : List Lexeme} {one : Stmt} → IsSimple from to one → From low from → Spans low to (stmt_breaches s scope (stmt_of one))
   simple_spans s scope low (block_stmt {stmts} p) h = subst (Spans low _) (sym (block-breaches s scope stmts)) (block_spans s scope low p h)
   simple_spans s scope low (skip_stmt {k = j}) h = record { next = j + 1; left = h.1; within = nothing (omega (arith, h.0)) }
   simple_spans s scope low (charge_stmt {text} {at}) h =
@@ -65,7 +66,7 @@ mutual
       let argument = placed (argument_at (found scope given) (signature_meant s (meant s callee)).on given callee) (omega (arith, h.1.0, h.1.1.0)) (omega (arith, h.1.1.1.0)) in
       record { next = l + 1; left = h.1.1.1.1; within = led (procedure_use_at (meant s callee) callee) h.0 argument }
 
-  arms_spans : (s : Setting) (stands : List Stand) (var : Name) (low : ℕ) {from to : List Lexeme} {arms : List SourceArm} → AreArms from to arms → From low from → Spans low to (arm_list_breaches s stands var arms)
+  arms_spans : (s : Setting) (stands : List Stand) (var : Name) (low : ℕ) {from to : List Lexeme} {arms : List SourceArm} → AreArms from to arms → From low from → Spans low to (arms_breaches s stands var (source_arm_list arms))
   arms_spans s [] var low (last_arm p) h = emptied (past (one_arm_spans s (inside no_part) var low p h))
   arms_spans s (stand ∷ stands) var low (last_arm p) h = alone (past (one_arm_spans s stand var low p h))
   arms_spans s [] var low (more_arms {k = j} p ps) h =

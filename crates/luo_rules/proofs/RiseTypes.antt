@@ -1,8 +1,5 @@
 -- The breaches of a right side stand at rising tokens.
-use Rattle.std.proofs.Common.{◌≡◌, ℕ, ◌+◌, ◌≤◌, List, [], ◌∷◌, ◌++◌, refl, sym, ap, ◌∙◌, subst, Option, Some, None, nat_le, arith}
-use Rattle.std.specs.List.{flat_map}
-use mathlib.Core.Former.{Count}
-use denote.Hole.Carrier.{hidden}
+use Rattle.std.proofs.Common.{ℕ, ◌+◌, ◌≤◌, List, [], ◌∷◌, refl, sym, ap, subst, Option, Some, None, nat_le, arith}
 use Rattle.luo_model.specs.declared.program.Kind.{Kind}
 use Rattle.luo_model.specs.declared.program.Kind.TheVariants.{Sequence, Set, Cycle, Multiset, Powerset}
 use Rattle.luo_model.specs.declared.program.Universe.{Universe}
@@ -12,7 +9,9 @@ use Rattle.luo_scan.specs.Lexemes.{Lexeme}
 use Rattle.luo_source.specs.declared.names.Name.{Name}
 use Rattle.luo_source.specs.declared.types.Range.{Range}
 use Rattle.luo_source.specs.declared.types.Bound.{Bound}
-use Rattle.luo_source.specs.Plain.Types.{TypeExpr, Named, Union, Product, Coll, TypeExprs, no_exprs, an_expr, items-the_row-TypeExpr, items_hidden-the_row-TypeExpr-0}
+use Rattle.luo_source.specs.declared.types.TypeExpr.{TypeExpr}
+use Rattle.luo_source.specs.View.{expr_of, expr_list}
+use Rattle.luo_source.proofs.ViewLemmas.{union_expr, product_expr, coll_expr}
 use Rattle.luo_source.specs.GrammarTypes.{IsRange, exactly, at_most, at_least, between, EndsCollection, unbounded, bounded, IsExpr, one_term, union, AreTerms, last_term, more_terms, IsTerm, named, epsilon, atom, product, collection, AreFactors, last_factor, more_factors}
 use Rattle.luo_rules.specs.declared.names.Meaning.{Meaning}
 use Rattle.luo_rules.specs.declared.rule.Breach.{Breach}
@@ -51,47 +50,20 @@ ends_spans kind low (bounded {at} {k = j} {l} {range} p) h =
     let rest = range_left (at + 1) p h.1.1 in
     record { next = l + 1; left = rest.2.1; within = placed (bound_breaches_at kind (record { range = range; at = at })) (omega (arith, h.0, h.1.0)) (omega (arith, rest.1, rest.2.0)) }
 
--- parts as a list
-abbrev parts_breaches : Universe → List (List ℕ × Meaning) → List TypeExpr → List Breach
-parts_breaches u names es = flat_map (expr_breaches u names) es
-
-row_breaches : (u : Universe) (names : List (List ℕ × Meaning)) (row : TypeExprs) → exprs_breaches u names row ≡ parts_breaches u names (items-the_row-TypeExpr n row)
-row_breaches u names n no_exprs = refl
-row_breaches u names n (an_expr e rest) = ap (λ z. expr_breaches u names e ++ z) (row_breaches u names _ rest)
-
-abbrev row_in : TypeExpr → (n : Count) × TypeExprs n
-row_in (Union row) = (_, row)
-row_in (Product row _) = (_, row)
-row_in _ = (_, no_exprs)
-
-union_breaches : (u : Universe) (names : List (List ℕ × Meaning)) (es : List TypeExpr) → expr_breaches u names (Union es) ≡ parts_breaches u names es
-union_breaches u names es =
-    let row = row_in (Union es) in
-    row_breaches u names row.0 row.1 ∙ ap (parts_breaches u names) (items_hidden-the_row-TypeExpr-0 es)
-
-product_breaches : (u : Universe) (names : List (List ℕ × Meaning)) (es : List TypeExpr) (at : ℕ) → expr_breaches u names (Product es at) ≡ parts_breaches u names es
-product_breaches u names es at =
-    let row = row_in (Product es at) in
-    row_breaches u names row.0 row.1 ∙ ap (parts_breaches u names) (items_hidden-the_row-TypeExpr-0 es)
-
-coll_spans : (u : Universe) (names : List (List ℕ × Meaning)) (kind : Kind) (e : TypeExpr) (bound : Option Bound) (at : ℕ) {low : ℕ} {to : List Lexeme} → Spans low to ((kind_breaches u kind at ++ (expr_breaches u names e ++ [])) ++ bound_breaches kind bound) → Spans low to (expr_breaches u names (Coll kind e bound at))
-unfolding Rattle.luo_source.specs.declared.types.TypeExpr.TheBlock.hidden-the_row-TypeExpr-1 hidden
-coll_spans u names kind e bound at one = one
-
 mutual
-  pub expr_spans : (u : Universe) (names : List (List ℕ × Meaning)) (low : ℕ) {from to : List Lexeme} {t : TypeExpr} → IsExpr from to t → From low from → Spans low to (expr_breaches u names t)
+  pub expr_spans : (u : Universe) (names : List (List ℕ × Meaning)) (low : ℕ) {from to : List Lexeme} {t : TypeExpr} → IsExpr from to t → From low from → Spans low to (expr_breaches u names (expr_of t))
   expr_spans u names low (one_term p) h = term_spans u names low p h
   expr_spans u names low (union {k = j} {t} {ts} p ps) h =
       let one = term_spans u names low p h in
-      subst (Spans low _) (sym (union_breaches u names (t ∷ ts))) (behind one (terms_spans u names (j + 1) ps one.left.1))
+      subst (Spans low _) (ap (expr_breaches u names) (sym (union_expr (t ∷ ts)))) (behind one (terms_spans u names (j + 1) ps one.left.1))
 
-  terms_spans : (u : Universe) (names : List (List ℕ × Meaning)) (low : ℕ) {from to : List Lexeme} {ts : List TypeExpr} → AreTerms from to ts → From low from → Spans low to (parts_breaches u names ts)
+  terms_spans : (u : Universe) (names : List (List ℕ × Meaning)) (low : ℕ) {from to : List Lexeme} {ts : List TypeExpr} → AreTerms from to ts → From low from → Spans low to (exprs_breaches u names (expr_list ts))
   terms_spans u names low (last_term p) h = alone (term_spans u names low p h)
   terms_spans u names low (more_terms {k = j} p ps) h =
       let one = term_spans u names low p h in
       behind one (terms_spans u names (j + 1) ps one.left.1)
 
-  term_spans : (u : Universe) (names : List (List ℕ × Meaning)) (low : ℕ) {from to : List Lexeme} {t : TypeExpr} → IsTerm from to t → From low from → Spans low to (expr_breaches u names t)
+  term_spans : (u : Universe) (names : List (List ℕ × Meaning)) (low : ℕ) {from to : List Lexeme} {t : TypeExpr} → IsTerm from to t → From low from → Spans low to (expr_breaches u names (expr_of t))
   term_spans u names low (named {text} {at}) h =
       record { next = at + 1; left = h.1; within = placed (type_use_at (meaning names text) (record { text = text; at = at })) h.0 (omega arith) }
   term_spans u names low (epsilon {at}) h = record { next = at + 1; left = h.1; within = nothing (omega (arith, h.0)) }
@@ -99,12 +71,12 @@ mutual
       record { next = l + 1; left = h.1.1.1.1; within = placed (at_if {at = weight_at} (nat_le weight (greatest_weight u)) none (single refl)) (omega (arith, h.0, h.1.0, h.1.1.0)) (omega (arith, h.1.1.1.0)) }
   term_spans u names low (product {at} {k = j} {l} {t} {ts} p ps) h =
       let one = expr_spans u names (j + 1) p h.1.1 in
-      subst (Spans low _) (sym (product_breaches u names (t ∷ ts) at)) (from_lower (omega (arith, h.0, h.1.0)) (behind one (factors_spans u names (l + 1) ps one.left.1)))
+      subst (Spans low _) (ap (expr_breaches u names) (sym (product_expr (t ∷ ts) at))) (from_lower (omega (arith, h.0, h.1.0)) (behind one (factors_spans u names (l + 1) ps one.left.1)))
   term_spans u names low (collection {of} {at} {k = j} {t} {bound} w p x) h =
-      let one = led_by (kind_breaches_at u of at) h.0 (from_lower (omega (arith, h.1.0)) (alone (expr_spans u names (j + 1) p h.1.1))) in
-      coll_spans u names of t bound at (follows one.next one.within (ends_spans of one.next x one.left))
+      let one = led_by (kind_breaches_at u of at) h.0 (from_lower (omega (arith, h.1.0)) (expr_spans u names (j + 1) p h.1.1)) in
+      subst (Spans low _) (ap (expr_breaches u names) (sym (coll_expr of t bound at))) (follows one.next one.within (ends_spans of one.next x one.left))
 
-  factors_spans : (u : Universe) (names : List (List ℕ × Meaning)) (low : ℕ) {from to : List Lexeme} {ts : List TypeExpr} → AreFactors from to ts → From low from → Spans low to (parts_breaches u names ts)
+  factors_spans : (u : Universe) (names : List (List ℕ × Meaning)) (low : ℕ) {from to : List Lexeme} {ts : List TypeExpr} → AreFactors from to ts → From low from → Spans low to (exprs_breaches u names (expr_list ts))
   factors_spans u names low (last_factor p) h = alone (past (expr_spans u names low p h))
   factors_spans u names low (more_factors {k = j} p ps) h =
       let one = expr_spans u names low p h in
@@ -118,7 +90,7 @@ circle_breach_at name (Some chain) = single refl
 or_nothing : {low : ℕ} {to : List Lexeme} {xs : List Breach} → Spans low to xs → Spans low to (xs or_if_none [])
 or_nothing one = record { next = one.next; left = one.left; within = within_or one.within (nothing (borders one.within)) }
 
-term_side : (u : Universe) (names : List (List ℕ × Meaning)) (defs : List Definition) (i : ℕ) (owners : List Name) (low : ℕ) {from to : List Lexeme} {t : TypeExpr} → IsTerm from to t → From low from → Spans low to (expr_breaches u names t) → Spans low to (expr_breaches u names t or_if_none circle_breaches names defs i owners t)
+term_side : (u : Universe) (names : List (List ℕ × Meaning)) (defs : List Definition) (i : ℕ) (owners : List Name) (low : ℕ) {from to : List Lexeme} {t : TypeExpr} → IsTerm from to t → From low from → Spans low to (expr_breaches u names (expr_of t)) → Spans low to (expr_breaches u names (expr_of t) or_if_none circle_breaches names defs i owners (expr_of t))
 term_side u names defs i owners low (named {text} {at}) h one =
     let name : Name = record { text = text; at = at } in
     record { next = at + 1; left = h.1; within = placed (at_or (type_use_at (meaning names text) name) (circle_breach_at name (first_circle names defs i owners))) h.0 (omega arith) }
@@ -127,10 +99,10 @@ term_side u names defs i owners low atom h one = or_nothing one
 term_side u names defs i owners low (product p ps) h one = or_nothing one
 term_side u names defs i owners low (collection w p x) h one = or_nothing one
 
-expr_side : (u : Universe) (names : List (List ℕ × Meaning)) (defs : List Definition) (i : ℕ) (owners : List Name) (low : ℕ) {from to : List Lexeme} {t : TypeExpr} → IsExpr from to t → From low from → Spans low to (expr_breaches u names t) → Spans low to (expr_breaches u names t or_if_none circle_breaches names defs i owners t)
+expr_side : (u : Universe) (names : List (List ℕ × Meaning)) (defs : List Definition) (i : ℕ) (owners : List Name) (low : ℕ) {from to : List Lexeme} {t : TypeExpr} → IsExpr from to t → From low from → Spans low to (expr_breaches u names (expr_of t)) → Spans low to (expr_breaches u names (expr_of t) or_if_none circle_breaches names defs i owners (expr_of t))
 expr_side u names defs i owners low (one_term p) h one = term_side u names defs i owners low p h one
 expr_side u names defs i owners low (union p ps) h one = or_nothing one
 
 -- a right side with the circle on which it lies
-pub side_spans : (u : Universe) (names : List (List ℕ × Meaning)) (defs : List Definition) (i : ℕ) (owners : List Name) (low : ℕ) {from to : List Lexeme} {t : TypeExpr} → IsExpr from to t → From low from → Spans low to (expr_breaches u names t or_if_none circle_breaches names defs i owners t)
+pub side_spans : (u : Universe) (names : List (List ℕ × Meaning)) (defs : List Definition) (i : ℕ) (owners : List Name) (low : ℕ) {from to : List Lexeme} {t : TypeExpr} → IsExpr from to t → From low from → Spans low to (expr_breaches u names (expr_of t) or_if_none circle_breaches names defs i owners (expr_of t))
 side_spans u names defs i owners low p h = expr_side u names defs i owners low p h (expr_spans u names low p h)

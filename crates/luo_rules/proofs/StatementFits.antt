@@ -26,9 +26,8 @@ use Rattle.luo_rules.specs.Patterns.{bound, bind_of, arm_breaches}
 use Rattle.luo_rules.specs.Counted.{stmt_statements, stmts_statements, arms_statements}
 use Rattle.luo_rules.specs.StatementBreaches.{count_arms, walked, walk_into, walk_breaches, stmt_breaches, stmts_breaches, arms_breaches}
 use Rattle.luo_rules.specs.StatementCore.{stmt_own, stmts_own, stmt_sites, stmts_sites, arms_sites, stmt_items, stmts_items, arms_core}
-use Rattle.luo_rules.specs.Whole.{items_of}
 use Rattle.luo_rules.proofs.Lists.{nil_left, nil_right}
-use Rattle.luo_rules.proofs.ProperBodies.{ProperStmt, ProperStmts, ProperArms, AllStmts}
+use Rattle.luo_rules.proofs.ProperBodies.{ProperStmt, ProperStmts, ProperArms}
 use Rattle.luo_rules.proofs.PatternFacts.{program_over, parts_of, IsFoundIn, found_there, found_one, argument_fits, may_bind, bound_same, arm_fits, case_fits}
 use Rattle.luo_rules.proofs.ValueFits.{SoundSetting, procedure_meant}
 use Rattle.luo_rules.proofs.GoodItems.{GoodItems, GoodArms, good_none, good_join, good_call, good_case, good_forall, good_no_arms, good_arm, own_within, join_in}
@@ -101,15 +100,15 @@ module _ (s : Setting) (procs : List Procedure) (sites : List Site) (analyses : 
     stmt_good scope first (Forall var source body) p l e =
         let o = found scope source in
         let inside : List Variable = record { name = var.text; part = walked s o } ∷ [] in
-        let w = walk_fits s o source (stmts_breaches s inside body) e in
+        let w = walk_fits s o source (stmt_breaches s inside body) e in
         let x = w.variable.1 in
         let same : walked s o ≡ component (shape_at s x.node) = ap (walked s) w.is in
-        let inner = stmts_good inside first body p (omega arith) w.none in
-        good_forall (program_over s procs sites analyses) (parts_of scope) (place_of o) x first (stmts_sites body) (stmts_own s body) (stmts_items s inside first body)
-        (found_one (parts_of scope) o w.variable (found_there scope source) w.is) w.collection (own_within (stmts_own s body) (stmts_statements body) NUMBER_LIMIT (owns_bound body) (omega arith))
-        (subst (λ n. GoodItems (program_over s procs sites analyses) (n ∷ []) first (stmts_sites body) (stmts_items s inside first body)) same inner)
+        let inner = stmt_good inside first body p (omega arith) w.none in
+        good_forall (program_over s procs sites analyses) (parts_of scope) (place_of o) x first (stmt_sites body) (stmt_own s body) (stmt_items s inside first body)
+        (found_one (parts_of scope) o w.variable (found_there scope source) w.is) w.collection (own_within (stmt_own s body) (stmt_statements body) NUMBER_LIMIT (own_bound body) (omega arith))
+        (subst (λ n. GoodItems (program_over s procs sites analyses) (n ∷ []) first (stmt_sites body) (stmt_items s inside first body)) same inner)
 
-    stmts_good : (scope : List Variable) (first : ℕ) (row : Stmts) → ProperStmts row → stmts_statements row ≤ STATEMENT_LIMIT → stmts_breaches s scope row ≡ []
+    pub stmts_good : (scope : List Variable) (first : ℕ) (row : Stmts) → ProperStmts row → stmts_statements row ≤ STATEMENT_LIMIT → stmts_breaches s scope row ≡ []
         → GoodItems (program_over s procs sites analyses) (parts_of scope) first (stmts_sites row) (stmts_items s scope first row)
     stmts_good scope first no_stmts p l e = good_none (program_over s procs sites analyses) (parts_of scope) first
     stmts_good scope first (a_stmt stmt rest) p l e =
@@ -131,22 +130,6 @@ module _ (s : Setting) (procs : List Procedure) (sites : List Site) (analyses : 
         (subst (λ vars. GoodItems (program_over s procs sites analyses) vars first (stmt_sites body) (stmt_items s (bound s stand pattern) first body)) (bound_same s procs sites analyses stand pattern a.0) good)
         (arms_good ss var (first + stmt_sites body) rest p.1 (omega arith) (omega (arith, m)) (nil_right (arm_breaches s stand var pattern inner) (arms_breaches s ss var rest) e))
 
-  -- statements one behind the other
-  pub list_good : (scope : List Variable) (first : ℕ) (stmts : List Stmt) → AllStmts stmts → sum_by stmt_statements stmts ≤ STATEMENT_LIMIT → flat_map (stmt_breaches s scope) stmts ≡ []
-      → GoodItems (program_over s procs sites analyses) (parts_of scope) first (sum_by stmt_sites stmts) (items_of s scope first stmts)
-  list_good scope first [] p l e = good_none (program_over s procs sites analyses) (parts_of scope) first
-  list_good scope first (stmt ∷ stmts) p l e =
-      let few = sum_by-cons stmt_statements stmt stmts in
-      subst (λ n. GoodItems (program_over s procs sites analyses) (parts_of scope) first n (items_of s scope first (stmt ∷ stmts))) (sym (sum_by-cons stmt_sites stmt stmts))
-      (good_join (program_over s procs sites analyses) (parts_of scope) first (stmt_sites stmt) (sum_by stmt_sites stmts) (stmt_items s scope first stmt) (items_of s scope (first + stmt_sites stmt) stmts)
-      (stmt_good scope first stmt p.0 (omega (arith, few)) (nil_left (stmt_breaches s scope stmt) (flat_map (stmt_breaches s scope) stmts) e))
-      (list_good scope (first + stmt_sites stmt) stmts p.1 (omega (arith, few)) (nil_right (stmt_breaches s scope stmt) (flat_map (stmt_breaches s scope) stmts) e)))
-
-  pub list_own : (stmts : List Stmt) → sum_by (stmt_own s) stmts ≤ sum_by stmt_statements stmts * NUMBER_LIMIT
-  list_own [] = omega arith
-  list_own (stmt ∷ stmts) =
-      omega (arith, own_bound stmt, list_own stmts, sum_by-cons (stmt_own s) stmt stmts, ap (λ n. n * NUMBER_LIMIT) (sum_by-cons stmt_statements stmt stmts), add-mul (stmt_statements stmt) (sum_by stmt_statements stmts) NUMBER_LIMIT)
-
 module _ (s : Setting) where
   mutual
     stmt_few : (scope : List Variable) (first : ℕ) (stmt : Stmt) → items_in (stmt_items s scope first stmt) ≤ stmt_statements stmt
@@ -155,9 +138,9 @@ module _ (s : Setting) where
     stmt_few scope first (Call callee arg) = omega arith
     stmt_few scope first (Block stmts) = stmts_few scope first stmts
     stmt_few scope first (Case var arms) = omega (arith, arms_few (case_stands s (found scope var)) first arms)
-    stmt_few scope first (Forall var source body) = omega (arith, stmts_few (record { name = var.text; part = walked s (found scope source) } ∷ []) first body)
+    stmt_few scope first (Forall var source body) = omega (arith, stmt_few (record { name = var.text; part = walked s (found scope source) } ∷ []) first body)
 
-    stmts_few : (scope : List Variable) (first : ℕ) (row : Stmts) → items_in (stmts_items s scope first row) ≤ stmts_statements row
+    pub stmts_few : (scope : List Variable) (first : ℕ) (row : Stmts) → items_in (stmts_items s scope first row) ≤ stmts_statements row
     stmts_few scope first no_stmts = omega arith
     stmts_few scope first (a_stmt stmt rest) =
         omega (arith, join_in (stmt_items s scope first stmt) (stmts_items s scope (first + stmt_sites stmt) rest), stmt_few scope first stmt, stmts_few scope (first + stmt_sites stmt) rest)
@@ -166,8 +149,3 @@ module _ (s : Setting) where
     arms_few ss first no_source_arms = omega arith
     arms_few [] first (a_source_arm pattern body rest) = omega arith
     arms_few (stand ∷ ss) first (a_source_arm pattern body rest) = omega (arith, stmt_few (bound s stand pattern) first body, arms_few ss (first + stmt_sites body) rest)
-
-  pub list_few : (scope : List Variable) (first : ℕ) (stmts : List Stmt) → items_in (items_of s scope first stmts) ≤ sum_by stmt_statements stmts
-  list_few scope first [] = omega arith
-  list_few scope first (stmt ∷ stmts) =
-      omega (arith, join_in (stmt_items s scope first stmt) (items_of s scope (first + stmt_sites stmt) stmts), stmt_few scope first stmt, list_few scope (first + stmt_sites stmt) stmts, sum_by-cons stmt_statements stmt stmts)

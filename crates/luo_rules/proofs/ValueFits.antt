@@ -22,8 +22,8 @@ use Rattle.luo_rules.specs.Breaches.{◌or_if_none◌}
 use Rattle.luo_rules.specs.Meanings.{meaning, measure_use, procedure_use, value_of, procedure_of}
 use Rattle.luo_rules.specs.Settings.{meant, no_signature, signature_meant, shape_at, found, place_of, argument_breaches, case_stands}
 use Rattle.luo_rules.specs.Patterns.{has_factors, bound, arm_breaches}
-use Rattle.luo_rules.specs.ValueBreaches.{differs, given_breaches, result_breaches, charge_use, is_atom, part_nodes, branch_at, branch_of, has_branch, misplaced, count_values, count_value_arms, value_breaches, values_breaches, boxed_value_breaches, value_arms_breaches}
-use Rattle.luo_rules.specs.ValueCore.{weight_of, charge_of, value_core, values_core, boxed_value_core, value_arms_core}
+use Rattle.luo_rules.specs.ValueBreaches.{differs, given_breaches, result_breaches, charge_use, is_atom, part_nodes, branch_at, branch_of, has_branch, misplaced, count_values, count_value_arms, value_breaches, values_breaches, value_arms_breaches}
+use Rattle.luo_rules.specs.ValueCore.{weight_of, charge_of, value_core, values_core, value_arms_core}
 use Rattle.luo_rules.proofs.Lists.{some_same, none_some, nil_left, nil_right, none_first, none_then}
 use Rattle.luo_rules.proofs.PatternFacts.{program_over, parts_of, IsFoundIn, found_there, found_one, argument_fits, product_of, factors_length, may_bind, bound_same, arm_fits, case_fits}
 use Rattle.luo_rules.proofs.ProperBodies.{ProperValue, ProperValues, ProperValueArms}
@@ -172,13 +172,13 @@ module _ (s : Setting) (procs : List Procedure) (sites : List Site) (analyses : 
         subst P (sym nodes) fit
     value_fits scope expected (Branch number at inner) p e =
         let form = shape_at s expected in
-        let here = well_placed (has_branch number form) at (decimal number) (nil_left (misplaced (has_branch number form) at (decimal number)) (boxed_value_breaches s scope (branch_of form number) inner) e) in
-        let more = nil_right (misplaced (has_branch number form) at (decimal number)) (boxed_value_breaches s scope (branch_of form number) inner) e in
+        let here = well_placed (has_branch number form) at (decimal number) (nil_left (misplaced (has_branch number form) at (decimal number)) (value_breaches s scope (branch_of form number) inner) e) in
+        let more = nil_right (misplaced (has_branch number form) at (decimal number)) (value_breaches s scope (branch_of form number) inner) e in
         let y = there_is (branch_of form number) here in
         let u = union_of form number y.0 y.1 in
-        let P : Option ℕ → Type 0 = λ o. FitsValue (program_over s procs sites analyses) (parts_of scope) u.branch.part.node (boxed_value_core s scope o inner) in
-        let fit : FitsValue (program_over s procs sites analyses) (parts_of scope) y.0 (boxed_value_core s scope (Some y.0) inner) = boxed_fits scope y.0 inner p.0 p.1 (subst (λ o. boxed_value_breaches s scope o inner ≡ []) y.1 more) in
-        let fit' : P (branch_of form number) = subst P (sym y.1) (subst (λ n. FitsValue (program_over s procs sites analyses) (parts_of scope) n (boxed_value_core s scope (Some y.0) inner)) (sym u.branch.node) fit) in
+        let P : Option ℕ → Type 0 = λ o. FitsValue (program_over s procs sites analyses) (parts_of scope) u.branch.part.node (value_core s scope o inner) in
+        let fit : FitsValue (program_over s procs sites analyses) (parts_of scope) y.0 (value_core s scope (Some y.0) inner) = value_fits scope y.0 inner p (subst (λ o. value_breaches s scope o inner ≡ []) y.1 more) in
+        let fit' : P (branch_of form number) = subst P (sym y.1) (subst (λ n. FitsValue (program_over s procs sites analyses) (parts_of scope) n (value_core s scope (Some y.0) inner)) (sym u.branch.node) fit) in
         (u.parts, u.branch.i, u.branch.part, u.is, u.branch.from_one, u.branch.at, fit')
     value_fits scope expected (Case var arms) p e =
         let c = case_fits s (found scope var) var (count_value_arms arms) (value_arms_breaches s (case_stands s (found scope var)) (Some expected) var arms) e in
@@ -206,11 +206,6 @@ module _ (s : Setting) (procs : List Procedure) (sites : List Site) (analyses : 
       value_fits scope x.node v p.0 (nil_left (value_breaches s scope (Some x.node) v) (values_breaches s scope (nodes_in parts) rest) e),
       values_fit scope parts rest p.1 (omega (arith, l)) (nil_right (value_breaches s scope (Some x.node) v) (values_breaches s scope (nodes_in parts) rest) e),
     )
-
-    boxed_fits : (scope : List Variable) (expected : ℕ) (row : SourceValues) → 1 ≤ count_values row → ProperValues row → boxed_value_breaches s scope (Some expected) row ≡ []
-        → FitsValue (program_over s procs sites analyses) (parts_of scope) expected (boxed_value_core s scope (Some expected) row)
-    boxed_fits scope expected no_source_values l p e = absurd (omega (arith, l))
-    boxed_fits scope expected (a_source_value v rest) l p e = value_fits scope expected v p.0 e
 
     value_arms_fit : (scope : List Variable) (ss : List Stand) (expected : ℕ) (var : Name) (row : SourceValueArms) → ProperValueArms row → length ss ≡ count_value_arms row → value_arms_breaches s ss (Some expected) var row ≡ []
         → FitsValueArms (program_over s procs sites analyses) ss expected (value_arms_core s ss (Some expected) row)

@@ -12,11 +12,11 @@ use Rattle.luo_source.specs.Plain.Values as val
 use Rattle.luo_source.specs.Plain.Values.{SourceValue, SourceValues, no_source_values, a_source_value, SourceValueArms, no_source_value_arms, a_source_value_arm}
 use Rattle.luo_rules.specs.declared.setting.Setting.{Setting}
 use Rattle.luo_rules.specs.declared.setting.Variable.{Variable}
-use Rattle.luo_rules.specs.Statements.{value_statements, values_statements, boxed_value_statements, value_arms_statements}
+use Rattle.luo_rules.specs.Statements.{value_statements, values_statements, value_arms_statements}
 use Rattle.luo_rules.specs.Settings.{found, case_stands}
 use Rattle.luo_rules.specs.Patterns.{bound}
 use Rattle.luo_rules.specs.ValueBreaches.{part_nodes, inner_node, count_values}
-use Rattle.luo_rules.specs.ValueCore.{value_core, values_core, boxed_value_core, value_arms_core}
+use Rattle.luo_rules.specs.ValueCore.{value_core, values_core, value_arms_core}
 use Rattle.luo_rules.proofs.GoodItems.{GoodItems, GoodArms, good_none, good_join, good_call, good_case, good_no_arms, good_arm, own_within, join_in}
 
 abbrev mutual
@@ -106,17 +106,13 @@ module _ (s : Setting) where
     core_small scope expected (val.Made callee arg) = omega arith
     core_small scope expected (val.Atom charge at) = omega arith
     core_small scope expected (val.Tuple parts at) = cores_small scope (part_nodes s expected (count_values parts)) parts
-    core_small scope expected (val.Branch number at inner) = boxed_small scope (inner_node s expected number) inner
+    core_small scope expected (val.Branch number at inner) = core_small scope (inner_node s expected number) inner
     core_small scope expected (val.Case var arms) = omega (arith, arms_small (case_stands s (found scope var)) expected arms)
 
     cores_small : (scope : List Variable) (nodes : List ℕ) (row : SourceValues) → values_size (values_core s scope nodes row) ≤ values_statements row
     cores_small scope nodes no_source_values = omega arith
     cores_small scope [] (a_source_value v rest) = omega (arith, core_small scope None v, cores_small scope [] rest)
     cores_small scope (x ∷ nodes) (a_source_value v rest) = omega (arith, core_small scope (Some x) v, cores_small scope nodes rest)
-
-    boxed_small : (scope : List Variable) (expected : Option ℕ) (row : SourceValues) → value_size (boxed_value_core s scope expected row) ≤ boxed_value_statements row
-    boxed_small scope expected no_source_values = omega arith
-    boxed_small scope expected (a_source_value v rest) = core_small scope expected v
 
     arms_small : (ss : List Stand) (expected : Option ℕ) (row : SourceValueArms) → value_arms_size (value_arms_core s ss expected row) ≤ value_arms_statements row
     arms_small ss expected no_source_value_arms = omega arith
