@@ -3,6 +3,7 @@ use Rattle.std.proofs.Common.{◌≡◌, ℕ, true, List, [], ◌++◌, Option, 
 use Rattle.luo_source.specs.declared.names.Name.{Name}
 use Rattle.luo_source.specs.declared.statements.Pattern.{Pattern}
 use Rattle.luo_model.specs.Scopes.Stands.{Stand}
+use Rattle.luo_model.specs.declared.program.Part.{Part}
 use Rattle.luo_rules.specs.declared.rule.Breach.{Breach}
 use Rattle.luo_rules.specs.declared.rule.Stop.{Stop}
 use Rattle.luo_rules.specs.declared.rule.Stop.TheVariants as stop
@@ -51,12 +52,12 @@ pub StopsAt-body : (s : Setting) (stand : Stand) (var : Name) (pattern : Pattern
 StopsAt-body s stand var pattern body at e f h = subst (λ z. StopsAt z at) (sym (arm-body s stand var pattern body e f)) h
 
 -- a case whose variable is bound, with an arm for each thing to stand for, has the breaches of its arms
-pub case-arms : (s : Setting) (there : Option (ℕ × ℕ)) (variable : ℕ × ℕ) (var : Name) (arms : ℕ) (inner : List Breach) → there ≡ Some variable → nat_eq arms (length (case_stands s there)) ≡ true → case_breaches s there var arms inner ≡ inner
+pub case-arms : (s : Setting) (there : Option (ℕ × Part)) (variable : ℕ × Part) (var : Name) (arms : ℕ) (inner : List Breach) → there ≡ Some variable → nat_eq arms (length (case_stands s there)) ≡ true → case_breaches s there var arms inner ≡ inner
 case-arms s None variable var arms inner e f = cc
 case-arms s (Some v) variable var arms inner e f = rw f refl
 
 -- an arm of such a case stops
-pub StopsAt-case : (s : Setting) (there : Option (ℕ × ℕ)) (variable : ℕ × ℕ) (var : Name) (arms : ℕ) (inner : List Breach) (at : Stop) → there ≡ Some variable → nat_eq arms (length (case_stands s there)) ≡ true → StopsAt inner at → StopsAt (case_breaches s there var arms inner) at
+pub StopsAt-case : (s : Setting) (there : Option (ℕ × Part)) (variable : ℕ × Part) (var : Name) (arms : ℕ) (inner : List Breach) (at : Stop) → there ≡ Some variable → nat_eq arms (length (case_stands s there)) ≡ true → StopsAt inner at → StopsAt (case_breaches s there var arms inner) at
 StopsAt-case s there variable var arms inner at e f h = subst (λ z. StopsAt z at) (sym (case-arms s there variable var arms inner e f)) h
 
 pub ruleset stop_steps = (StopsAt-left, StopsAt-right, StopsAt-first, StopsAt-then, none-append, none-or_if_none, StopsAt-pattern, StopsAt-body, StopsAt-case)

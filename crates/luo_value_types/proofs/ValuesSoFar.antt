@@ -7,6 +7,7 @@ use Rattle.luo_model.specs.declared.value.Value.{Value}
 use Rattle.luo_model.specs.Program as plain
 use Rattle.luo_model.specs.Scopes.ValueBodies.{join_items, value_own, values_own, value_sites, values_sites, value_items, values_items, value_body}
 use Rattle.luo_model.specs.View.{body_of}
+use Rattle.luo_source.specs.View.{source_value_of}
 use Rattle.luo_rules.specs.declared.rule.Stop.{Stop}
 use Rattle.luo_rules.specs.declared.setting.Setting.{Setting}
 use Rattle.luo_rules.specs.declared.setting.Variable.{Variable}
@@ -15,7 +16,8 @@ use Rattle.luo_value_types.specs.inner.Room.{HasMeasuresWithin, HasRoom}
 use Rattle.luo_rules.specs.Statements.{value_statements}
 use Rattle.luo_rules.specs.ValueBreaches.{value_breaches}
 use Rattle.luo_rules.specs.ValueCore.{value_core}
-use Rattle.luo_rules.specs.inner.ValueLists.{parts_breaches, parts_core, parts_statements, value_list, AreMade}
+use Rattle.luo_rules.specs.inner.ValueLists.{value_list, AreMade}
+use Rattle.luo_value_types.specs.inner.Lists.{parts_breaches, parts_core, parts_statements}
 use Rattle.luo_rules.specs.inner.ValueMade.{extended, IsMade}
 use Rattle.luo_rules.proofs.Joins.{items_none, extended_none, extended_assoc, join_values, values_none, values_assoc, values_own_join, values_sites_join, values_items_join, value_list_append}
 use Rattle.std.proofs.lemmas.List.{drop_all, drop_more}
@@ -35,10 +37,10 @@ pub record PartsSoFar (s : Setting) (scope : List Variable) (factors : List Part
   pub room : HasRoom (parts_statements (drop i parts)) new.own next
 
 -- room for what is left behind a value
-room_behind : (s : Setting) (scope : List Variable) (e : Option ℕ) (v : SourceValue) (rest own next own' next' : ℕ) → HasMeasuresWithin s → HasRoom (value_statements v + rest) own next → own' ≡ own + value_own (value_core s scope e v) → next' ≡ next + value_sites (value_core s scope e v) → HasRoom rest own' next'
+room_behind : (s : Setting) (scope : List Variable) (e : Option ℕ) (v : SourceValue) (rest own next own' next' : ℕ) → HasMeasuresWithin s → HasRoom (value_statements (source_value_of v) + rest) own next → own' ≡ own + value_own (value_core s scope e (source_value_of v)) → next' ≡ next + value_sites (value_core s scope e (source_value_of v)) → HasRoom rest own' next'
 room_behind s scope e v rest own next own' next' within room eo en = record {
-  charges = omega (arith, room.charges, own_within s scope e v within, eo);
-  sites = omega (arith, room.sites, sites_within s scope e v, en);
+  charges = omega (arith, room.charges, own_within s scope e (source_value_of v) within, eo);
+  sites = omega (arith, room.sites, sites_within s scope e (source_value_of v), en);
 }
 
 own_is : (a b : Body) (own : ℕ) (items : plain.Items) → body_of b ≡ extended (body_of a) (plain.Does own items) → b.own ≡ a.own + own
@@ -62,19 +64,19 @@ parts_start s scope factors parts made b next e room = record {
 }
 
 -- what is broken from a part on
-parts_breaches_at : (s : Setting) (scope : List Variable) (factors : List Part) (parts : List SourceValue) (i : ℕ) (f : Part) (p : SourceValue) → drop i factors ≡ f ∷ drop (i + 1) factors → drop i parts ≡ p ∷ drop (i + 1) parts → parts_breaches s scope (map (λ p. p.node) (drop i factors)) (drop i parts) ≡ value_breaches s scope (Some f.node) p ++ parts_breaches s scope (map (λ p. p.node) (drop (i + 1) factors)) (drop (i + 1) parts)
+parts_breaches_at : (s : Setting) (scope : List Variable) (factors : List Part) (parts : List SourceValue) (i : ℕ) (f : Part) (p : SourceValue) → drop i factors ≡ f ∷ drop (i + 1) factors → drop i parts ≡ p ∷ drop (i + 1) parts → parts_breaches s scope (map (λ p. p.node) (drop i factors)) (drop i parts) ≡ value_breaches s scope (Some f.node) (source_value_of p) ++ parts_breaches s scope (map (λ p. p.node) (drop (i + 1) factors)) (drop (i + 1) parts)
 parts_breaches_at s scope factors parts i f p ef ep = ap (λ z. parts_breaches s scope (map (λ p. p.node) z) (drop i parts)) ef ∙ ap (parts_breaches s scope (f.node ∷ map (λ p. p.node) (drop (i + 1) factors))) ep
 
-parts_core_at : (s : Setting) (scope : List Variable) (factors : List Part) (parts : List SourceValue) (i : ℕ) (f : Part) (p : SourceValue) → drop i factors ≡ f ∷ drop (i + 1) factors → drop i parts ≡ p ∷ drop (i + 1) parts → parts_core s scope (map (λ p. p.node) (drop i factors)) (drop i parts) ≡ plain.value (value_core s scope (Some f.node) p) (parts_core s scope (map (λ p. p.node) (drop (i + 1) factors)) (drop (i + 1) parts))
+parts_core_at : (s : Setting) (scope : List Variable) (factors : List Part) (parts : List SourceValue) (i : ℕ) (f : Part) (p : SourceValue) → drop i factors ≡ f ∷ drop (i + 1) factors → drop i parts ≡ p ∷ drop (i + 1) parts → parts_core s scope (map (λ p. p.node) (drop i factors)) (drop i parts) ≡ plain.value (value_core s scope (Some f.node) (source_value_of p)) (parts_core s scope (map (λ p. p.node) (drop (i + 1) factors)) (drop (i + 1) parts))
 parts_core_at s scope factors parts i f p ef ep = ap (λ z. parts_core s scope (map (λ p. p.node) z) (drop i parts)) ef ∙ ap (parts_core s scope (f.node ∷ map (λ p. p.node) (drop (i + 1) factors))) ep
 
-pub parts_stop : (s : Setting) (scope : List Variable) (factors : List Part) (parts : List SourceValue) (i : ℕ) (made : List Value) (old new : Body) (first next : ℕ) (f : Part) (p : SourceValue) (stop : Stop) → PartsSoFar s scope factors parts i made old new first next → drop i factors ≡ f ∷ drop (i + 1) factors → drop i parts ≡ p ∷ drop (i + 1) parts → StopsAt (value_breaches s scope (Some f.node) p) stop → StopsAt (parts_breaches s scope (map (λ p. p.node) factors) parts) stop
+pub parts_stop : (s : Setting) (scope : List Variable) (factors : List Part) (parts : List SourceValue) (i : ℕ) (made : List Value) (old new : Body) (first next : ℕ) (f : Part) (p : SourceValue) (stop : Stop) → PartsSoFar s scope factors parts i made old new first next → drop i factors ≡ f ∷ drop (i + 1) factors → drop i parts ≡ p ∷ drop (i + 1) parts → StopsAt (value_breaches s scope (Some f.node) (source_value_of p)) stop → StopsAt (parts_breaches s scope (map (λ p. p.node) factors) parts) stop
 parts_stop s scope factors parts i made old new first next f p stop so ef ep h =
     subst (λ z. StopsAt z stop) (sym (so.unbroken ∙ parts_breaches_at s scope factors parts i f p ef ep)) (StopsAt-left _ _ stop h)
 
-pub parts_more : (s : Setting) (scope : List Variable) (factors : List Part) (parts : List SourceValue) (i : ℕ) (made made' : List Value) (old mid new : Body) (first next next' : ℕ) (f : Part) (p : SourceValue) (v : Value) → HasMeasuresWithin s → PartsSoFar s scope factors parts i made old mid first next → drop i factors ≡ f ∷ drop (i + 1) factors → drop i parts ≡ p ∷ drop (i + 1) parts → IsMade (value_breaches s scope (Some f.node) p) (value_core s scope (Some f.node) p) v mid new next next' → made' ≡ made ++ v ∷ [] → PartsSoFar s scope factors parts (i + 1) made' old new first next'
+pub parts_more : (s : Setting) (scope : List Variable) (factors : List Part) (parts : List SourceValue) (i : ℕ) (made made' : List Value) (old mid new : Body) (first next next' : ℕ) (f : Part) (p : SourceValue) (v : Value) → HasMeasuresWithin s → PartsSoFar s scope factors parts i made old mid first next → drop i factors ≡ f ∷ drop (i + 1) factors → drop i parts ≡ p ∷ drop (i + 1) parts → IsMade (value_breaches s scope (Some f.node) (source_value_of p)) (value_core s scope (Some f.node) (source_value_of p)) v mid new next next' → made' ≡ made ++ v ∷ [] → PartsSoFar s scope factors parts (i + 1) made' old new first next'
 parts_more s scope factors parts i made made' old mid new first next next' f p v within so ef ep m e =
-    let core = value_core s scope (Some f.node) p in
+    let core = value_core s scope (Some f.node) (source_value_of p) in
     let rest = parts_core s scope (map (λ p. p.node) (drop (i + 1) factors)) (drop (i + 1) parts) in
     let listed : value_list made' ≡ join_values (value_list made) (plain.value core plain.no_values) = ap value_list e ∙ value_list_append made (v ∷ []) ∙ ap (λ z. join_values (value_list made) (plain.value z plain.no_values)) m.formed in
     record {

@@ -2,3 +2,4 @@ pub mod Stands
 pub mod Room
 pub mod Callee
 pub mod Values
+pub mod Lists

@@ -1,5 +1,5 @@
 // Patterns: whether they fit what an arm stands for, and what they bind.
-ghost use Rattle.std.specs.Prelude.{◌≡◌, [], ◌∷◌, true, map, IfOk, IfErr, OnOk};
+ghost use Rattle.std.specs.Prelude.{◌≡◌, [], ◌∷◌, true, IfOk, IfErr, OnOk};
 ghost use Rattle.luo_model.specs.Scopes.Stands.{stand_part, factors};
 ghost use Rattle.luo_rules.specs.Breaches.{StopsAt};
 ghost use Rattle.luo_rules.specs.Patterns as spec;
@@ -24,13 +24,13 @@ pub struct Opened {
 }
 
 impl Stand {
-    /// The node of the structures that the arm is about.
-    pub fn node(self) -> usize
-        ensures { result ≡ stand_node (stand_of self) }
+    /// The part of the structures that the arm is about.
+    pub fn part(self) -> Part
+        ensures { result ≡ stand_part (stand_of self) }
     {
         match self {
-            Stand::Inside(node) => node,
-            Stand::Itself(node) => node,
+            Stand::Inside(part) => part,
+            Stand::Itself(part) => part,
         }
     }
 }
@@ -100,8 +100,8 @@ fn fits(setting: &Setting, stand: Stand, pattern: &Pattern) -> bool
     ensures { result ≡ spec.fits setting.now (stand_of stand) pattern.now }
 {
     match stand {
-        Stand::Inside(node) => fits_branch(setting, node, pattern),
-        Stand::Itself(node) => fits_product(setting, node, pattern),
+        Stand::Inside(part) => fits_branch(setting, part.node, pattern),
+        Stand::Itself(part) => fits_product(setting, part.node, pattern),
     }
 }
 
@@ -191,36 +191,35 @@ fn without_repeated_factors(alloc: Global, pattern: &Pattern) -> Result<(), Stop
     }
 }
 
-// A variable of this name and node.
-fn variable_of(alloc: Global, name: &Name, node: usize) -> Result<Variable, AllocError>
-    ensures { IfOk result (λ v. v ≡ record { name = name.now.text; node = node }) }
+// A variable of this name and part.
+fn variable_of(alloc: Global, name: &Name, part: Part) -> Result<Variable, AllocError>
+    ensures { IfOk result (λ v. v ≡ record { name = name.now.text; part = part }) }
 {
     Ok(Variable {
         name: Items::from_slice(alloc, name.text.as_slice())?,
-        node,
+        part,
     })
 }
 
 // The one variable of a pattern that binds the whole.
-fn whole_of(alloc: Global, name: &Name, node: usize) -> Result<Items<Variable>, AllocError>
-    ensures { IfOk result (λ vs. vs ≡ record { name = name.now.text; node = node } ∷ []) }
+fn whole_of(alloc: Global, name: &Name, part: Part) -> Result<Items<Variable>, AllocError>
+    ensures { IfOk result (λ vs. vs ≡ record { name = name.now.text; part = part } ∷ []) }
 {
     let mut made = Items::new(alloc);
-    made.push(variable_of(alloc, name, node)?)?;
+    made.push(variable_of(alloc, name, part)?)?;
     Ok(made)
 }
 
 // Variables of these names, for these factors.
 fn variables(alloc: Global, names: &[Name], parts: &[Part]) -> Result<Items<Variable>, AllocError>
-    ensures { IfOk result (λ vs. vs
-        ≡ spec.variables names.now (map (λ part. part.node) parts.now)) }
+    ensures { IfOk result (λ vs. vs ≡ spec.variables names.now parts.now) }
 {
     let mut made = Items::new(alloc);
     for (i, name) in names.iter().enumerate() {
         let Some(part) = parts.get(i) else {
             break;
         };
-        made.push(variable_of(alloc, name, part.node)?)?;
+        made.push(variable_of(alloc, name, *part)?)?;
     }
     Ok(made)
 }
@@ -267,13 +266,13 @@ fn bound(
     ensures { IfOk result (λ vs. vs ≡ spec.bound setting.now (stand_of stand) pattern.now) }
 {
     match pattern {
-        Pattern::NamedWhole(_, name) => whole_of(alloc, name, stand.node()),
-        Pattern::AnyWhole { name, .. } => whole_of(alloc, name, stand.node()),
+        Pattern::NamedWhole(_, name) => whole_of(alloc, name, stand.part()),
+        Pattern::AnyWhole { name, .. } => whole_of(alloc, name, stand.part()),
         Pattern::NamedParts(_, names) => {
-            factor_variables(alloc, setting, names.as_slice(), stand.node())
+            factor_variables(alloc, setting, names.as_slice(), stand.part().node)
         }
         Pattern::Parts { names, .. } => {
-            factor_variables(alloc, setting, names.as_slice(), stand.node())
+            factor_variables(alloc, setting, names.as_slice(), stand.part().node)
         }
         _ => Ok(Items::new(alloc)),
     }

@@ -6,25 +6,26 @@ ghost use Rattle.luo_rules.specs.Settings.{signature_meant, found, place_of, var
 
 use crate::context::Context;
 use crate::uses::breach_at;
+use luo_model::Part;
 use luo_num::Items;
 use luo_rules::{Breach, Meaning, Rule, Stop, Variable};
 use luo_source::Name;
 use std::alloc::{AllocError, Global};
 
-/// The first variable of this name: its place in the scope, and its node.
-pub fn find(scope: &[Variable], name: &Name) -> Option<(usize, usize)>
+/// The first variable of this name: its place in the scope, and its part.
+pub fn find(scope: &[Variable], name: &Name) -> Option<(usize, Part)>
     ensures { result ≡ found scope.now name.now }
 {
     for (i, variable) in scope.iter().enumerate() {
         if variable.name.as_slice() == name.text.as_slice() {
-            return Some((i, variable.node));
+            return Some((i, variable.part));
         }
     }
     None
 }
 
-/// The place and the node of a variable that has to be bound.
-pub fn variable(context: &Context<'_>, name: &Name) -> Result<(usize, usize), Stop>
+/// The place and the part of a variable that has to be bound.
+pub fn variable(context: &Context<'_>, name: &Name) -> Result<(usize, Part), Stop>
     ensures ok { IfOk result (λ v. found context.now.scope.now name.now ≡ Some v) }
     ensures stops { IfErr result (StopsAt
         (variable_use (found context.now.scope.now name.now) name.now)) }
@@ -76,12 +77,12 @@ pub fn argument(
         (argument_breaches (found context.now.scope.now arg.now)
         (signature_meant context.now.setting.now callee_meant).on arg.now callee.now) s) }
 {
-    let Some((place, node)) = find(context.scope, arg) else {
+    let Some((place, part)) = find(context.scope, arg) else {
         return Err(breach_at(context.alloc, Rule::Y13, arg));
     };
     let on = context.setting.signature_meant(callee_meant).on;
     match on {
-        Some(wanted) if wanted != node => Err(other_type(context.alloc, arg, callee)),
+        Some(wanted) if wanted != part.node => Err(other_type(context.alloc, arg, callee)),
         _ => Ok(place),
     }
 }

@@ -11,22 +11,22 @@ ghost use Rattle.luo_rules.specs.declared.rule.Breach.{Breach};
 use crate::context::Context;
 use crate::scope::variable;
 use crate::uses::breach_at;
-use luo_model::Shape;
+use luo_model::{Part, Shape};
 use luo_rules::{Rule, Setting, Stop};
 use luo_source::Name;
 
-/// What an arm stands for, by its node.
+/// What an arm stands for, by its part.
 #[derive(Clone, Copy, Debug, PartialEq, Eq)]
 pub enum Stand {
     /// A branch of a union.
-    Inside(usize),
+    Inside(Part),
     /// A product itself.
-    Itself(usize),
+    Itself(Part),
 }
 
-// How many things the arms of a case on a node of this construct stand for.
-fn count_in(shape: &Shape, node: usize) -> usize
-    ensures { result ≡ length (stands node shape.now) }
+// How many things the arms of a case on a part of this construct stand for.
+fn count_in(shape: &Shape, on: Part) -> usize
+    ensures { result ≡ length (stands on shape.now) }
 {
     match shape {
         Shape::Union { parts } => parts.len(),
@@ -35,44 +35,44 @@ fn count_in(shape: &Shape, node: usize) -> usize
     }
 }
 
-// What the arm at this place stands for, in a case on a node of this construct.
-fn stand_in(shape: &Shape, node: usize, place: usize) -> Option<Stand>
-    ensures { option_map stand_of result ≡ slice_get (stands node shape.now) place }
+// What the arm at this place stands for, in a case on a part of this construct.
+fn stand_in(shape: &Shape, on: Part, place: usize) -> Option<Stand>
+    ensures { option_map stand_of result ≡ slice_get (stands on shape.now) place }
 {
     match shape {
         Shape::Union { parts } => match parts.get(place) {
-            Some(part) => Some(Stand::Inside(part.node)),
+            Some(part) => Some(Stand::Inside(*part)),
             None => None,
         },
-        Shape::Product { .. } if place == 0 => Some(Stand::Itself(node)),
+        Shape::Product { .. } if place == 0 => Some(Stand::Itself(on)),
         _ => None,
     }
 }
 
-/// How many arms a case on this node has.
-pub fn stand_count(setting: &Setting, node: usize) -> usize
-    ensures { result ≡ length (stands node (shape_at setting.now node)) }
+/// How many arms a case on this part has.
+pub fn stand_count(setting: &Setting, on: Part) -> usize
+    ensures { result ≡ length (stands on (shape_at setting.now on.node)) }
 {
-    match setting.shape(node) {
-        Some(shape) => count_in(shape, node),
+    match setting.shape(on.node) {
+        Some(shape) => count_in(shape, on),
         None => 0,
     }
 }
 
-/// What the arm at this place stands for, in a case on this node.
-pub fn stand_at(setting: &Setting, node: usize, place: usize) -> Option<Stand>
+/// What the arm at this place stands for, in a case on this part.
+pub fn stand_at(setting: &Setting, on: Part, place: usize) -> Option<Stand>
     ensures { option_map stand_of result
-        ≡ slice_get (stands node (shape_at setting.now node)) place }
+        ≡ slice_get (stands on (shape_at setting.now on.node)) place }
 {
-    match setting.shape(node) {
-        Some(shape) => stand_in(shape, node, place),
+    match setting.shape(on.node) {
+        Some(shape) => stand_in(shape, on, place),
         None => None,
     }
 }
 
-/// The place and the node of the variable of a case with so many arms. It has to be bound, and of a
+/// The place and the part of the variable of a case with so many arms. It has to be bound, and of a
 /// union of so many branches, or of a product where there is one arm.
-pub fn case_variable(context: &Context<'_>, var: &Name, arms: usize) -> Result<(usize, usize), Stop>
+pub fn case_variable(context: &Context<'_>, var: &Name, arms: usize) -> Result<(usize, Part), Stop>
     ensures ok { IfOk result (λ v. found context.now.scope.now var.now ≡ Some v) }
     ensures arms { OnOk result (nat_eq arms
         (length (case_stands context.now.setting.now

@@ -27,7 +27,7 @@ pub(crate) fn given(context: &Context<'_>, expected: usize, name: &Name) -> Resu
         result (λ i. i ≡ place_of (found context.now.scope.now name.now)) }
 {
     let there = variable(context, name)?;
-    if there.1 == expected {
+    if there.1.node == expected {
         Ok(there.0)
     } else {
         Err(breach_at(context.alloc, Rule::Y15, name))

@@ -2,7 +2,8 @@
 ghost use Rattle.std.specs.Prelude.{◌≡◌};
 ghost use Rattle.luo_num.specs.Mark.{capped};
 ghost use Rattle.luo_rules.specs.Statements.{value_statements};
-ghost use Rattle.luo_rules.specs.inner.ValueLists.{parts_statements, arms_statements};
+ghost use Rattle.luo_source.specs.View.{source_value_of};
+ghost use Rattle.luo_value_types.specs.inner.Lists.{parts_statements, arms_statements};
 
 use luo_num::marked_add;
 use luo_source::{SourceValue, SourceValueArm};
@@ -11,7 +12,7 @@ use luo_source::{SourceValue, SourceValueArm};
 /// one; a tuple, a branch and a case have what is inside as well.
 #[cycle(value_statements)]
 pub fn count_statements(value: &SourceValue) -> u128
-    ensures { result ≡ capped (value_statements value.now) }
+    ensures { result ≡ capped (value_statements (source_value_of value.now)) }
 {
     match value {
         SourceValue::Given(_) => 1,

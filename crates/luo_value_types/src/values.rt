@@ -5,7 +5,8 @@ ghost use Rattle.luo_source.specs.declared.values.SourceValue as source;
 ghost use Rattle.luo_model.specs.Scopes.Stands.{stands};
 ghost use Rattle.luo_rules.specs.Settings.{shape_at};
 ghost use Rattle.luo_rules.specs.Statements.{value_statements};
-ghost use Rattle.luo_rules.specs.inner.ValueLists.{parts_statements, arms_statements};
+ghost use Rattle.luo_source.specs.View.{source_value_of};
+ghost use Rattle.luo_value_types.specs.inner.Lists.{parts_statements, arms_statements};
 ghost use Rattle.luo_value_types.specs.inner.Stands.{stand_of};
 ghost use Rattle.luo_value_types.specs.inner.Room.{HasMeasuresWithin, HasFewBranches, HasRoom};
 ghost use Rattle.luo_value_types.specs.inner.Values.{HasRoomFor, ChecksValue, ChecksParts};
@@ -36,7 +37,7 @@ pub fn value(
 ) -> Result<Value, Stop>
     requires measures { HasMeasuresWithin context.now.setting.now }
     requires branches { HasFewBranches context.now.setting.now }
-    requires room { HasRoomFor (value_statements value.now) maker.old }
+    requires room { HasRoomFor (value_statements (source_value_of value.now)) maker.old }
     ensures { ChecksValue context.now.setting.now context.now.scope.now expected value.now
         result maker.old maker.new }
 {
@@ -65,7 +66,7 @@ fn call(
     arg: &Name,
     maker: &mut Maker,
 ) -> Result<Value, Stop>
-    requires { HasRoomFor (value_statements (source.Made callee.now arg.now)) maker.old }
+    requires { HasRoomFor (value_statements (source_value_of (source.Made callee.now arg.now))) maker.old }
     ensures { ChecksValue context.now.setting.now context.now.scope.now expected
         (source.Made callee.now arg.now)
         result maker.old maker.new }
@@ -119,7 +120,7 @@ fn tuple(
 ) -> Result<Value, Stop>
     requires measures { HasMeasuresWithin context.now.setting.now }
     requires branches { HasFewBranches context.now.setting.now }
-    requires room { HasRoomFor (value_statements (source.Tuple parts.now at)) maker.old }
+    requires room { HasRoomFor (value_statements (source_value_of (source.Tuple parts.now at))) maker.old }
     ensures { ChecksValue context.now.setting.now context.now.scope.now expected
         (source.Tuple parts.now at)
         result maker.old maker.new }
@@ -167,8 +168,8 @@ fn branch(
 ) -> Result<Value, Stop>
     requires measures { HasMeasuresWithin context.now.setting.now }
     requires branches { HasFewBranches context.now.setting.now }
-    requires room { HasRoomFor (value_statements (source.Branch place.0 place.1 inner.now))
-        maker.old }
+    requires room { HasRoomFor (value_statements
+        (source_value_of (source.Branch place.0 place.1 inner.now))) maker.old }
     ensures { ChecksValue context.now.setting.now context.now.scope.now expected
         (source.Branch place.0 place.1 inner.now)
         result maker.old maker.new }
@@ -197,7 +198,7 @@ fn case(
 ) -> Result<Value, Stop>
     requires measures { HasMeasuresWithin context.now.setting.now }
     requires branches { HasFewBranches context.now.setting.now }
-    requires room { HasRoomFor (value_statements (source.Case var.now arms.now)) maker.old }
+    requires room { HasRoomFor (value_statements (source_value_of (source.Case var.now arms.now))) maker.old }
     ensures { ChecksValue context.now.setting.now context.now.scope.now expected
         (source.Case var.now arms.now)
         result maker.old maker.new }
@@ -217,11 +218,11 @@ fn case(
     })
 }
 
-// The arms of a case on a variable of this node: those of the value, and those of the body.
+// The arms of a case on a variable of this part: those of the value, and those of the body.
 #[cycle(values)]
 fn all_arms(
     context: &Context<'_>,
-    node: usize,
+    on: Part,
     expected: usize,
     var: &Name,
     arms: &[SourceValueArm],
@@ -230,15 +231,15 @@ fn all_arms(
     requires measures { HasMeasuresWithin context.now.setting.now }
     requires branches { HasFewBranches context.now.setting.now }
     requires each { length arms.now
-        ≡ length (stands node (shape_at context.now.setting.now node)) }
+        ≡ length (stands on (shape_at context.now.setting.now on.node)) }
     requires room { HasRoom (arms_statements arms.now) 0 next.old }
-    ensures { ChecksArms context.now.setting.now node expected var.now arms.now
+    ensures { ChecksArms context.now.setting.now on expected var.now arms.now
         result next.old next.new }
 {
     let mut values = Items::new(context.alloc);
     let mut bodies = Items::new(context.alloc);
     for (i, arm) in arms.iter().enumerate() {
-        let Some(stand) = stand_at(context.setting, node, i) else {
+        let Some(stand) = stand_at(context.setting, on, i) else {
             unreachable!()
         };
         let made = one_arm(context, stand, expected, var, arm, next)?;
@@ -260,7 +261,7 @@ fn one_arm(
 ) -> Result<(ValueArm, Arm), Stop>
     requires measures { HasMeasuresWithin context.now.setting.now }
     requires branches { HasFewBranches context.now.setting.now }
-    requires room { HasRoom (value_statements arm.now.body) 0 next.old }
+    requires room { HasRoom (value_statements (source_value_of arm.now.body)) 0 next.old }
     ensures { ChecksArm context.now.setting.now (stand_of stand) expected var.now arm.now
         result next.old next.new }
 {

@@ -3,6 +3,7 @@ use Rattle.std.specs.Prelude.{ℕ, List, [], ◌∷◌, Some, map, Result}
 use Rattle.luo_source.specs.declared.names.Name.{Name}
 use Rattle.luo_source.specs.declared.values.SourceValue.{SourceValue}
 use Rattle.luo_source.specs.declared.values.SourceValueArm.{SourceValueArm}
+use Rattle.luo_source.specs.View.{source_value_of}
 use Rattle.luo_model.specs.declared.body.Arm.{Arm}
 use Rattle.luo_model.specs.declared.program.Part.{Part}
 use Rattle.luo_model.specs.declared.value.Value.{Value}
@@ -14,9 +15,10 @@ use Rattle.luo_rules.specs.declared.setting.Variable.{Variable}
 use Rattle.luo_rules.specs.Settings.{shape_at}
 use Rattle.luo_rules.specs.ValueBreaches.{value_breaches}
 use Rattle.luo_rules.specs.ValueCore.{value_core}
-use Rattle.luo_rules.specs.inner.ValueLists.{parts_breaches, parts_core, arms_breaches, arms_core, AreMade, ArmsAreMade, ArmIsMade}
+use Rattle.luo_rules.specs.inner.ValueLists.{AreMade, ArmsAreMade, ArmIsMade}
 use Rattle.luo_rules.specs.inner.ValueMade.{IsMade}
 use Rattle.luo_value_types.specs.Checks.{Checks}
+use Rattle.luo_value_types.specs.inner.Lists.{parts_breaches, parts_core, arms_breaches, arms_core}
 use Rattle.luo_value_types.specs.inner.Room.{HasRoom}
 use Rattle.luo_value_types.specs.declared.context.Maker.{Maker}
 
@@ -28,8 +30,8 @@ HasRoomFor statements m = HasRoom statements m.body.own m.next
 abbrev pub ChecksValue : Setting → List Variable → ℕ → SourceValue
     → Result Value Stop → Maker → Maker → Type 0
 ChecksValue s scope e v result old new =
-    let breaches = value_breaches s scope (Some e) v in
-    let core = value_core s scope (Some e) v in
+    let breaches = value_breaches s scope (Some e) (source_value_of v) in
+    let core = value_core s scope (Some e) (source_value_of v) in
     Checks breaches result (λ m. IsMade breaches core m old.body new.body old.next new.next)
 
 -- the check of parts, of which the nodes of these are expected
@@ -40,11 +42,11 @@ ChecksParts s scope factors parts result old new =
     let core = parts_core s scope (map (λ p. p.node) factors) parts in
     Checks breaches result (λ vs. AreMade breaches core vs old.body new.body old.next new.next)
 
--- the check of the arms of a case on a variable of this node: those of the value, and of the body
-abbrev pub ChecksArms : Setting → ℕ → ℕ → Name → List SourceValueArm
+-- the check of the arms of a case on a variable of this part: those of the value, and of the body
+abbrev pub ChecksArms : Setting → Part → ℕ → Name → List SourceValueArm
     → Result (List ValueArm × List Arm) Stop → ℕ → ℕ → Type 0
-ChecksArms s node e var arms result first next =
-    let all = stands node (shape_at s node) in
+ChecksArms s on e var arms result first next =
+    let all = stands on (shape_at s on.node) in
     let breaches = arms_breaches s all (Some e) var arms in
     let core = arms_core s all (Some e) arms in
     Checks breaches result (λ made. ArmsAreMade breaches core made.0 made.1 first next)

@@ -1,5 +1,5 @@
 use Rattle.std.proofs.Common.{drop}
-use Rattle.luo_rules.specs.inner.ValueLists.{parts_statements, arms_statements}
+use Rattle.luo_value_types.specs.inner.Lists.{parts_statements, arms_statements}
 use Rattle.luo_value_types.proofs.StatementLemmas.{CountedSoFar}
 use Rattle.luo_value_types.proofs.value_statements.+value_statements.Given as goal
 

@@ -30,7 +30,7 @@ all_parts-returns t c =
 
 pub all_arms-returns : goal.all_arms-returns
 all_arms-returns t c =
-    let m = arms_end c.args.context.now.setting.now (stands c.args.node (shape_at c.args.context.now.setting.now c.args.node)) (Some c.args.expected) c.args.var.now c.args.arms.now c.loop-i.i c.loop-i.values c.loop-i.bodies c.args.next.now c.loop-i.next c.loop-i-test.false c.loop-i.invariant in
+    let m = arms_end c.args.context.now.setting.now (stands c.args.on (shape_at c.args.context.now.setting.now c.args.on.node)) (Some c.args.expected) c.args.var.now c.args.arms.now c.loop-i.i c.loop-i.values c.loop-i.bodies c.args.next.now c.loop-i.next c.loop-i-test.false c.loop-i.invariant in
     (m.unbroken, (m, tt))
 
 pub branch-overflow_cast-result : goal.branch-overflow_cast-result
@@ -68,7 +68,7 @@ case-returns t c =
 
 pub case-overflow_add-maker : goal.case-overflow_add-maker
 case-overflow_add-maker t c =
-    record { fits = case_next_small c.args.context.now.setting.now (stands c.in_ok-there.there.1 (shape_at c.args.context.now.setting.now c.in_ok-there.there.1)) (Some c.args.expected) c.args.var.now c.args.arms.now c.args.maker.now.body.own c.args.maker.now.next c.all_arms.new.next c.requires.room c.in_ok-made.ensures.1.0.numbered }
+    record { fits = case_next_small c.args.context.now.setting.now (stands c.in_ok-there.there.1 (shape_at c.args.context.now.setting.now c.in_ok-there.there.1.node)) (Some c.args.expected) c.args.var.now c.args.arms.now c.args.maker.now.body.own c.args.maker.now.next c.all_arms.new.next c.requires.room c.in_ok-made.ensures.1.0.numbered }
 
 pub case-all_arms-requires : goal.case-all_arms-requires
 case-all_arms-requires t c =
@@ -122,4 +122,4 @@ pub all_arms-returns-in_err-made : goal.all_arms-returns-in_err-made
 all_arms-returns-in_err-made t c =
     let at_arm = drop_at c.args.arms.now c.loop-i.i c.index-arms-i.result c.loop-i-test.true c.index-arms-i.is in
     stopped c.from_residual.result _ _ _ c.from_residual.ensures.1
-    (arms_stop c.args.context.now.setting.now (stands c.args.node (shape_at c.args.context.now.setting.now c.args.node)) (Some c.args.expected) c.args.var.now c.args.arms.now c.loop-i.i c.loop-i.values c.loop-i.bodies c.args.next.now c.loop-i.next (stand_of c.in-Some.stand) c.index-arms-i.result _ c.loop-i.invariant (drop-slice_get _ c.loop-i.i (stand_of c.in-Some.stand) (sym c.in-Some.ensures)) at_arm c.in_err-made.ensures.1.1)
+    (arms_stop c.args.context.now.setting.now (stands c.args.on (shape_at c.args.context.now.setting.now c.args.on.node)) (Some c.args.expected) c.args.var.now c.args.arms.now c.loop-i.i c.loop-i.values c.loop-i.bodies c.args.next.now c.loop-i.next (stand_of c.in-Some.stand) c.index-arms-i.result _ c.loop-i.invariant (drop-slice_get _ c.loop-i.i (stand_of c.in-Some.stand) (sym c.in-Some.ensures)) at_arm c.in_err-made.ensures.1.1)
