@@ -16,7 +16,7 @@ use Rattle.luo_source.specs.declared.values.SourceValue.{SourceValue, Row_of-Sou
 use Rattle.luo_source.specs.Plain.Types as types
 use Rattle.luo_source.specs.Plain.Statements as statements
 use Rattle.luo_source.specs.Plain.Values as values
-use Rattle.luo_source.specs.View.{expr_of, exprs_of, expr_list, stmt_of, stmts_of, stmt_list, source_arms_of, source_arm_list, source_value_of, source_values_of, source_value_list, source_value_arms_of, source_value_arm_list}
+use Rattle.luo_source.specs.View.{expr_of, exprs_of, expr_list, held_expr, held_exprs, stmt_of, stmts_of, stmt_list, source_arms_of, source_arm_list, source_value_of, source_values_of, source_value_list, source_value_arms_of, source_value_arm_list}
 
 exprs_row : (k : _) (row : Row_of-TypeExpr k) → exprs_of row ≡ expr_list (items-the_row-TypeExpr k row)
 exprs_row k end_of-TypeExpr = refl
@@ -88,3 +88,17 @@ branch_value number at inner = refl
 
 pub case_value : (var : Name) (arms : List SourceValueArm) → source_value_of (val.Case var arms) ≡ values.Case var (source_value_arm_list arms)
 case_value var arms = let row = value_arms_in (val.Case var arms) in ap (values.Case var) (value_arms_row row.0 row.1 ∙ ap source_value_arm_list (items_hidden-the_row-SourceValueArm-2 arms))
+
+mutual
+  -- what the code holds of a type expression is seen as it
+  pub held-shown : (e : types.TypeExpr) → expr_of (held_expr e) ≡ e
+  held-shown (types.Named name) = refl
+  held-shown (types.Epsilon at) = refl
+  held-shown (types.Atom weight weight_at at) = refl
+  held-shown (types.Union parts) = union_expr (held_exprs parts) ∙ ap types.Union (all_held-shown parts)
+  held-shown (types.Product parts at) = product_expr (held_exprs parts) at ∙ ap (λ z. types.Product z at) (all_held-shown parts)
+  held-shown (types.Coll kind part bound at) = coll_expr kind (held_expr part) bound at ∙ ap (λ z. types.Coll kind z bound at) (held-shown part)
+
+  all_held-shown : (es : types.TypeExprs) → expr_list (held_exprs es) ≡ es
+  all_held-shown types.no_exprs = refl
+  all_held-shown (types.an_expr e rest) = ap (λ z. types.an_expr z (expr_list (held_exprs rest))) (held-shown e) ∙ ap (types.an_expr e) (all_held-shown rest)

@@ -1,6 +1,6 @@
 -- The source of the code as plain data.
 use Rattle.std.specs.Prelude.{List, [], ◌∷◌, map}
-use Rattle.luo_source.specs.declared.types.TypeExpr.{TypeExpr, Named, Epsilon, Atom, Union', Product', Coll', Row_of-TypeExpr, end_of-TypeExpr, more_of-TypeExpr}
+use Rattle.luo_source.specs.declared.types.TypeExpr.{TypeExpr, Named, Epsilon, Atom, Union, Union', Product, Product', Coll, Coll', Row_of-TypeExpr, end_of-TypeExpr, more_of-TypeExpr}
 use Rattle.luo_source.specs.declared.types.TypeDef.{TypeDef}
 use Rattle.luo_source.specs.declared.statements.Stmt.{Stmt, Skip, Charge, Call, Block', Case', Forall', Row_of-Stmt, end_of-Stmt, more_of-Stmt, Row_of-SourceArm, end_of-SourceArm, more_of-SourceArm}
 use Rattle.luo_source.specs.declared.statements.SourceArm.{SourceArm}
@@ -79,6 +79,20 @@ abbrev mutual
   source_value_arms_of end_of-SourceValueArm = values.no_source_value_arms
   source_value_arms_of (more_of-SourceValueArm pattern body rest) =
       values.a_source_value_arm pattern (source_value_of body) (source_value_arms_of rest)
+
+abbrev mutual
+  -- the type expression of the code that is seen so
+  pub held_expr : types.TypeExpr → TypeExpr
+  held_expr (types.Named name) = Named name
+  held_expr (types.Epsilon at) = Epsilon at
+  held_expr (types.Atom weight weight_at at) = Atom weight weight_at at
+  held_expr (types.Union parts) = Union (held_exprs parts)
+  held_expr (types.Product parts at) = Product (held_exprs parts) at
+  held_expr (types.Coll kind part bound at) = Coll kind (held_expr part) bound at
+
+  pub held_exprs : types.TypeExprs → List TypeExpr
+  held_exprs types.no_exprs = []
+  held_exprs (types.an_expr e rest) = held_expr e ∷ held_exprs rest
 
 -- parts in lists
 abbrev pub expr_list : List TypeExpr → types.TypeExprs
