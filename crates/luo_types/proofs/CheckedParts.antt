@@ -11,7 +11,7 @@ use Rattle.luo_model.specs.Invariant.{IsProgram, IsAllowed, inner_parts}
 use Rattle.luo_model.specs.Program as plain
 use Rattle.luo_model.specs.Program.{no_node}
 use Rattle.luo_model.specs.View.{plain_of, procedure_of}
-use Rattle.luo_source.specs.declared.source.Source.{Source}
+use Rattle.luo_source.specs.Plain.Source.{Source}
 use Rattle.luo_rules.specs.declared.names.Meaning.TheVariants.{Measure}
 use Rattle.luo_rules.specs.declared.rule.Breach.{Breach}
 use Rattle.luo_rules.specs.declared.rule.Stop.{Stop}

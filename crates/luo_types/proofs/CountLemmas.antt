@@ -1,82 +1,77 @@
 -- Counts in the lists and boxes of type expressions.
-use Rattle.std.proofs.Common.{◌≡◌, ℕ, suc, ◌+◌, max, List, length, refl, ap, ◌∙◌, sym, subst, arith, Option, sum_by}
-use mathlib.Core.Former.{Count}
-use denote.Hole.Carrier.{hidden}
+use Rattle.std.proofs.Common.{◌≡◌, ℕ, suc, ◌+◌, max, List, [], ◌∷◌, length, refl, ap, ◌∙◌, sym, subst, Option, sum_by}
 use Rattle.std.proofs.lemmas.List.Sums.{sum_by-cons}
 use Rattle.luo_model.specs.declared.program.Kind.{Kind}
 use Rattle.luo_source.specs.declared.types.Bound.{Bound}
-use Rattle.luo_source.specs.declared.types.TypeExpr.{TypeExpr, Union, Union', Product, Product', Coll, Row_of-TypeExpr, end_of-TypeExpr, more_of-TypeExpr, items-the_row-TypeExpr, items_hidden-the_row-TypeExpr-0}
+use Rattle.luo_source.specs.declared.types.TypeExpr.{TypeExpr, Union, Product, Coll}
+use Rattle.luo_source.specs.View.{expr_of, expr_list}
+use Rattle.luo_source.proofs.ViewLemmas.{union_expr, product_expr, coll_expr}
 use Rattle.luo_rules.specs.Counted.{multiset_of, greatest_of, own_nodes, own_nodes_of, own_multisets, own_multisets_of, most_parts, most_parts_of, greatest_bound, greatest_bound_of, greatest_by, count_exprs}
+use Rattle.luo_types.specs.inner.Held.{nodes_in, multisets_in, parts_in, bound_in}
 
-nodes_row : (n : _) (row : Row_of-TypeExpr n) → own_nodes_of row ≡ sum_by own_nodes (items-the_row-TypeExpr n row)
-nodes_row n end_of-TypeExpr = refl
-nodes_row n (more_of-TypeExpr e rest) = ap (λ k. own_nodes e + k) (nodes_row _ rest) ∙ sym (sum_by-cons own_nodes e (items-the_row-TypeExpr _ rest))
+pub nodes_list : (es : List TypeExpr) → own_nodes_of (expr_list es) ≡ sum_by nodes_in es
+nodes_list [] = refl
+nodes_list (e ∷ es) = ap (λ k. nodes_in e + k) (nodes_list es) ∙ sym (sum_by-cons nodes_in e es)
 
-multisets_row : (n : _) (row : Row_of-TypeExpr n) → own_multisets_of row ≡ sum_by own_multisets (items-the_row-TypeExpr n row)
-multisets_row n end_of-TypeExpr = refl
-multisets_row n (more_of-TypeExpr e rest) = ap (λ k. own_multisets e + k) (multisets_row _ rest) ∙ sym (sum_by-cons own_multisets e (items-the_row-TypeExpr _ rest))
+multisets_list : (es : List TypeExpr) → own_multisets_of (expr_list es) ≡ sum_by multisets_in es
+multisets_list [] = refl
+multisets_list (e ∷ es) = ap (λ k. multisets_in e + k) (multisets_list es) ∙ sym (sum_by-cons multisets_in e es)
 
-parts_row : (n : _) (row : Row_of-TypeExpr n) → most_parts_of row ≡ greatest_by most_parts (items-the_row-TypeExpr n row)
-parts_row n end_of-TypeExpr = refl
-parts_row n (more_of-TypeExpr e rest) = ap (λ k. max (most_parts e) k) (parts_row _ rest)
+parts_list : (es : List TypeExpr) → most_parts_of (expr_list es) ≡ greatest_by parts_in es
+parts_list [] = refl
+parts_list (e ∷ es) = ap (λ k. max (parts_in e) k) (parts_list es)
 
-bound_row : (n : _) (row : Row_of-TypeExpr n) → greatest_bound_of row ≡ greatest_by greatest_bound (items-the_row-TypeExpr n row)
-bound_row n end_of-TypeExpr = refl
-bound_row n (more_of-TypeExpr e rest) = ap (λ k. max (greatest_bound e) k) (bound_row _ rest)
+bound_list : (es : List TypeExpr) → greatest_bound_of (expr_list es) ≡ greatest_by bound_in es
+bound_list [] = refl
+bound_list (e ∷ es) = ap (λ k. max (bound_in e) k) (bound_list es)
 
-length_row : (n : _) (row : Row_of-TypeExpr n) → count_exprs row ≡ length (items-the_row-TypeExpr n row)
-length_row n end_of-TypeExpr = refl
-length_row n (more_of-TypeExpr e rest) = ap suc (length_row _ rest)
-
-abbrev row_in : TypeExpr → (n : Count) × Row_of-TypeExpr n
-row_in (Union' _ row) = (_, row)
-row_in (Product' _ row _) = (_, row)
-row_in _ = (_, end_of-TypeExpr)
+length_list : (es : List TypeExpr) → count_exprs (expr_list es) ≡ length es
+length_list [] = refl
+length_list (e ∷ es) = ap suc (length_list es)
 
 -- what is counted in an expression whose parts are these
 pub record Counts (e : TypeExpr) (es : List TypeExpr) : Type 0 where
-  pub nodes : own_nodes e ≡ suc (sum_by own_nodes es)
-  pub multisets : own_multisets e ≡ sum_by own_multisets es
-  pub parts : most_parts e ≡ max (length es) (greatest_by most_parts es)
-  pub bound : greatest_bound e ≡ greatest_by greatest_bound es
+  pub nodes : nodes_in e ≡ suc (sum_by nodes_in es)
+  pub multisets : multisets_in e ≡ sum_by multisets_in es
+  pub parts : parts_in e ≡ max (length es) (greatest_by parts_in es)
+  pub bound : bound_in e ≡ greatest_by bound_in es
 
 pub union_counts : (es : List TypeExpr) → Counts (Union es) es
 union_counts es =
-    let row = row_in (Union es) in
-    let is = items_hidden-the_row-TypeExpr-0 es in
+    let is = union_expr es in
     record {
-      nodes = ap suc (nodes_row row.0 row.1 ∙ ap (sum_by own_nodes) is);
-      multisets = multisets_row row.0 row.1 ∙ ap (sum_by own_multisets) is;
-      parts = ap (λ k. max k (most_parts_of row.1)) (length_row row.0 row.1 ∙ ap length is) ∙ ap (max (length es)) (parts_row row.0 row.1 ∙ ap (greatest_by most_parts) is);
-      bound = bound_row row.0 row.1 ∙ ap (greatest_by greatest_bound) is;
+      nodes = ap own_nodes is ∙ ap suc (nodes_list es);
+      multisets = ap own_multisets is ∙ multisets_list es;
+      parts = ap most_parts is ∙ ap (λ k. max k (most_parts_of (expr_list es))) (length_list es) ∙ ap (max (length es)) (parts_list es);
+      bound = ap greatest_bound is ∙ bound_list es;
     }
 
 pub product_counts : (es : List TypeExpr) (at : ℕ) → Counts (Product es at) es
 product_counts es at =
-    let row = row_in (Product es at) in
-    let is = items_hidden-the_row-TypeExpr-0 es in
+    let is = product_expr es at in
     record {
-      nodes = ap suc (nodes_row row.0 row.1 ∙ ap (sum_by own_nodes) is);
-      multisets = multisets_row row.0 row.1 ∙ ap (sum_by own_multisets) is;
-      parts = ap (λ k. max k (most_parts_of row.1)) (length_row row.0 row.1 ∙ ap length is) ∙ ap (max (length es)) (parts_row row.0 row.1 ∙ ap (greatest_by most_parts) is);
-      bound = bound_row row.0 row.1 ∙ ap (greatest_by greatest_bound) is;
+      nodes = ap own_nodes is ∙ ap suc (nodes_list es);
+      multisets = ap own_multisets is ∙ multisets_list es;
+      parts = ap most_parts is ∙ ap (λ k. max k (most_parts_of (expr_list es))) (length_list es) ∙ ap (max (length es)) (parts_list es);
+      bound = ap greatest_bound is ∙ bound_list es;
     }
 
 -- what is counted in a collection of this part
 pub record CollCounts (e : TypeExpr) (kind : Kind) (part : TypeExpr) (bound : Option Bound) : Type 0 where
-  pub nodes : own_nodes e ≡ suc (own_nodes part)
-  pub multisets : own_multisets e ≡ multiset_of kind + own_multisets part
-  pub parts : most_parts e ≡ most_parts part
-  pub greatest : greatest_bound e ≡ max (greatest_bound part) (greatest_of bound)
+  pub nodes : nodes_in e ≡ suc (nodes_in part)
+  pub multisets : multisets_in e ≡ multiset_of kind + multisets_in part
+  pub parts : parts_in e ≡ parts_in part
+  pub greatest : bound_in e ≡ max (bound_in part) (greatest_of bound)
 
 pub coll_counts : (kind : Kind) (part : TypeExpr) (bound : Option Bound) (at : ℕ) → CollCounts (Coll kind part bound at) kind part bound
-unfolding Rattle.luo_source.specs.declared.types.TypeExpr.TheBlock.hidden-the_row-TypeExpr-1 hidden
-coll_counts kind part bound at = record {
-  nodes = omega arith;
-  multisets = omega arith;
-  parts = omega arith;
-  greatest = omega arith;
-}
+coll_counts kind part bound at =
+    let is = coll_expr kind part bound at in
+    record {
+      nodes = ap own_nodes is;
+      multisets = ap own_multisets is;
+      parts = ap most_parts is;
+      greatest = ap greatest_bound is;
+    }
 
 pub counts_of_union : (e : TypeExpr) (es parts : List TypeExpr) → e ≡ Union es → parts ≡ es → Counts e parts
 counts_of_union e es parts is same = subst (λ e. Counts e parts) (ap Union same ∙ sym is) (union_counts parts)

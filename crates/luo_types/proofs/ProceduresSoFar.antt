@@ -6,11 +6,11 @@ use Rattle.luo_num.specs.declared.limits.TheConstants.{PROCEDURE_LIMIT, STATEMEN
 use Rattle.luo_model.specs.declared.program.Proc.{Proc}
 use Rattle.luo_model.specs.View.{procedure_of}
 use Rattle.luo_source.specs.declared.names.Name.{Name}
-use Rattle.luo_source.specs.declared.source.ProcBody.{ProcBody}
-use Rattle.luo_source.specs.declared.source.ProcBody.TheVariants.{Statements, Value}
-use Rattle.luo_source.specs.declared.source.ProcDef.{ProcDef}
-use Rattle.luo_source.specs.declared.statements.Stmt.{Stmt}
-use Rattle.luo_source.specs.declared.values.SourceValue.{SourceValue}
+use Rattle.luo_source.specs.declared.source.ProcDef as held
+use Rattle.luo_source.specs.Plain.Source.{ProcBody, Statements, Value, ProcDef}
+use Rattle.luo_source.specs.Plain.Values.{SourceValue}
+use Rattle.luo_source.specs.View.{proc_body_of, proc_def_of}
+use Rattle.luo_types.specs.inner.Held.{body_statements_in}
 use Rattle.luo_rules.specs.declared.names.Meaning.TheVariants.{Procedure}
 use Rattle.luo_rules.specs.declared.rule.Breach.{Breach}
 use Rattle.luo_rules.specs.declared.rule.Stop.{Stop}
@@ -23,26 +23,21 @@ use Rattle.luo_value_types.specs.inner.Room.{HasRoom}
 use Rattle.luo_rules.specs.ValueBreaches.{value_breaches}
 use Rattle.luo_value_types.proofs.StopLemmas.{StopsAt-left, StopsAt-right}
 use Rattle.luo_value_types.proofs.ValueRoom.{sites_within}
-use Rattle.luo_rules.specs.Counted.{stmt_statements, body_statements}
+use Rattle.luo_rules.specs.Counted.{body_statements}
 use Rattle.luo_types.specs.inner.ProceduresMade.{IsProcMade, AreProcsMade}
-use Rattle.luo_rules.specs.StatementCore.{stmt_sites}
-use Rattle.luo_rules.specs.Whole.{result_breaches, parameter, node_or, body_breaches, sites_of, proc_breaches, procs_breaches, proc_core, procs_core}
+use Rattle.luo_rules.specs.Whole.{result_breaches, parameter, body_breaches, sites_of, proc_breaches, procs_breaches, proc_core, procs_core}
 use Rattle.luo_types.proofs.ArmsSoFar.{at-element}
-use Rattle.luo_types.proofs.StatementRoom.{sites-within}
+use Rattle.luo_types.proofs.StatementRoom.{list_sites-within}
 
-abbrev pub proc_statements : ProcDef → ℕ
-proc_statements p = body_statements p.body
-
-stmts_sites-within : (stmts : List Stmt) → sum_by stmt_sites stmts ≤ 2 * sum_by stmt_statements stmts
-stmts_sites-within [] = omega arith
-stmts_sites-within (stmt ∷ stmts) = omega (arith, sum_by-cons stmt_sites stmt stmts, sum_by-cons stmt_statements stmt stmts, sites-within stmt, stmts_sites-within stmts)
+abbrev pub proc_statements : held.ProcDef → ℕ
+proc_statements p = body_statements_in p.body
 
 body_sites-within : (s : Setting) (p : ProcDef) (body : ProcBody) → sites_of s p body ≤ 2 * body_statements body
-body_sites-within s p (Statements stmts) = stmts_sites-within stmts
-body_sites-within s p (Value colon result value) = omega (arith, sites_within s (parameter p.param (node_or (type_node s p.on))) (type_node s result) value)
+body_sites-within s p (Statements stmts) = list_sites-within stmts
+body_sites-within s p (Value colon result value) = omega (arith, sites_within s (parameter s p) (type_node s result) value)
 
 -- the site of a procedure's whole is within the limit
-pub whole-site : (s : Setting) (p : ProcDef) (next after : ℕ) → HasRoom (proc_statements p) 0 next → after ≡ next + sites_of s p p.body → after < 8589934592
+pub whole-site : (s : Setting) (p : ProcDef) (next after : ℕ) → HasRoom (body_statements p.body) 0 next → after ≡ next + sites_of s p p.body → after < 8589934592
 whole-site s p next after room e = omega (arith, room.sites, e, body_sites-within s p p.body)
 
 -- a procedure with a result stops at its universe, and at the type of its result
@@ -51,7 +46,7 @@ module _ (s : Setting) (p : ProcDef) (node colon : ℕ) (result : Name) (value :
   front = result_breaches s.universe colon p.name ++ type_use (meant s result) result
 
   abbrev rest : List Breach
-  rest = value_breaches s (parameter p.param node) (type_node s result) value
+  rest = value_breaches s (parameter s p) (type_node s result) value
 
   pub universe-stops : (at : Stop) → p.body ≡ Value colon result value → StopsAt (result_breaches s.universe colon p.name) at → StopsAt (body_breaches s p (Some node) p.body) at
   universe-stops at e h = subst (λ b. StopsAt (body_breaches s p (Some node) b) at) (sym e) (StopsAt-left front rest at (StopsAt-left _ _ at h))
@@ -60,44 +55,44 @@ module _ (s : Setting) (p : ProcDef) (node colon : ℕ) (result : Name) (value :
   result-stops at e none h = subst (λ b. StopsAt (body_breaches s p (Some node) b) at) (sym e) (StopsAt-left front rest at (StopsAt-right (result_breaches s.universe colon p.name) _ at none h))
 
 -- what is left of procedures is to be checked as all were from the start
-pub record ProcsSoFar (s : Setting) (procs left : List ProcDef) (number : ℕ) (made : List Proc) (next : ℕ) : Type 0 where
-  pub unbroken : procs_breaches s 0 procs ≡ procs_breaches s number left
-  pub formed : map procedure_of made ++ procs_core s next left ≡ procs_core s 0 procs
+pub record ProcsSoFar (s : Setting) (procs left : List held.ProcDef) (number : ℕ) (made : List Proc) (next : ℕ) : Type 0 where
+  pub unbroken : procs_breaches s 0 (map proc_def_of procs) ≡ procs_breaches s number (map proc_def_of left)
+  pub formed : map procedure_of made ++ procs_core s next (map proc_def_of left) ≡ procs_core s 0 (map proc_def_of procs)
   pub statements : sum_by proc_statements left ≤ STATEMENT_LIMIT
   pub sites : next + 2 * sum_by proc_statements left + length left ≤ 2112
 
-module _ (s : Setting) (procs : List ProcDef) where
+module _ (s : Setting) (procs : List held.ProcDef) where
   pub so_far-none : sum_by proc_statements procs ≤ STATEMENT_LIMIT → length procs ≤ PROCEDURE_LIMIT → ProcsSoFar s procs procs 0 [] 0
   so_far-none h few = record { unbroken = refl; formed = refl; statements = h; sites = omega (arith, h, few) }
 
-  pub at-proc : (i : ℕ) (p : ProcDef) (made : List Proc) (next : ℕ) → ProcsSoFar s procs (drop i procs) i made next → i < length procs → p ≡ get_or procs i p → ProcsSoFar s procs (p ∷ drop (i + 1) procs) i made next
+  pub at-proc : (i : ℕ) (p : held.ProcDef) (made : List Proc) (next : ℕ) → ProcsSoFar s procs (drop i procs) i made next → i < length procs → p ≡ get_or procs i p → ProcsSoFar s procs (p ∷ drop (i + 1) procs) i made next
   at-proc i p made next so h e = subst (λ l. ProcsSoFar s procs l i made next) (at-element procs i p h e) so
 
-  pub proc-room : (p : ProcDef) (rest : List ProcDef) (number : ℕ) (made : List Proc) (next : ℕ) → ProcsSoFar s procs (p ∷ rest) number made next → HasRoom (proc_statements p) 0 next
+  pub proc-room : (p : held.ProcDef) (rest : List held.ProcDef) (number : ℕ) (made : List Proc) (next : ℕ) → ProcsSoFar s procs (p ∷ rest) number made next → HasRoom (proc_statements p) 0 next
   proc-room p rest number made next so = record {
     charges = omega (arith, so.statements, sum_by-cons proc_statements p rest);
     sites = omega (arith, so.sites, sum_by-cons proc_statements p rest);
   }
 
-  pub so_far-stop : (p : ProcDef) (rest : List ProcDef) (number : ℕ) (made : List Proc) (next : ℕ) (at : Stop) → ProcsSoFar s procs (p ∷ rest) number made next → StopsAt (proc_breaches s number p) at → StopsAt (procs_breaches s 0 procs) at
-  so_far-stop p rest number made next at so h = subst (λ bs. StopsAt bs at) (sym so.unbroken) (StopsAt-left _ (procs_breaches s (suc number) rest) at h)
+  pub so_far-stop : (p : held.ProcDef) (rest : List held.ProcDef) (number : ℕ) (made : List Proc) (next : ℕ) (at : Stop) → ProcsSoFar s procs (p ∷ rest) number made next → StopsAt (proc_breaches s number (proc_def_of p)) at → StopsAt (procs_breaches s 0 (map proc_def_of procs)) at
+  so_far-stop p rest number made next at so h = subst (λ bs. StopsAt bs at) (sym so.unbroken) (StopsAt-left _ (procs_breaches s (suc number) (map proc_def_of rest)) at h)
 
-  pub so_far-more : (p : ProcDef) (rest : List ProcDef) (number : ℕ) (made new : List Proc) (one : Proc) (next after : ℕ) → ProcsSoFar s procs (p ∷ rest) number made next → IsProcMade s number p one next after → new ≡ made ++ one ∷ []
+  pub so_far-more : (p : held.ProcDef) (rest : List held.ProcDef) (number : ℕ) (made new : List Proc) (one : Proc) (next after : ℕ) → ProcsSoFar s procs (p ∷ rest) number made next → IsProcMade s number (proc_def_of p) one next after → new ≡ made ++ one ∷ []
       → ProcsSoFar s procs rest (number + 1) new after
   so_far-more p rest number made new one next after so is e = record {
-    unbroken = so.unbroken ∙ ap (λ bs. bs ++ procs_breaches s (suc number) rest) is.unbroken ∙ ap (λ n. procs_breaches s n rest) (sym (add-one number));
+    unbroken = so.unbroken ∙ ap (λ bs. bs ++ procs_breaches s (suc number) (map proc_def_of rest)) is.unbroken ∙ ap (λ n. procs_breaches s n (map proc_def_of rest)) (sym (add-one number));
     formed =
-        ap (λ l. map procedure_of l ++ procs_core s after rest) e
-        ∙ ap (λ l. l ++ procs_core s after rest) (map-append procedure_of made (one ∷ []))
-        ∙ append_assoc (map procedure_of made) (procedure_of one ∷ []) (procs_core s after rest)
-        ∙ ap (λ P. map procedure_of made ++ P ∷ procs_core s after rest) is.formed
-        ∙ ap (λ n. map procedure_of made ++ proc_core s next p ∷ procs_core s n rest) is.numbered
+        ap (λ l. map procedure_of l ++ procs_core s after (map proc_def_of rest)) e
+        ∙ ap (λ l. l ++ procs_core s after (map proc_def_of rest)) (map-append procedure_of made (one ∷ []))
+        ∙ append_assoc (map procedure_of made) (procedure_of one ∷ []) (procs_core s after (map proc_def_of rest))
+        ∙ ap (λ P. map procedure_of made ++ P ∷ procs_core s after (map proc_def_of rest)) is.formed
+        ∙ ap (λ n. map procedure_of made ++ proc_core s next (proc_def_of p) ∷ procs_core s n (map proc_def_of rest)) is.numbered
         ∙ so.formed;
     statements = omega (arith, so.statements, sum_by-cons proc_statements p rest);
-    sites = omega (arith, so.sites, sum_by-cons proc_statements p rest, is.numbered, body_sites-within s p p.body);
+    sites = omega (arith, so.sites, sum_by-cons proc_statements p rest, is.numbered, body_sites-within s (proc_def_of p) (proc_body_of p.body));
   }
 
-  pub so_far-all : (i : ℕ) (made : List Proc) (next : ℕ) → ProcsSoFar s procs (drop i procs) i made next → length procs ≤ i → AreProcsMade s procs made
+  pub so_far-all : (i : ℕ) (made : List Proc) (next : ℕ) → ProcsSoFar s procs (drop i procs) i made next → length procs ≤ i → AreProcsMade s (map proc_def_of procs) made
   so_far-all i made next left h =
       let so = subst (λ l. ProcsSoFar s procs l i made next) (drop_all i procs h) left in
       record { unbroken = so.unbroken; formed = sym (append-nil (map procedure_of made)) ∙ so.formed }

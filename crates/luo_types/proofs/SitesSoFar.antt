@@ -6,6 +6,7 @@ use Rattle.luo_model.specs.declared.body.Item.{Item}
 use Rattle.luo_model.specs.declared.program.Kind.TheVariants.{Sequence, Set, Cycle, Multiset, Powerset}
 use Rattle.luo_model.specs.declared.program.Shape.{Shape}
 use Rattle.luo_model.specs.declared.program.Shape.TheVariants as shape
+use Rattle.luo_model.specs.declared.program.Part.{Part}
 use Rattle.luo_model.specs.Program as plain
 use Rattle.luo_model.specs.Program.{Program, shape_of}
 use Rattle.luo_model.specs.Scopes.Stands.{Stand, stands, component, bound_parts, part_at}
@@ -17,7 +18,7 @@ use Rattle.luo_types.specs.inner.SitesFound.{nodes_of, IsFound}
 use Rattle.luo_types.specs.declared.sites.Found.{Found}
 use Rattle.luo_types.proofs.ArmsSoFar.{at-element, drop-get}
 
-walk_one : (s : Shape) → walk_of s ≤ 1
+walk_one : (s : Shape) → multiset_of s ≤ 1
 walk_one (shape.Atom weight) = omega arith
 walk_one (shape.Union parts) = omega arith
 walk_one (shape.Product parts) = omega arith
@@ -30,32 +31,32 @@ walk_one (shape.Coll Powerset part low high) = omega arith
 -- there are no more walks than items
 module _ (p : Program) where
   mutual
-    pub walks-within : (vars : List ℕ) (b : plain.Body) → body_walks p vars b ≤ body_items b
+    pub walks-within : (vars : List Part) (b : plain.Body) → body_walks p vars b ≤ body_items b
     walks-within vars (plain.Does own items) = items_walks-within vars items
 
-    pub items_walks-within : (vars : List ℕ) (is : plain.Items) → items_walks p vars is ≤ items_in is
+    pub items_walks-within : (vars : List Part) (is : plain.Items) → items_walks p vars is ≤ items_in is
     items_walks-within vars plain.no_items = omega arith
     items_walks-within vars (plain.item i is) = omega (arith, item_walks-within vars i, items_walks-within vars is)
 
-    pub item_walks-within : (vars : List ℕ) (i : plain.Item) → item_walks p vars i ≤ item_in i
+    pub item_walks-within : (vars : List Part) (i : plain.Item) → item_walks p vars i ≤ item_in i
     item_walks-within vars (plain.Call var callee site) = omega arith
-    item_walks-within vars (plain.Case var arms site) = omega (arith, arms_walks-within (stands (node_at vars var) (shape_of p (node_at vars var))) arms)
+    item_walks-within vars (plain.Case var arms site) = omega (arith, arms_walks-within (stands (part_at vars var) (shape_of p (part_at vars var).node)) arms)
     item_walks-within vars (plain.Forall var body body_site site) =
-        omega (arith, walk_one (shape_of p (node_at vars var)), walks-within (component (shape_of p (node_at vars var)) ∷ []) body)
+        omega (arith, walk_one (shape_of p (part_at vars var).node), walks-within (component (shape_of p (part_at vars var).node) ∷ []) body)
 
     pub arms_walks-within : (all : List Stand) (arms : plain.Arms) → arms_walks p all arms ≤ arms_in arms
     arms_walks-within [] plain.no_arms = omega arith
     arms_walks-within [] (plain.arm bind body arms) = omega arith
     arms_walks-within (stand ∷ rest) plain.no_arms = omega arith
-    arms_walks-within (stand ∷ rest) (plain.arm bind body arms) = omega (arith, walks-within (bound_nodes p stand bind) body, arms_walks-within rest arms)
+    arms_walks-within (stand ∷ rest) (plain.arm bind body arms) = omega (arith, walks-within (bound_parts p stand bind) body, arms_walks-within rest arms)
 
 -- what is left of items is to be found as all were from the start
-pub record ItemsSoFar (p : Program) (vars : List ℕ) (items left : List Item) (old now : Found) : Type 0 where
+pub record ItemsSoFar (p : Program) (vars : List Part) (items left : List Item) (old now : Found) : Type 0 where
   pub nodes_are : now.nodes ++ nodes_of (items_sites p vars (item_list left)) ≡ old.nodes ++ nodes_of (items_sites p vars (item_list items))
   pub walks_are : now.walks + items_walks p vars (item_list left) ≡ old.walks + items_walks p vars (item_list items)
   pub room : now.walks + items_in (item_list left) ≤ 4294967296
 
-module _ (p : Program) (vars : List ℕ) (items : List Item) (old : Found) where
+module _ (p : Program) (vars : List Part) (items : List Item) (old : Found) where
   pub items-at : (i : ℕ) (item : Item) (now : Found) → ItemsSoFar p vars items (drop i items) old now → i < length items → item ≡ get_or items i item → ItemsSoFar p vars items (item ∷ drop (i + 1) items) old now
   items-at i item now so h e = subst (λ l. ItemsSoFar p vars items l old now) (at-element items i item h e) so
 
@@ -110,9 +111,9 @@ module _ (p : Program) (all : List Stand) (arms : List Arm) (old : Found) where
       (subst (λ l. FoundSoFar p all l arms (drop i arms) old now) (drop-get all i stand e) so)
 
   pub found-more : (stand : Stand) (stands_left : List Stand) (arm : Arm) (rest : List Arm) (now new : Found) → FoundSoFar p all (stand ∷ stands_left) arms (arm ∷ rest) old now
-      → IsFound (nodes_of (body_sites p (bound_nodes p stand arm.bind) (body_of arm.body))) (body_walks p (bound_nodes p stand arm.bind) (body_of arm.body)) now new → FoundSoFar p all stands_left arms rest old new
+      → IsFound (nodes_of (body_sites p (bound_parts p stand arm.bind) (body_of arm.body))) (body_walks p (bound_parts p stand arm.bind) (body_of arm.body)) now new → FoundSoFar p all stands_left arms rest old new
   found-more stand stands_left arm rest now new so is =
-      let here = body_sites p (bound_nodes p stand arm.bind) (body_of arm.body) in
+      let here = body_sites p (bound_parts p stand arm.bind) (body_of arm.body) in
       let behind = arms_sites p stands_left (arm_list rest) in
       record {
         nodes_are =
@@ -121,7 +122,7 @@ module _ (p : Program) (all : List Stand) (arms : List Arm) (old : Found) where
             ∙ ap (λ l. now.nodes ++ l) (sym (map-append (λ site. site.1) here behind))
             ∙ so.nodes_are;
         walks_are = omega (arith, is.walks_are, so.walks_are);
-        room = omega (arith, so.room, is.walks_are, walks-within p (bound_nodes p stand arm.bind) (body_of arm.body));
+        room = omega (arith, so.room, is.walks_are, walks-within p (bound_parts p stand arm.bind) (body_of arm.body));
       }
 
   found_none : (stands_left : List Stand) (left : List Arm) (now : Found) → arms_sites p stands_left (arm_list left) ≡ [] → arms_walks p stands_left (arm_list left) ≡ 0 → FoundSoFar p all stands_left arms left old now

@@ -4,10 +4,18 @@ use Rattle.std.proofs.lemmas.List.Sums.{sum_by-cons}
 use Rattle.luo_num.specs.declared.limits.TheConstants.{BOUND_LIMIT, DEFINITION_LIMIT, NODE_LIMIT}
 use Rattle.luo_model.specs.declared.program.Universe.{Universe}
 use Rattle.luo_source.specs.declared.names.Name.{Name}
-use Rattle.luo_source.specs.declared.types.TypeExpr.{TypeExpr}
-use Rattle.luo_source.specs.declared.types.TypeDef.{TypeDef}
-use Rattle.luo_source.specs.declared.source.ProcDef.{ProcDef}
-use Rattle.luo_source.specs.declared.source.Source.{Source}
+use Rattle.luo_source.specs.declared.types.TypeDef as held
+use Rattle.luo_source.specs.declared.source.Source as read
+use Rattle.luo_source.specs.declared.source.ProcDef as told
+use Rattle.luo_model.specs.declared.program.Def.{Def}
+use Rattle.luo_model.specs.declared.program.Node.{Node}
+use Rattle.luo_rules.specs.declared.setting.Setting.{Setting}
+use Rattle.luo_rules.specs.declared.setting.Signature.{Signature}
+use Rattle.luo_rules.specs.Nodes.{defs_from, nodes_from, signature_of, setting_of}
+use Rattle.luo_source.specs.View.{type_def_of, proc_def_of, plain_source}
+use Rattle.luo_source.specs.Plain.Types.{TypeExpr, TypeDef}
+use Rattle.luo_source.specs.Plain.Source.{ProcDef, Source}
+use Rattle.luo_types.specs.inner.Held.{copies_of}
 use Rattle.luo_rules.specs.declared.names.Meaning.{Meaning}
 use Rattle.luo_rules.specs.declared.rule.Breach.{Breach}
 use Rattle.luo_rules.specs.Breaches.{◌or_if_none◌}
@@ -16,7 +24,8 @@ use Rattle.luo_rules.specs.Definitions.{Definition, copies, definitions, measure
 use Rattle.luo_rules.specs.TypeBreaches.{expr_breaches, new_types, circle_breaches, type_breaches, types_breaches, measures_breaches, first_breaches}
 use Rattle.luo_types.specs.inner.NodeLists.{MeanBelow}
 use Rattle.luo_rules.specs.Checks.{IsWithinLimits}
-use Rattle.luo_types.proofs.LimitLemmas.{within_limits}
+use Rattle.luo_rules.proofs.SourceFacts.{within_limits}
+use Rattle.luo_types.proofs.LimitLemmas.{sum_map}
 use Rattle.luo_types.proofs.MeanLemmas.{mean_below}
 use Rattle.luo_types.proofs.NodeLemmas.{none-of-append}
 
@@ -96,19 +105,25 @@ pub known_breaches : (s : Source) (types : List TypeDef) (defs : List Definition
     → types_breaches s.universe names defs 0 types ++ measures_breaches names 0 ms ≡ first_breaches s
 known_breaches s types defs ms names a b c d = cc
 
+-- the definitions of the types that the code holds
+pub copies_same : (types : List held.TypeDef) → flat_map copies_of types ≡ flat_map copies (map type_def_of types)
+copies_same [] = refl
+copies_same (d ∷ ds) = ap (λ z. copies_of d ++ z) (copies_same ds)
+
 -- the definitions of a source within the limits
-pub record Few (s : Source) (defs : List Definition) : Type 0 where
-  pub owners : sum_by (λ (d : TypeDef). length d.names) s.types ≤ DEFINITION_LIMIT
+pub record Few (s : read.Source) (defs : List Definition) : Type 0 where
+  pub owners : sum_by (λ (d : held.TypeDef). length d.names) s.types ≤ DEFINITION_LIMIT
   pub nodes : sum_by (λ (d : Definition). own_nodes d.right) defs ≤ NODE_LIMIT
   pub bounds : greatest_by (λ (d : Definition). greatest_bound d.right) defs ≤ BOUND_LIMIT
 
-pub few : (s : Source) (defs : List Definition) → IsWithinLimits s → defs ≡ definitions s → Few s defs
+pub few : (s : read.Source) (defs : List Definition) → IsWithinLimits (plain_source s) → defs ≡ definitions (plain_source s) → Few s defs
 few s defs e is =
-    let w = within_limits s e in
+    let w = within_limits (plain_source s) e in
+    let types = map type_def_of s.types in
     record {
-      owners = w.definitions;
-      nodes = omega (arith, w.nodes, nodes_definitions s.types, ap (sum_by (λ (d : Definition). own_nodes d.right)) is);
-      bounds = omega (arith, w.bounds, greatest_definitions s.types, ap (greatest_by (λ (d : Definition). greatest_bound d.right)) is);
+      owners = omega (arith, w.definitions, sum_map (λ (d : TypeDef). length d.names) type_def_of s.types);
+      nodes = omega (arith, w.nodes, nodes_definitions types, ap (sum_by (λ (d : Definition). own_nodes d.right)) is);
+      bounds = omega (arith, w.bounds, greatest_definitions types, ap (greatest_by (λ (d : Definition). greatest_bound d.right)) is);
     }
 
 -- the right sides of a source without breaches have none
@@ -131,3 +146,24 @@ known_names s defs ms procs names e a b c =
     e ∙ ap (λ (ds : List Definition). with_procedures (with_measures (with_definitions [] 0 ds) 0 ms) 0 procs) a
     ∙ ap (λ (m : List (Name × ℕ)). with_procedures (with_measures (with_definitions [] 0 (definitions s)) 0 m) 0 procs) b
     ∙ ap (λ (ps : List ProcDef). with_procedures (with_measures (with_definitions [] 0 (definitions s)) 0 (measures s)) 0 ps) c
+
+map_map : {A B C : Type 0} (f : B → C) (g : A → B) (xs : List A) → map (λ x. f (g x)) xs ≡ map f (map g xs)
+map_map f g [] = refl
+map_map f g (x ∷ xs) = ap (λ l. f (g x) ∷ l) (map_map f g xs)
+
+same_setting : (made whole : Setting) → made.universe ≡ whole.universe → made.names ≡ whole.names → made.defs ≡ whole.defs → made.nodes ≡ whole.nodes → made.signatures ≡ whole.signatures → made ≡ whole
+same_setting made whole a b c d e =
+    let of = λ (universe : Universe) (names : List (List ℕ × Meaning)) (defs : List Def) (nodes : List Node) (signatures : List Signature).
+    let s : Setting = record { universe = universe; names = names; defs = defs; nodes = nodes; signatures = signatures } in s in
+    ap (λ z. of z made.names made.defs made.nodes made.signatures) a ∙ ap (λ z. of whole.universe z made.defs made.nodes made.signatures) b ∙ ap (λ z. of whole.universe whole.names z made.nodes made.signatures) c
+    ∙ ap (λ z. of whole.universe whole.names whole.defs z made.signatures) d ∙ ap (of whole.universe whole.names whole.defs whole.nodes) e
+
+-- the setting of a source, by what is known of it
+pub made_setting : (s : read.Source) (made : Setting) (names : List (List ℕ × Meaning)) (defs : List Definition) (procs : List told.ProcDef) → names ≡ names_of (plain_source s) → defs ≡ definitions (plain_source s) → procs ≡ s.procs
+    → made.universe ≡ s.universe → made.names ≡ names → made.defs ≡ defs_from names defs 0 defs → made.nodes ≡ nodes_from names defs 0 0 defs → made.signatures ≡ map (λ p. signature_of names defs (proc_def_of p)) procs → made ≡ setting_of (plain_source s)
+made_setting s made names defs procs en ed ep u n d k g =
+    let source = plain_source s in
+    same_setting made (setting_of source) u (n ∙ en)
+    (d ∙ ap (λ z. defs_from z defs 0 defs) en ∙ ap (λ z. defs_from (names_of source) z 0 z) ed)
+    (k ∙ ap (λ z. nodes_from z defs 0 0 defs) en ∙ ap (λ z. nodes_from (names_of source) z 0 0 z) ed)
+    (g ∙ ap (map (λ p. signature_of names defs (proc_def_of p))) ep ∙ map_map (signature_of names defs) proc_def_of s.procs ∙ ap (λ z. map (signature_of z defs) source.procs) en ∙ ap (λ z. map (signature_of (names_of source) z) source.procs) ed)

@@ -4,3 +4,5 @@ pub mod SitesFound
 pub mod ProceduresMade
 pub mod Typed
 pub mod NodeLists
+pub mod Held
+pub mod Codes

@@ -2,6 +2,7 @@
 ghost use Rattle.std.specs.Prelude.{◌≡◌, ◌≤◌, IfOk, IfErr, OnOk};
 ghost use Rattle.luo_model.specs.Program as plain;
 ghost use Rattle.luo_model.specs.View.{plain_of};
+ghost use Rattle.luo_source.specs.View.{plain_source};
 ghost use Rattle.luo_rules.specs.declared.rule.Breach.{Breach};
 ghost use Rattle.luo_rules.specs.Breaches.{StopsAt};
 ghost use Rattle.luo_rules.specs.declared.error.CheckError.TheVariants as error;
@@ -33,10 +34,10 @@ pub(crate) struct Typed {
 
 // Checks definitions, measures, procedures and analyze lines, and makes what the core form has of them.
 fn check_parts(alloc: Global, source: &Source) -> Result<Typed, Stop>
-    requires source { IsSource source.now }
-    requires within { IsWithinLimits source.now }
-    ensures ok { IfOk result (λ t. IsTyped source.now t) }
-    ensures stops { IfErr result (λ e. StopsAt (breaches source.now) e) }
+    requires source { IsSource (plain_source source.now) }
+    requires within { IsWithinLimits (plain_source source.now) }
+    ensures ok { IfOk result (λ t. IsTyped (plain_source source.now) t) }
+    ensures stops { IfErr result (λ e. StopsAt (breaches (plain_source source.now)) e) }
 {
     let setting = types(alloc, source)?;
     let procs = procedures(alloc, &setting, source.procs.as_slice())?;
@@ -50,9 +51,9 @@ fn check_parts(alloc: Global, source: &Source) -> Result<Typed, Stop>
 
 // Decides between the program of a source and an error.
 fn decide(alloc: Global, source: &Source) -> Result<Program, CheckError>
-    requires { IsSource source.now }
-    ensures ok { IfOk result (λ p. IsChecked source.now (plain_of p)) }
-    ensures err { IfErr result (λ e. IsUnchecked source.now e) }
+    requires { IsSource (plain_source source.now) }
+    ensures ok { IfOk result (λ p. IsChecked (plain_source source.now) (plain_of p)) }
+    ensures err { IfErr result (λ e. IsUnchecked (plain_source source.now) e) }
 {
     if let Some(which) = passed_limit(source) {
         return Err(CheckError::Limit { which });
@@ -91,20 +92,20 @@ fn decide(alloc: Global, source: &Source) -> Result<Program, CheckError>
 /// limit is passed but perhaps that on walks: its token, and what it is about. `NoMemory` says that memory
 /// was refused.
 pub fn check(alloc: Global, source: &Source) -> Result<Program, CheckError>
-    requires { IsSource source.now }
-    ensures ok { IfOk result (λ p. IsChecked source.now (plain_of p)) }
-    ensures err { IfErr result (λ e. IsUnchecked source.now e) }
-    ensures limit { (which : CountLimit) → PassesFirst source.now which
+    requires { IsSource (plain_source source.now) }
+    ensures ok { IfOk result (λ p. IsChecked (plain_source source.now) (plain_of p)) }
+    ensures err { IfErr result (λ e. IsUnchecked (plain_source source.now) e) }
+    ensures limit { (which : CountLimit) → PassesFirst (plain_source source.now) which
         → IsRefusal (error.Limit which) result }
-    ensures rule { (b : Breach) → IsWithinLimits source.now → BreaksFirst source.now b
+    ensures rule { (b : Breach) → IsWithinLimits (plain_source source.now) → BreaksFirst (plain_source source.now) b
         → IsRefusal (error.Rule b.rule b.token b.names) result }
-    ensures walks { IsWithinLimits source.now → WalksTooMuch source.now
+    ensures walks { IsWithinLimits (plain_source source.now) → WalksTooMuch (plain_source source.now)
         → IsRefusal (error.Limit count.Walks) result }
-    ensures tells { IfErr result (λ e. TellsFirstBroken source.now e) }
-    ensures first { (b : Breach) → IsWithinLimits source.now → IsFirstBroken source.now b
+    ensures tells { IfErr result (λ e. TellsFirstBroken (plain_source source.now) e) }
+    ensures first { (b : Breach) → IsWithinLimits (plain_source source.now) → IsFirstBroken (plain_source source.now) b
         → IsRefusal (error.Rule b.rule b.token b.names) result }
-    ensures unbroken { IfOk result (λ p. BreaksNothing source.now) }
-    ensures checked { (p : plain.Program) → IsChecked source.now p → IsProgramAnswer result }
+    ensures unbroken { IfOk result (λ p. BreaksNothing (plain_source source.now)) }
+    ensures checked { (p : plain.Program) → IsChecked (plain_source source.now) p → IsProgramAnswer result }
 {
     decide(alloc, source)
 }

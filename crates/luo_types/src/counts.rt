@@ -1,7 +1,8 @@
 // What the limits count in type expressions.
 ghost use Rattle.std.specs.Prelude.{◌≡◌, ◌+◌, suc, max, length, sum_by};
 ghost use Rattle.luo_num.specs.Mark.{capped};
-ghost use Rattle.luo_rules.specs.Counted.{multiset_of, greatest_of, own_nodes, own_multisets, most_parts, greatest_bound, greatest_by};
+ghost use Rattle.luo_rules.specs.Counted.{multiset_of, greatest_of, greatest_by};
+ghost use Rattle.luo_types.specs.inner.Held.{nodes_in, multisets_in, parts_in, bound_in};
 
 use luo_model::Kind;
 use luo_num::marked_add;
@@ -70,10 +71,10 @@ impl TypeCounts {
 /// Counts in a type expression.
 #[cycle(counts)]
 pub(crate) fn count_expr(expr: &TypeExpr) -> TypeCounts
-    ensures nodes { result.nodes ≡ capped (own_nodes expr.now) }
-    ensures multisets { result.multisets ≡ capped (own_multisets expr.now) }
-    ensures parts { result.parts ≡ most_parts expr.now }
-    ensures bound { result.bound ≡ greatest_bound expr.now }
+    ensures nodes { result.nodes ≡ capped (nodes_in expr.now) }
+    ensures multisets { result.multisets ≡ capped (multisets_in expr.now) }
+    ensures parts { result.parts ≡ parts_in expr.now }
+    ensures bound { result.bound ≡ bound_in expr.now }
 {
     match expr {
         TypeExpr::Named(_) => return TypeCounts::NOTHING,
@@ -93,10 +94,10 @@ pub(crate) fn count_expr(expr: &TypeExpr) -> TypeCounts
 // Counts in a union or product of these parts.
 #[cycle(counts)]
 fn count_parts(parts: &[TypeExpr]) -> TypeCounts
-    ensures nodes { result.nodes ≡ capped (suc (sum_by own_nodes parts.now)) }
-    ensures multisets { result.multisets ≡ capped (sum_by own_multisets parts.now) }
-    ensures parts { result.parts ≡ max (length parts.now) (greatest_by most_parts parts.now) }
-    ensures bound { result.bound ≡ greatest_by greatest_bound parts.now }
+    ensures nodes { result.nodes ≡ capped (suc (sum_by nodes_in parts.now)) }
+    ensures multisets { result.multisets ≡ capped (sum_by multisets_in parts.now) }
+    ensures parts { result.parts ≡ max (length parts.now) (greatest_by parts_in parts.now) }
+    ensures bound { result.bound ≡ greatest_by bound_in parts.now }
 {
     let node = TypeCounts {
         parts: parts.len(),
@@ -108,10 +109,10 @@ fn count_parts(parts: &[TypeExpr]) -> TypeCounts
 // Counts in a collection.
 #[cycle(counts)]
 fn count_collection(kind: Kind, part: &TypeExpr, bound: Option<Bound>) -> TypeCounts
-    ensures nodes { result.nodes ≡ capped (suc (own_nodes part.now)) }
-    ensures multisets { result.multisets ≡ capped (multiset_of kind + own_multisets part.now) }
-    ensures parts { result.parts ≡ most_parts part.now }
-    ensures bound { result.bound ≡ max (greatest_bound part.now) (greatest_of bound) }
+    ensures nodes { result.nodes ≡ capped (suc (nodes_in part.now)) }
+    ensures multisets { result.multisets ≡ capped (multiset_of kind + multisets_in part.now) }
+    ensures parts { result.parts ≡ parts_in part.now }
+    ensures bound { result.bound ≡ max (bound_in part.now) (greatest_of bound) }
 {
     let node = TypeCounts {
         multisets: multiset_count(kind),
@@ -124,10 +125,10 @@ fn count_collection(kind: Kind, part: &TypeExpr, bound: Option<Bound>) -> TypeCo
 // Counts in type expressions beside each other.
 #[cycle(counts)]
 fn count_exprs(exprs: &[TypeExpr]) -> TypeCounts
-    ensures nodes { result.nodes ≡ capped (sum_by own_nodes exprs.now) }
-    ensures multisets { result.multisets ≡ capped (sum_by own_multisets exprs.now) }
-    ensures parts { result.parts ≡ greatest_by most_parts exprs.now }
-    ensures bound { result.bound ≡ greatest_by greatest_bound exprs.now }
+    ensures nodes { result.nodes ≡ capped (sum_by nodes_in exprs.now) }
+    ensures multisets { result.multisets ≡ capped (sum_by multisets_in exprs.now) }
+    ensures parts { result.parts ≡ greatest_by parts_in exprs.now }
+    ensures bound { result.bound ≡ greatest_by bound_in exprs.now }
 {
     let mut all = TypeCounts::NOTHING;
     for expr in exprs {

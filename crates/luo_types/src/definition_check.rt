@@ -1,8 +1,9 @@
 // The check of definitions and measures, in text order.
 #![tactic(auto, using(luo_value_types::proofs::StopLemmas::stop_steps))]
 
-ghost use Rattle.std.specs.Prelude.{◌≡◌, ◌+◌, ◌≤◌, [], length, sum_by, IfErr, IfOk, OnOk};
+ghost use Rattle.std.specs.Prelude.{◌≡◌, ◌+◌, ◌≤◌, [], map, length, sum_by, IfErr, IfOk, OnOk};
 ghost use Rattle.luo_num.specs.declared.limits.TheConstants.{DEFINITION_LIMIT};
+ghost use Rattle.luo_source.specs.View.{expr_of, type_def_of};
 ghost use Rattle.luo_rules.specs.Breaches.{StopsAt};
 ghost use Rattle.luo_rules.specs.TypeBreaches.{new_types, first_circle, circle_breaches, type_breaches, types_breaches, measures_breaches};
 
@@ -55,10 +56,10 @@ fn check_circles(
     def: &TypeDef,
 ) -> Result<(), Stop>
     requires { first + length def.now.names ≤ DEFINITION_LIMIT }
-    ensures ok { OnOk result (circle_breaches names.now defs.now first def.now.names def.now.body
+    ensures ok { OnOk result (circle_breaches names.now defs.now first def.now.names (expr_of def.now.body)
         ≡ []) }
     ensures stops { IfErr result
-        (λ s. StopsAt (circle_breaches names.now defs.now first def.now.names def.now.body) s) }
+        (λ s. StopsAt (circle_breaches names.now defs.now first def.now.names (expr_of def.now.body)) s) }
 {
     let TypeExpr::Named(name) = &def.body else {
         return Ok(());
@@ -79,10 +80,10 @@ fn check_circles(
 fn check_type(checker: &Checker, defs: &[Entry], first: usize, def: &TypeDef) -> Result<(), Stop>
     requires { first + length def.now.names ≤ DEFINITION_LIMIT }
     ensures ok { OnOk result (type_breaches checker.now.universe checker.now.names.now defs.now
-        first def.now ≡ []) }
+        first (type_def_of def.now) ≡ []) }
     ensures stops { IfErr result
         (λ s. StopsAt (type_breaches checker.now.universe checker.now.names.now defs.now first
-        def.now) s) }
+        (type_def_of def.now)) s) }
 {
     check_new_types(checker.alloc, checker.names, first, def.names.as_slice())?;
     checker.expr(&def.body)?;
@@ -94,10 +95,10 @@ fn check_type(checker: &Checker, defs: &[Entry], first: usize, def: &TypeDef) ->
 pub(crate) fn check_types(checker: &Checker, defs: &[Entry], types: &[TypeDef]) -> Result<(), Stop>
     requires { sum_by (λ d. length d.names) types.now ≤ DEFINITION_LIMIT }
     ensures ok { OnOk result (types_breaches checker.now.universe checker.now.names.now defs.now 0
-        types.now ≡ []) }
+        (map type_def_of types.now) ≡ []) }
     ensures stops { IfErr result
         (λ s. StopsAt (types_breaches checker.now.universe checker.now.names.now defs.now 0
-        types.now) s) }
+        (map type_def_of types.now)) s) }
 {
     let mut first = 0;
     for def in types {

@@ -1,6 +1,7 @@
 // The definitions and measures of a source, one for each name.
 ghost use Rattle.std.specs.Prelude.{◌≡◌, ◌++◌, flat_map, OnOk, IfOk};
-ghost use Rattle.luo_rules.specs.Definitions.{copies, values};
+ghost use Rattle.luo_rules.specs.Definitions.{values};
+ghost use Rattle.luo_types.specs.inner.Held.{copies_of};
 
 use luo_num::NoMemory;
 use luo_source::{MeasureDef, Name, TypeDef, TypeExpr};
@@ -16,14 +17,14 @@ pub(crate) struct Entry<'s> {
 
 impl<'s> Model for Entry<'s> {
     ghost use Rattle.luo_rules.specs.Definitions.{Definition};
-    ghost use Rattle.luo_source.specs.contracts.types.TypeExpr as expr;
-    ghost use Rattle.std.specs.Coded.{codes};
+    ghost use Rattle.luo_source.specs.View.{expr_of};
+    ghost use Rattle.luo_types.specs.inner.Codes.{coded_definition};
 
     ghost Value = { Definition };
 
-    ghost coded = { Prim.hlevel (codes, expr.the_row.coded) };
+    ghost coded = { coded_definition };
 
-    ghost view = { λ e. record { name = e.name.now; right = e.right.now } };
+    ghost view = { λ e. record { name = e.name.now; right = expr_of e.right.now } };
 }
 
 /// A measure of one name.
@@ -44,7 +45,7 @@ impl<'s> Model for Measured<'s> {
 
 // Puts a definition for each name behind the others.
 fn put_copies<'s>(all: &mut Vec<Entry<'s>>, def: &'s TypeDef) -> Result<(), NoMemory>
-    ensures { OnOk result (all.new.items ≡ all.old.items ++ copies def.now) }
+    ensures { OnOk result (all.new.items ≡ all.old.items ++ copies_of def.now) }
 {
     for name in def.names.as_slice() {
         all.push(Entry {
@@ -60,7 +61,7 @@ pub(crate) fn definitions<'s>(
     alloc: Global,
     types: &'s [TypeDef],
 ) -> Result<Vec<Entry<'s>>, NoMemory>
-    ensures { IfOk result (λ all. all.items ≡ flat_map copies types.now) }
+    ensures { IfOk result (λ all. all.items ≡ flat_map copies_of types.now) }
 {
     let mut all = Vec::new(alloc);
     for def in types {

@@ -4,7 +4,8 @@
 ghost use Rattle.std.specs.Prelude.{◌≡◌, ◌++◌, [], flat_map, IfErr, OnOk};
 ghost use Rattle.luo_rules.specs.Breaches.{StopsAt};
 ghost use Rattle.luo_rules.specs.Meanings.{meaning, type_use};
-ghost use Rattle.luo_rules.specs.TypeBreaches.{kind_breaches, bound_breaches, expr_breaches};
+ghost use Rattle.luo_rules.specs.TypeBreaches.{kind_breaches, bound_breaches};
+ghost use Rattle.luo_types.specs.inner.Held.{breaches_in};
 
 use crate::rules::{check_bound, check_kind, check_weight};
 use luo_model::{Kind, Universe};
@@ -25,10 +26,10 @@ impl<'n> Checker<'n> {
     /// Checks a right side, or a part of one.
     #[cycle(expressions)]
     pub fn expr(&self, expr: &TypeExpr) -> Result<(), Stop>
-        ensures ok { OnOk result (expr_breaches self.now.universe self.now.names.now expr.now
+        ensures ok { OnOk result (breaches_in self.now.universe self.now.names.now expr.now
             ≡ []) }
         ensures stops { IfErr result
-            (λ s. StopsAt (expr_breaches self.now.universe self.now.names.now expr.now) s) }
+            (λ s. StopsAt (breaches_in self.now.universe self.now.names.now expr.now) s) }
     {
         match expr {
             TypeExpr::Named(name) => return self.named(name),
@@ -74,11 +75,11 @@ impl<'n> Checker<'n> {
         at: usize,
     ) -> Result<(), Stop>
         ensures ok { OnOk result (kind_breaches self.now.universe kind at
-            ++ expr_breaches self.now.universe self.now.names.now part.now
+            ++ breaches_in self.now.universe self.now.names.now part.now
             ++ bound_breaches kind bound ≡ []) }
         ensures stops { IfErr result
             (λ s. StopsAt (kind_breaches self.now.universe kind at
-            ++ expr_breaches self.now.universe self.now.names.now part.now
+            ++ breaches_in self.now.universe self.now.names.now part.now
             ++ bound_breaches kind bound) s) }
     {
         check_kind(self.alloc, self.universe, kind, at)?;
@@ -91,10 +92,10 @@ impl<'n> Checker<'n> {
     #[cycle(expressions)]
     fn exprs(&self, exprs: &[TypeExpr]) -> Result<(), Stop>
         ensures ok { OnOk result (flat_map
-            (expr_breaches self.now.universe self.now.names.now) exprs.now ≡ []) }
+            (breaches_in self.now.universe self.now.names.now) exprs.now ≡ []) }
         ensures stops { IfErr result
             (λ s. StopsAt (flat_map
-            (expr_breaches self.now.universe self.now.names.now) exprs.now) s) }
+            (breaches_in self.now.universe self.now.names.now) exprs.now) s) }
     {
         for expr in exprs {
             self.expr(expr)?;

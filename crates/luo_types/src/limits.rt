@@ -1,8 +1,10 @@
 // The limits that a source passes.
 ghost use Rattle.std.specs.Prelude.{◌≡◌, ◌*◌, ◌<◌, length, sum_by, IfSome, IfNone};
 ghost use Rattle.luo_num.specs.Mark.{capped};
-ghost use Rattle.luo_rules.specs.Counted.{own_nodes, own_multisets, most_parts, greatest_bound, greatest_by, definition_count};
+ghost use Rattle.luo_rules.specs.Counted.{greatest_by};
+ghost use Rattle.luo_source.specs.View.{plain_source};
 ghost use Rattle.luo_rules.specs.Checks.{PassesFirst, IsWithinLimits};
+ghost use Rattle.luo_types.specs.inner.Held.{nodes_in, multisets_in, parts_in, bound_in};
 
 use crate::counts::{TypeCounts, count_expr};
 use crate::statement_counts::count_procs;
@@ -16,11 +18,11 @@ use luo_source::{Source, TypeDef};
 
 // Counts in a definition, with a copy of the right side for each name.
 fn count_type(def: &TypeDef) -> TypeCounts
-    ensures nodes { result.nodes ≡ capped (length def.now.names * own_nodes def.now.body) }
+    ensures nodes { result.nodes ≡ capped (length def.now.names * nodes_in def.now.body) }
     ensures multisets { result.multisets
-        ≡ capped (length def.now.names * own_multisets def.now.body) }
-    ensures parts { result.parts ≡ most_parts def.now.body }
-    ensures bound { result.bound ≡ greatest_bound def.now.body }
+        ≡ capped (length def.now.names * multisets_in def.now.body) }
+    ensures parts { result.parts ≡ parts_in def.now.body }
+    ensures bound { result.bound ≡ bound_in def.now.body }
 {
     let names = def.names.len() as u128;
     let right = count_expr(&def.body);
@@ -34,11 +36,11 @@ fn count_type(def: &TypeDef) -> TypeCounts
 // Counts in definitions.
 fn count_types(types: &[TypeDef]) -> TypeCounts
     ensures nodes { result.nodes
-        ≡ capped (sum_by (λ d. length d.names * own_nodes d.body) types.now) }
+        ≡ capped (sum_by (λ d. length d.names * nodes_in d.body) types.now) }
     ensures multisets { result.multisets
-        ≡ capped (sum_by (λ d. length d.names * own_multisets d.body) types.now) }
-    ensures parts { result.parts ≡ greatest_by (λ d. most_parts d.body) types.now }
-    ensures bound { result.bound ≡ greatest_by (λ d. greatest_bound d.body) types.now }
+        ≡ capped (sum_by (λ d. length d.names * multisets_in d.body) types.now) }
+    ensures parts { result.parts ≡ greatest_by (λ d. parts_in d.body) types.now }
+    ensures bound { result.bound ≡ greatest_by (λ d. bound_in d.body) types.now }
 {
     let mut all = TypeCounts::NOTHING;
     for def in types {
@@ -60,8 +62,8 @@ fn count_names(types: &[TypeDef]) -> u128
 
 /// The first limit that a source passes, in the order of `CountLimit`, if any. Walks are not counted here.
 pub(crate) fn passed_limit(source: &Source) -> Option<CountLimit>
-    ensures some { IfSome result (λ which. PassesFirst source.now which) }
-    ensures none { IfNone result (IsWithinLimits source.now) }
+    ensures some { IfSome result (λ which. PassesFirst (plain_source source.now) which) }
+    ensures none { IfNone result (IsWithinLimits (plain_source source.now)) }
 {
     let types = source.types.as_slice();
     if count_names(types) > DEFINITION_LIMIT {

@@ -3,6 +3,7 @@ ghost use Rattle.std.specs.Prelude.{◌≡◌, ◌+◌, ◌<◌, ◌≤◌, leng
 ghost use Rattle.luo_num.specs.declared.limits.TheConstants.{NODE_LIMIT};
 ghost use Rattle.luo_rules.specs.Counted.{own_nodes};
 ghost use Rattle.luo_rules.specs.Definitions.{definition_meant, named_by, next, first_node};
+ghost use Rattle.luo_source.specs.View.{expr_of};
 ghost use Rattle.luo_rules.specs.inner.Naming.{node_of};
 
 use crate::counts::count_expr;
@@ -22,7 +23,7 @@ pub(crate) fn definition_meant(meant: Option<Meaning>) -> Option<usize>
 
 // The definition that a right side names, where it is a name.
 fn named_by(names: &Names, right: &TypeExpr) -> Option<usize>
-    ensures { result ≡ named_by names.now right.now }
+    ensures { result ≡ named_by names.now (expr_of right.now) }
 {
     match right {
         TypeExpr::Named(name) => definition_meant(names.meaning(name.text.as_slice())),

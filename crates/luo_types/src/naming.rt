@@ -1,5 +1,6 @@
 // What the names of a source mean.
-ghost use Rattle.std.specs.Prelude.{◌≡◌, [], OnOk, IfOk};
+ghost use Rattle.std.specs.Prelude.{◌≡◌, [], map, OnOk, IfOk};
+ghost use Rattle.luo_source.specs.View.{proc_def_of};
 ghost use Rattle.luo_rules.specs.Definitions.{with_definitions, with_measures, with_procedures};
 
 use crate::definitions::{Entry, Measured};
@@ -32,7 +33,7 @@ fn add_measures(alloc: Global, names: &mut Names, measures: &[Measured]) -> Resu
 }
 
 fn add_procedures(alloc: Global, names: &mut Names, procs: &[ProcDef]) -> Result<(), NoMemory>
-    ensures { OnOk result (names.new ≡ with_procedures names.old 0 procs.now) }
+    ensures { OnOk result (names.new ≡ with_procedures names.old 0 (map proc_def_of procs.now)) }
 {
     for (f, proc) in procs.iter().enumerate() {
         names.add(alloc, proc.name.text.as_slice(), Meaning::Procedure(f))?;
@@ -48,7 +49,8 @@ pub(crate) fn names_of(
     procs: &[ProcDef],
 ) -> Result<Names, NoMemory>
     ensures { IfOk result (λ names. names ≡ with_procedures
-        (with_measures (with_definitions [] 0 defs.now) 0 measures.now) 0 procs.now) }
+        (with_measures (with_definitions [] 0 defs.now) 0 measures.now) 0
+        (map proc_def_of procs.now)) }
 {
     let mut names = Names::new(alloc);
     add_definitions(alloc, &mut names, defs)?;

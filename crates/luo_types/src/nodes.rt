@@ -2,10 +2,12 @@
 ghost use Rattle.std.specs.Prelude.{◌≡◌, ◌+◌, ◌≤◌, [], ◌∷◌, ◌++◌, sum_by, flat_map, OnOk};
 ghost use Rattle.luo_num.specs.declared.limits.TheConstants.{BOUND_LIMIT, NODE_LIMIT};
 ghost use Rattle.luo_model.specs.declared.program.Shape.TheVariants as shape;
-ghost use Rattle.luo_rules.specs.Counted.{own_nodes, greatest_of, greatest_bound, greatest_by};
-ghost use Rattle.luo_rules.specs.TypeBreaches.{low_of, high_of, expr_breaches};
+ghost use Rattle.luo_rules.specs.Counted.{greatest_of, greatest_by};
+ghost use Rattle.luo_rules.specs.TypeBreaches.{low_of, high_of};
+ghost use Rattle.luo_source.specs.View.{expr_of};
 ghost use Rattle.luo_rules.specs.Nodes.{behind, part_at, nodes_at};
 ghost use Rattle.luo_types.specs.inner.NodeLists.{parts_of, nodes_of};
+ghost use Rattle.luo_types.specs.inner.Held.{nodes_in, bound_in, breaches_in};
 
 use crate::counts::count_expr;
 use crate::rules::{high_in, least_of, low_in};
@@ -45,12 +47,12 @@ pub(crate) fn put(
     at: Spot,
     nodes: &mut Items<Node>,
 ) -> Result<(), NoMemory>
-    requires room { at.node + own_nodes expr.now ≤ NODE_LIMIT }
+    requires room { at.node + nodes_in expr.now ≤ NODE_LIMIT }
     requires inside { at.place ≤ at.node }
-    requires clean { expr_breaches scheme.now.universe scheme.now.names expr.now ≡ [] }
-    requires small { greatest_bound expr.now ≤ BOUND_LIMIT }
+    requires clean { breaches_in scheme.now.universe scheme.now.names expr.now ≡ [] }
+    requires small { bound_in expr.now ≤ BOUND_LIMIT }
     ensures { OnOk result (nodes.new ≡ nodes.old
-        ++ nodes_at scheme.now.names scheme.now.defs.items owner at expr.now) }
+        ++ nodes_at scheme.now.names scheme.now.defs.items owner at (expr_of expr.now)) }
 {
     match expr {
         TypeExpr::Named(_) => return Ok(()),
@@ -80,10 +82,10 @@ fn put_union(
     at: Spot,
     nodes: &mut Items<Node>,
 ) -> Result<(), NoMemory>
-    requires room { at.node + 1 + sum_by own_nodes parts.now ≤ NODE_LIMIT }
+    requires room { at.node + 1 + sum_by nodes_in parts.now ≤ NODE_LIMIT }
     requires inside { at.place ≤ at.node }
-    requires clean { flat_map (expr_breaches scheme.now.universe scheme.now.names) parts.now ≡ [] }
-    requires small { greatest_by greatest_bound parts.now ≤ BOUND_LIMIT }
+    requires clean { flat_map (breaches_in scheme.now.universe scheme.now.names) parts.now ≡ [] }
+    requires small { greatest_by bound_in parts.now ≤ BOUND_LIMIT }
     ensures { OnOk result (nodes.new ≡ nodes.old
         ++ record {
           shape = shape.Union
@@ -115,10 +117,10 @@ fn put_product(
     at: Spot,
     nodes: &mut Items<Node>,
 ) -> Result<(), NoMemory>
-    requires room { at.node + 1 + sum_by own_nodes parts.now ≤ NODE_LIMIT }
+    requires room { at.node + 1 + sum_by nodes_in parts.now ≤ NODE_LIMIT }
     requires inside { at.place ≤ at.node }
-    requires clean { flat_map (expr_breaches scheme.now.universe scheme.now.names) parts.now ≡ [] }
-    requires small { greatest_by greatest_bound parts.now ≤ BOUND_LIMIT }
+    requires clean { flat_map (breaches_in scheme.now.universe scheme.now.names) parts.now ≡ [] }
+    requires small { greatest_by bound_in parts.now ≤ BOUND_LIMIT }
     ensures { OnOk result (nodes.new ≡ nodes.old
         ++ record {
           shape = shape.Product
@@ -152,20 +154,21 @@ fn put_collection(
     at: Spot,
     nodes: &mut Items<Node>,
 ) -> Result<(), NoMemory>
-    requires room { at.node + 1 + own_nodes part.now ≤ NODE_LIMIT }
+    requires room { at.node + 1 + nodes_in part.now ≤ NODE_LIMIT }
     requires inside { at.place ≤ at.node }
-    requires clean { expr_breaches scheme.now.universe scheme.now.names part.now ≡ [] }
-    requires small { greatest_bound part.now ≤ BOUND_LIMIT }
+    requires clean { breaches_in scheme.now.universe scheme.now.names part.now ≡ [] }
+    requires small { bound_in part.now ≤ BOUND_LIMIT }
     requires bounded { greatest_of bound ≤ BOUND_LIMIT }
     ensures { OnOk result (nodes.new ≡ nodes.old
         ++ record {
           shape = shape.Coll kind
-              (part_at scheme.now.names scheme.now.defs.items (behind at 1) part.now) (low_of kind bound)
+              (part_at scheme.now.names scheme.now.defs.items (behind at 1) (expr_of part.now)) (low_of kind bound)
               (high_of bound);
           owner = owner;
           place = at.place;
         }
-        ∷ nodes_at scheme.now.names scheme.now.defs.items owner (behind at 1) part.now) }
+        ∷ nodes_at scheme.now.names scheme.now.defs.items owner (behind at 1)
+        (expr_of part.now)) }
 {
     let inner = at.behind(1);
     nodes.push(Node {
@@ -191,10 +194,10 @@ fn put_all(
     at: Spot,
     nodes: &mut Items<Node>,
 ) -> Result<(), NoMemory>
-    requires room { at.node + sum_by own_nodes exprs.now ≤ NODE_LIMIT }
+    requires room { at.node + sum_by nodes_in exprs.now ≤ NODE_LIMIT }
     requires inside { at.place ≤ at.node }
-    requires clean { flat_map (expr_breaches scheme.now.universe scheme.now.names) exprs.now ≡ [] }
-    requires small { greatest_by greatest_bound exprs.now ≤ BOUND_LIMIT }
+    requires clean { flat_map (breaches_in scheme.now.universe scheme.now.names) exprs.now ≡ [] }
+    requires small { greatest_by bound_in exprs.now ≤ BOUND_LIMIT }
     ensures { OnOk result (nodes.new ≡ nodes.old
         ++ nodes_of scheme.now.names scheme.now.defs.items owner at exprs.now) }
 {

@@ -6,7 +6,7 @@ ghost use Rattle.luo_model.specs.View.{body_of, procedure_of};
 ghost use Rattle.luo_rules.specs.Settings.{types_of};
 ghost use Rattle.luo_types.specs.inner.SitesFound.{nodes_of, sites_at, sites_in, procedure_walks, procedure_items};
 
-use crate::sites::{Found, items, one_node};
+use crate::sites::{Found, items, one_part};
 use luo_model::{Proc, Site};
 use luo_num::Items;
 use luo_rules::Setting;
@@ -41,7 +41,7 @@ fn push_procedure(
     ensures walks { IfOk result (λ walks. walks ≡ procedure_walks (types_of setting.now)
         (procedure_of proc.now)) }
 {
-    let vars = one_node(alloc, proc.on.node)?;
+    let vars = one_part(alloc, proc.on)?;
     let mut found = Found {
         nodes: Items::new(alloc),
         walks: 0,

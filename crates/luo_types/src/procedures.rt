@@ -1,7 +1,7 @@
 // The typing and core form of procedures and analyze lines.
 #![tactic(auto, using(luo_value_types::proofs::StopLemmas::stop_steps))]
 
-ghost use Rattle.std.specs.Prelude.{◌≡◌, [], ◌∷◌, ◌++◌, ◌+◌, ◌*◌, ◌≤◌, Some, map, flat_map, length, sum_by, IfOk, IfErr, OnOk};
+ghost use Rattle.std.specs.Prelude.{◌≡◌, [], ◌≤◌, Some, map, flat_map, length, sum_by, IfOk, IfErr, OnOk};
 ghost use Rattle.luo_num.specs.declared.limits.TheConstants.{PROCEDURE_LIMIT, STATEMENT_LIMIT};
 ghost use Rattle.luo_model.specs.Scopes.ValueBodies.{value_body, value_sites};
 ghost use Rattle.luo_model.specs.View as model;
@@ -12,20 +12,23 @@ ghost use Rattle.luo_value_types.specs.inner.Room.{HasMeasuresWithin, HasFewBran
 ghost use Rattle.luo_rules.specs.Statements.{value_statements};
 ghost use Rattle.luo_rules.specs.ValueBreaches.{value_breaches};
 ghost use Rattle.luo_rules.specs.ValueCore.{value_core};
-ghost use Rattle.luo_rules.specs.Counted.{stmt_statements, body_statements};
+ghost use Rattle.luo_rules.specs.Counted.{stmts_statements, body_statements};
+ghost use Rattle.luo_rules.specs.StatementBreaches.{stmts_breaches};
+ghost use Rattle.luo_source.specs.View.{stmt_list, source_value_of, proc_body_of, proc_def_of};
+ghost use Rattle.luo_types.specs.inner.Held.{body_statements_in};
 ghost use Rattle.luo_types.specs.inner.ProceduresMade.{IsDone, IsBodyMade, IsProcMade, AreProcsMade};
-ghost use Rattle.luo_rules.specs.StatementCore.{stmt_sites};
-ghost use Rattle.luo_rules.specs.inner.StatementLists.{list_breaches, list_does};
+ghost use Rattle.luo_rules.specs.StatementCore.{stmts_sites};
+ghost use Rattle.luo_rules.specs.inner.StatementLists.{stmts_does};
 ghost use Rattle.luo_rules.specs.Whole.{result_breaches, parameter, body_breaches, proc_breaches, procs_breaches};
 
 use crate::rules::check_name;
 use crate::statements::{one_variable, stmts, take_site};
 use luo_model::{Body, Made, Proc, Universe};
 use luo_num::Items;
-use luo_rules::{Meaning, Rule, Setting, Stop};
+use luo_rules::{Meaning, Rule, Setting, Stop, Variable};
 use luo_source::{Name, ProcBody, ProcDef, SourceValue, Stmt};
 use luo_value_types::{Context, Maker, breach, use_procedure, use_type, value};
-use std::alloc::Global;
+use std::alloc::{AllocError, Global};
 
 // A procedure with a result stands in an unlabelled program.
 fn check_universe(alloc: Global, universe: Universe, colon: usize, name: &Name) -> Result<(), Stop>
@@ -38,70 +41,66 @@ fn check_universe(alloc: Global, universe: Universe, colon: usize, name: &Name) 
     }
 }
 
-// The body that runs statements, with a parameter of this node.
-fn run_body(
+// The scope of a procedure: its parameter.
+fn parameter(
     alloc: Global,
     setting: &Setting,
-    param: &Name,
-    node: usize,
-    inner: &[Stmt],
-    next: &mut usize,
-) -> Result<Body, Stop>
-    requires room { HasRoom (sum_by stmt_statements inner.now) 0 next.old }
-    requires within { HasMeasuresWithin setting.now }
-    ensures ok { IfOk result (λ body. IsDone
-        (list_breaches setting.now (parameter param.now node) inner.now)
-        (list_does setting.now (parameter param.now node) next.old inner.now)
-        (sum_by stmt_sites inner.now) body next.old next.new) }
-    ensures stops { IfErr result
-        (λ e. StopsAt (list_breaches setting.now (parameter param.now node) inner.now) e) }
+    proc: &ProcDef,
+) -> Result<Items<Variable>, AllocError>
+    ensures { IfOk result (λ scope. scope ≡ parameter setting.now (proc_def_of proc.now)) }
 {
-    let scope = one_variable(alloc, param, node)?;
-    let context = Context {
+    one_variable(
         alloc,
-        setting,
-        scope: scope.as_slice(),
-    };
-    let mut maker = Maker::new(alloc, *next);
-    stmts(&context, inner, &mut maker)?;
+        &proc.param,
+        setting.part_meant(setting.meant(&proc.on)),
+    )
+}
+
+// The body that runs statements in this scope.
+fn run_body(context: &Context<'_>, inner: &[Stmt], next: &mut usize) -> Result<Body, Stop>
+    requires room { HasRoom (stmts_statements (stmt_list inner.now)) 0 next.old }
+    requires within { HasMeasuresWithin context.now.setting.now }
+    ensures ok { IfOk result (λ body. IsDone
+        (stmts_breaches context.now.setting.now context.now.scope.now (stmt_list inner.now))
+        (stmts_does context.now.setting.now context.now.scope.now next.old (stmt_list inner.now))
+        (stmts_sites (stmt_list inner.now)) body next.old next.new) }
+    ensures stops { IfErr result (λ e. StopsAt
+        (stmts_breaches context.now.setting.now context.now.scope.now (stmt_list inner.now)) e) }
+{
+    let mut maker = Maker::new(context.alloc, *next);
+    stmts(context, inner, &mut maker)?;
     *next = maker.next;
     Ok(maker.body)
 }
 
-// The body that makes a value of this node, with a parameter of this node, and the value.
+// The body that makes a value of this node in this scope, and the value.
 fn made_body(
-    alloc: Global,
-    setting: &Setting,
-    param: &Name,
-    node: usize,
+    context: &Context<'_>,
     expected: usize,
     source: &SourceValue,
     next: &mut usize,
 ) -> Result<(Body, luo_model::Value), Stop>
-    requires room { HasRoom (value_statements source.now) 0 next.old }
-    requires within { HasMeasuresWithin setting.now }
-    requires branches { HasFewBranches setting.now }
+    requires room { HasRoom (value_statements (source_value_of source.now)) 0 next.old }
+    requires within { HasMeasuresWithin context.now.setting.now }
+    requires branches { HasFewBranches context.now.setting.now }
     ensures ok { IfOk result (λ made. IsDone
-        (value_breaches setting.now (parameter param.now node) (Some expected) source.now)
+        (value_breaches context.now.setting.now context.now.scope.now (Some expected)
+        (source_value_of source.now))
         (value_body next.old
-        (value_core setting.now (parameter param.now node) (Some expected) source.now))
+        (value_core context.now.setting.now context.now.scope.now (Some expected)
+        (source_value_of source.now)))
         (value_sites
-        (value_core setting.now (parameter param.now node)
-        (Some expected) source.now)) made.0 next.old next.new) }
-    ensures formed { IfOk result (λ made. model.value_of made.1 ≡ value_core setting.now
-        (parameter param.now node) (Some expected) source.now) }
-    ensures stops { IfErr result
-        (λ e. StopsAt (value_breaches setting.now (parameter param.now node)
-        (Some expected) source.now) e) }
+        (value_core context.now.setting.now context.now.scope.now (Some expected)
+        (source_value_of source.now))) made.0 next.old next.new) }
+    ensures formed { IfOk result (λ made. model.value_of made.1
+        ≡ value_core context.now.setting.now context.now.scope.now (Some expected)
+        (source_value_of source.now)) }
+    ensures stops { IfErr result (λ e. StopsAt
+        (value_breaches context.now.setting.now context.now.scope.now (Some expected)
+        (source_value_of source.now)) e) }
 {
-    let scope = one_variable(alloc, param, node)?;
-    let context = Context {
-        alloc,
-        setting,
-        scope: scope.as_slice(),
-    };
-    let mut maker = Maker::new(alloc, *next);
-    let made = value(&context, expected, source, &mut maker)?;
+    let mut maker = Maker::new(context.alloc, *next);
+    let made = value(context, expected, source, &mut maker)?;
     *next = maker.next;
     Ok((maker.body, made))
 }
@@ -115,17 +114,24 @@ fn body(
     next: &mut usize,
 ) -> Result<(Body, Option<Made>), Stop>
     requires on { type_node setting.now proc.now.on ≡ Some node }
-    requires room { HasRoom (body_statements proc.now.body) 0 next.old }
+    requires room { HasRoom (body_statements (proc_body_of proc.now.body)) 0 next.old }
     requires within { HasMeasuresWithin setting.now }
     requires branches { HasFewBranches setting.now }
     ensures ok { IfOk result (λ made.
-        IsBodyMade setting.now proc.now node made.0 made.1 next.old next.new) }
-    ensures stops { IfErr result
-        (λ e. StopsAt (body_breaches setting.now proc.now (Some node) proc.now.body) e) }
+        IsBodyMade setting.now (proc_def_of proc.now) node made.0 made.1 next.old next.new) }
+    ensures stops { IfErr result (λ e. StopsAt
+        (body_breaches setting.now (proc_def_of proc.now) (Some node)
+        (proc_body_of proc.now.body)) e) }
 {
+    let scope = parameter(alloc, setting, proc)?;
+    let context = Context {
+        alloc,
+        setting,
+        scope: scope.as_slice(),
+    };
     match &proc.body {
         ProcBody::Statements(inner) => {
-            let body = run_body(alloc, setting, &proc.param, node, inner.as_slice(), next)?;
+            let body = run_body(&context, inner.as_slice(), next)?;
             Ok((body, None))
         }
         ProcBody::Value {
@@ -137,15 +143,7 @@ fn body(
             let meant = setting.meant(result);
             use_type(alloc, meant, result)?;
             let on = setting.part_meant(meant);
-            let (body, value) = made_body(
-                alloc,
-                setting,
-                &proc.param,
-                node,
-                on.node,
-                source,
-                next,
-            )?;
+            let (body, value) = made_body(&context, on.node, source, next)?;
             Ok((body, Some(Made { on, value })))
         }
     }
@@ -159,12 +157,13 @@ fn procedure(
     proc: &ProcDef,
     next: &mut usize,
 ) -> Result<Proc, Stop>
-    requires room { HasRoom (body_statements proc.now.body) 0 next.old }
+    requires room { HasRoom (body_statements (proc_body_of proc.now.body)) 0 next.old }
     requires within { HasMeasuresWithin setting.now }
     requires branches { HasFewBranches setting.now }
     ensures ok { IfOk result (λ made.
-        IsProcMade setting.now number proc.now made next.old next.new) }
-    ensures stops { IfErr result (λ e. StopsAt (proc_breaches setting.now number proc.now) e) }
+        IsProcMade setting.now number (proc_def_of proc.now) made next.old next.new) }
+    ensures stops { IfErr result (λ e. StopsAt
+        (proc_breaches setting.now number (proc_def_of proc.now)) e) }
 {
     check_name(
         alloc,
@@ -192,12 +191,14 @@ pub(crate) fn procedures(
     setting: &Setting,
     procs: &[ProcDef],
 ) -> Result<Items<Proc>, Stop>
-    requires statements { sum_by (λ p. body_statements p.body) procs.now ≤ STATEMENT_LIMIT }
+    requires statements { sum_by (λ p. body_statements_in p.body) procs.now
+        ≤ STATEMENT_LIMIT }
     requires few { length procs.now ≤ PROCEDURE_LIMIT }
     requires within { HasMeasuresWithin setting.now }
     requires branches { HasFewBranches setting.now }
-    ensures ok { IfOk result (λ made. AreProcsMade setting.now procs.now made) }
-    ensures stops { IfErr result (λ e. StopsAt (procs_breaches setting.now 0 procs.now) e) }
+    ensures ok { IfOk result (λ made. AreProcsMade setting.now (map proc_def_of procs.now) made) }
+    ensures stops { IfErr result (λ e. StopsAt
+        (procs_breaches setting.now 0 (map proc_def_of procs.now)) e) }
 {
     let mut made = Items::new(alloc);
     let mut next = 0;

@@ -4,7 +4,9 @@ ghost use Rattle.luo_num.specs.declared.limits.TheConstants.{NODE_LIMIT};
 ghost use Rattle.luo_rules.specs.Meanings.{meaning};
 ghost use Rattle.luo_rules.specs.Counted.{own_nodes};
 ghost use Rattle.luo_rules.specs.Definitions.{definition_meant};
+ghost use Rattle.luo_source.specs.View.{expr_of};
 ghost use Rattle.luo_rules.specs.Nodes.{named_part, part_at, behind};
+ghost use Rattle.luo_types.specs.inner.Held.{nodes_in};
 ghost use Rattle.luo_types.specs.inner.NodeLists.{MeanBelow, AreNodes, parts_of};
 
 use crate::counts::count_expr;
@@ -25,6 +27,7 @@ pub(crate) struct Spot {
 }
 
 impl Model for Spot {
+    ghost use Rattle.luo_source.specs.View.{expr_of};
     ghost use Rattle.luo_rules.specs.Nodes.{Spot};
 
     ghost Value = { Spot };
@@ -115,7 +118,7 @@ impl<'s> Scheme<'s> {
 
     /// The part that stands for a type expression at this spot.
     pub fn part(&self, at: Spot, expr: &TypeExpr) -> Part
-        ensures { result ≡ part_at self.now.names self.now.defs.items at expr.now }
+        ensures { result ≡ part_at self.now.names self.now.defs.items at (expr_of expr.now) }
     {
         match expr {
             TypeExpr::Named(name) => self.named_part(name),
@@ -128,7 +131,7 @@ impl<'s> Scheme<'s> {
 
     /// The parts that stand for type expressions, one behind the other.
     pub fn parts(&self, at: Spot, exprs: &[TypeExpr]) -> Result<Items<Part>, NoMemory>
-        requires room { at.node + sum_by own_nodes exprs.now ≤ NODE_LIMIT }
+        requires room { at.node + sum_by nodes_in exprs.now ≤ NODE_LIMIT }
         requires inside { at.place ≤ at.node }
         ensures { IfOk result (λ parts. parts
             ≡ parts_of self.now.names self.now.defs.items at exprs.now) }

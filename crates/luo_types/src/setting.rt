@@ -1,6 +1,7 @@
 // The setting that definitions make.
 ghost use Rattle.std.specs.Prelude.{◌≡◌, ◌≤◌, [], map, flat_map, sum_by, IfOk};
 ghost use Rattle.luo_num.specs.declared.limits.TheConstants.{BOUND_LIMIT, NODE_LIMIT};
+ghost use Rattle.luo_source.specs.View.{proc_def_of};
 ghost use Rattle.luo_rules.specs.Counted.{own_nodes, greatest_bound, greatest_by};
 ghost use Rattle.luo_rules.specs.TypeBreaches.{expr_breaches};
 ghost use Rattle.luo_rules.specs.Nodes.{defs_from, nodes_from, named_node, signature_of};
@@ -66,7 +67,7 @@ fn named_node(scheme: &Scheme, name: &Name) -> Option<usize>
 }
 
 fn signature(scheme: &Scheme, proc: &ProcDef) -> Signature
-    ensures { result ≡ signature_of scheme.now.names scheme.now.defs.items proc.now }
+    ensures { result ≡ signature_of scheme.now.names scheme.now.defs.items (proc_def_of proc.now) }
 {
     let on = named_node(scheme, &proc.on);
     match &proc.body {
@@ -81,7 +82,7 @@ fn signature(scheme: &Scheme, proc: &ProcDef) -> Signature
 // The signatures of procedures.
 fn signatures(scheme: &Scheme, procs: &[ProcDef]) -> Result<Items<Signature>, NoMemory>
     ensures { IfOk result (λ made. made ≡ map
-        (signature_of scheme.now.names scheme.now.defs.items) procs.now) }
+        (λ p. signature_of scheme.now.names scheme.now.defs.items (proc_def_of p)) procs.now) }
 {
     let mut made = Items::new(scheme.alloc);
     for proc in procs {
@@ -103,7 +104,7 @@ pub(crate) fn setting(scheme: Scheme, procs: &[ProcDef]) -> Result<Setting, NoMe
     ensures nodes { IfOk result (λ s. s.nodes
         ≡ nodes_from scheme.entry.names scheme.entry.defs.items 0 0 scheme.entry.defs.items) }
     ensures signatures { IfOk result (λ s. s.signatures ≡ map
-        (signature_of scheme.entry.names scheme.entry.defs.items) procs.now) }
+        (λ p. signature_of scheme.entry.names scheme.entry.defs.items (proc_def_of p)) procs.now) }
 {
     let defs = core_defs(&scheme)?;
     let nodes = core_nodes(&scheme)?;

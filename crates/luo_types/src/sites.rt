@@ -1,6 +1,8 @@
 // The sites of procedures, and their walks over multisets and powersets.
-ghost use Rattle.std.specs.Prelude.{◌≡◌, [], ◌∷◌, ◌++◌, ◌+◌, ◌*◌, ◌^◌, ◌<◌, ◌≤◌, map, length, sum_by, IfOk, OnOk};
-ghost use Rattle.luo_model.specs.Scopes as scopes;
+ghost use Rattle.std.specs.Prelude.{◌≡◌, [], ◌∷◌, ◌++◌, ◌+◌, ◌*◌, ◌^◌, ◌<◌, ◌≤◌, length, sum_by, IfOk, OnOk};
+ghost use Rattle.luo_model.specs.Scopes.Stands as scopes;
+ghost use Rattle.luo_model.specs.Scopes.Sites as sited;
+ghost use Rattle.luo_model.specs.Scopes.Walks as walking;
 ghost use Rattle.luo_model.specs.View.{body_of, item_of, item_list, procedure_of};
 ghost use Rattle.luo_rules.specs.Settings.{shape_at, types_of};
 ghost use Rattle.luo_value_types.specs.inner.Stands.{stand_of};
@@ -20,76 +22,71 @@ pub(crate) struct Found {
     pub walks: usize,
 }
 
-// The node of a variable.
-fn node_at(vars: &[usize], var: usize) -> usize
-    ensures { result ≡ scopes.node_at vars.now var }
+// What stands for a place past the end of a scope.
+const NO_PART: Part = Part {
+    node: 0,
+    name: None,
+};
+
+// The part of a variable.
+fn part_at(vars: &[Part], var: usize) -> Part
+    ensures { result ≡ scopes.part_at vars.now var }
 {
     match vars.get(var) {
-        Some(node) => *node,
-        None => 0,
+        Some(part) => *part,
+        None => NO_PART,
     }
 }
 
-// The nodes of the factors of a construct.
-fn factors(alloc: Global, parts: &[Part]) -> Result<Items<usize>, AllocError>
-    ensures { IfOk result (λ nodes. nodes ≡ map (λ part. part.node) parts.now) }
+// One part.
+pub(crate) fn one_part(alloc: Global, part: Part) -> Result<Items<Part>, AllocError>
+    ensures { IfOk result (λ parts. parts ≡ part ∷ []) }
 {
-    let mut nodes = Items::new(alloc);
-    for part in parts {
-        nodes.push(part.node)?;
-    }
-    Ok(nodes)
+    let mut parts = Items::new(alloc);
+    parts.push(part)?;
+    Ok(parts)
 }
 
-// One node.
-pub(crate) fn one_node(alloc: Global, node: usize) -> Result<Items<usize>, AllocError>
-    ensures { IfOk result (λ nodes. nodes ≡ node ∷ []) }
-{
-    let mut nodes = Items::new(alloc);
-    nodes.push(node)?;
-    Ok(nodes)
-}
-
-// The nodes of the factors of a node.
-fn factor_nodes(alloc: Global, setting: &Setting, node: usize) -> Result<Items<usize>, AllocError>
-    ensures { IfOk result (λ nodes. nodes ≡ scopes.factors (shape_at setting.now node)) }
+// The factors of a node.
+fn factors(alloc: Global, setting: &Setting, node: usize) -> Result<Items<Part>, AllocError>
+    ensures { IfOk result (λ parts. parts ≡ scopes.factors (shape_at setting.now node)) }
 {
     match setting.shape(node) {
-        Some(Shape::Product { parts }) => factors(alloc, parts.as_slice()),
+        Some(Shape::Product { parts }) => Items::from_slice(alloc, parts.as_slice()),
         _ => Ok(Items::new(alloc)),
     }
 }
 
-// The nodes of the variables that an arm binds, which stands for this.
-fn bound_nodes(
+// The parts of the variables that an arm binds, which stands for this.
+fn bound_parts(
     alloc: Global,
     setting: &Setting,
     stand: Stand,
     bind: Bind,
-) -> Result<Items<usize>, AllocError>
-    ensures { IfOk result (λ nodes. nodes ≡ scopes.bound_nodes (types_of setting.now)
+) -> Result<Items<Part>, AllocError>
+    ensures { IfOk result (λ parts. parts ≡ scopes.bound_parts (types_of setting.now)
         (stand_of stand) bind) }
 {
     match bind {
         Bind::Nothing => Ok(Items::new(alloc)),
-        Bind::Whole => one_node(alloc, stand.node()),
-        Bind::Parts(_) => factor_nodes(alloc, setting, stand.node()),
+        Bind::Whole => one_part(alloc, stand.part()),
+        Bind::Parts(_) => factors(alloc, setting, stand.part().node),
     }
 }
 
-// The node of the components of a collection.
-fn component_in(shape: &Shape) -> usize
+// The components of a collection.
+fn component_in(shape: &Shape) -> Part
     ensures { result ≡ scopes.component shape.now }
 {
     match shape {
-        Shape::Coll { part, .. } => part.node,
-        _ => 0,
+        Shape::Coll { part, .. } => *part,
+        _ => NO_PART,
     }
 }
 
 // 1 for a multiset or a powerset.
 fn walk_in(shape: &Shape) -> usize
-    ensures { result ≡ scopes.walk_of shape.now }
+    ensures { result ≡ walking.multiset_of shape.now }
 {
     match shape {
         Shape::Coll { kind, .. } => match kind {
@@ -101,14 +98,14 @@ fn walk_in(shape: &Shape) -> usize
     }
 }
 
-// The node of the components of a node, and 1 where it is a multiset or a powerset.
-fn walked(setting: &Setting, node: usize) -> (usize, usize)
+// The components of a node, and 1 where it is a multiset or a powerset.
+fn walked(setting: &Setting, node: usize) -> (Part, usize)
     ensures component { result.0 ≡ scopes.component (shape_at setting.now node) }
-    ensures walks { result.1 ≡ scopes.walk_of (shape_at setting.now node) }
+    ensures walks { result.1 ≡ walking.multiset_of (shape_at setting.now node) }
 {
     match setting.shape(node) {
         Some(shape) => (component_in(shape), walk_in(shape)),
-        None => (0, 0),
+        None => (NO_PART, 0),
     }
 }
 
@@ -121,16 +118,16 @@ fn arm(
     arm: &Arm,
     found: &mut Found,
 ) -> Result<(), AllocError>
-    requires { found.old.walks + scopes.body_items (body_of arm.now.body) ≤ 2 ^ 32 }
+    requires { found.old.walks + walking.body_items (body_of arm.now.body) ≤ 2 ^ 32 }
     ensures { OnOk result (IsFound
-        (nodes_of (scopes.body_sites (types_of setting.now)
-        (scopes.bound_nodes (types_of setting.now) (stand_of stand) arm.now.bind)
+        (nodes_of (sited.body_sites (types_of setting.now)
+        (scopes.bound_parts (types_of setting.now) (stand_of stand) arm.now.bind)
         (body_of arm.now.body)))
-        (scopes.body_walks (types_of setting.now)
-        (scopes.bound_nodes (types_of setting.now) (stand_of stand) arm.now.bind)
+        (walking.body_walks (types_of setting.now)
+        (scopes.bound_parts (types_of setting.now) (stand_of stand) arm.now.bind)
         (body_of arm.now.body)) found.old found.new) }
 {
-    let vars = bound_nodes(alloc, setting, stand, arm.bind)?;
+    let vars = bound_parts(alloc, setting, stand, arm.bind)?;
     items(
         alloc,
         setting,
@@ -141,24 +138,24 @@ fn arm(
     Ok(())
 }
 
-// Finds what the arms of a case on this node have.
+// Finds what the arms of a case on this part have.
 #[cycle(found)]
 fn arms(
     alloc: Global,
     setting: &Setting,
-    node: usize,
+    on: Part,
     arms: &[Arm],
     found: &mut Found,
 ) -> Result<(), AllocError>
-    requires { found.old.walks + scopes.arms_in (arm_list arms.now) ≤ 2 ^ 32 }
+    requires { found.old.walks + walking.arms_in (arm_list arms.now) ≤ 2 ^ 32 }
     ensures { OnOk result (IsFound
-        (nodes_of (scopes.arms_sites (types_of setting.now)
-        (scopes.stands node (shape_at setting.now node)) (arm_list arms.now)))
-        (scopes.arms_walks (types_of setting.now) (scopes.stands node (shape_at setting.now node))
+        (nodes_of (sited.arms_sites (types_of setting.now)
+        (scopes.stands on (shape_at setting.now on.node)) (arm_list arms.now)))
+        (walking.arms_walks (types_of setting.now) (scopes.stands on (shape_at setting.now on.node))
         (arm_list arms.now)) found.old found.new) }
 {
     for (place, one) in arms.iter().enumerate() {
-        let Some(stand) = stand_at(setting, node, place) else {
+        let Some(stand) = stand_at(setting, on, place) else {
             return Ok(());
         };
         arm(alloc, setting, stand, one, found)?;
@@ -175,18 +172,18 @@ fn walk(
     body: &Body,
     found: &mut Found,
 ) -> Result<(), AllocError>
-    requires { found.old.walks + (1 + scopes.body_items (body_of body.now)) ≤ 2 ^ 32 }
+    requires { found.old.walks + (1 + walking.body_items (body_of body.now)) ≤ 2 ^ 32 }
     ensures { OnOk result (IsFound
-        (nodes_of (scopes.body_sites (types_of setting.now)
+        (nodes_of (sited.body_sites (types_of setting.now)
         (scopes.component (shape_at setting.now node) ∷ []) (body_of body.now))
-        ++ scopes.component (shape_at setting.now node) ∷ node ∷ [])
-        (scopes.walk_of (shape_at setting.now node)
-        + scopes.body_walks (types_of setting.now)
+        ++ (scopes.component (shape_at setting.now node)).node ∷ node ∷ [])
+        (walking.multiset_of (shape_at setting.now node)
+        + walking.body_walks (types_of setting.now)
         (scopes.component (shape_at setting.now node) ∷ [])
         (body_of body.now)) found.old found.new) }
 {
     let (component, walks) = walked(setting, node);
-    let vars = one_node(alloc, component)?;
+    let vars = one_part(alloc, component)?;
     found.walks += walks;
     items(
         alloc,
@@ -195,29 +192,29 @@ fn walk(
         body.items.as_slice(),
         found,
     )?;
-    found.nodes.push(component)?;
+    found.nodes.push(component.node)?;
     found.nodes.push(node)?;
     Ok(())
 }
 
-// Finds what an item has in a scope of variables of these nodes.
+// Finds what an item has in a scope of variables of these parts.
 #[cycle(found)]
 fn item(
     alloc: Global,
     setting: &Setting,
-    vars: &[usize],
+    vars: &[Part],
     item: &Item,
     found: &mut Found,
 ) -> Result<(), AllocError>
-    requires { found.old.walks + scopes.item_in (item_of item.now) ≤ 2 ^ 32 }
+    requires { found.old.walks + walking.item_in (item_of item.now) ≤ 2 ^ 32 }
     ensures { OnOk result (IsFound
-        (nodes_of (scopes.item_sites (types_of setting.now) vars.now (item_of item.now)))
-        (scopes.item_walks (types_of setting.now) vars.now
+        (nodes_of (sited.item_sites (types_of setting.now) vars.now (item_of item.now)))
+        (walking.item_walks (types_of setting.now) vars.now
         (item_of item.now)) found.old found.new) }
 {
     match item {
         Item::Call { var, .. } => {
-            found.nodes.push(node_at(vars, *var))?;
+            found.nodes.push(part_at(vars, *var).node)?;
             Ok(())
         }
         Item::Case {
@@ -225,31 +222,31 @@ fn item(
             arms: branches,
             ..
         } => {
-            let node = node_at(vars, *var);
-            arms(alloc, setting, node, branches.as_slice(), found)?;
-            found.nodes.push(node)?;
+            let on = part_at(vars, *var);
+            arms(alloc, setting, on, branches.as_slice(), found)?;
+            found.nodes.push(on.node)?;
             Ok(())
         }
         Item::Forall { var, body, .. } => {
-            walk(alloc, setting, node_at(vars, *var), body, found)?;
+            walk(alloc, setting, part_at(vars, *var).node, body, found)?;
             Ok(())
         }
     }
 }
 
-// Finds what items have in a scope of variables of these nodes.
+// Finds what items have in a scope of variables of these parts.
 #[cycle(found)]
 pub(crate) fn items(
     alloc: Global,
     setting: &Setting,
-    vars: &[usize],
+    vars: &[Part],
     items: &[Item],
     found: &mut Found,
 ) -> Result<(), AllocError>
-    requires { found.old.walks + scopes.items_in (item_list items.now) ≤ 2 ^ 32 }
+    requires { found.old.walks + walking.items_in (item_list items.now) ≤ 2 ^ 32 }
     ensures { OnOk result (IsFound
-        (nodes_of (scopes.items_sites (types_of setting.now) vars.now (item_list items.now)))
-        (scopes.items_walks (types_of setting.now) vars.now
+        (nodes_of (sited.items_sites (types_of setting.now) vars.now (item_list items.now)))
+        (walking.items_walks (types_of setting.now) vars.now
         (item_list items.now)) found.old found.new) }
 {
     for one in items {

@@ -1,7 +1,7 @@
 // The number of statements.
 ghost use Rattle.std.specs.Prelude.{◌≡◌, suc, sum_by};
 ghost use Rattle.luo_num.specs.Mark.{capped};
-ghost use Rattle.luo_rules.specs.Counted.{stmt_statements, body_statements};
+ghost use Rattle.luo_types.specs.inner.Held.{statements_in, body_statements_in};
 
 use luo_num::marked_add;
 use luo_source::{ProcBody, ProcDef, SourceArm, Stmt};
@@ -10,7 +10,7 @@ use luo_value_types::count_statements;
 // The marked number of statements of a statement.
 #[cycle(statements)]
 fn count_stmt(stmt: &Stmt) -> u128
-    ensures { result ≡ capped (stmt_statements stmt.now) }
+    ensures { result ≡ capped (statements_in stmt.now) }
 {
     match stmt {
         Stmt::Skip => return 1,
@@ -25,7 +25,7 @@ fn count_stmt(stmt: &Stmt) -> u128
 // The marked number of statements of a case.
 #[cycle(statements)]
 fn count_case(arms: &[SourceArm]) -> u128
-    ensures { result ≡ capped (suc (sum_by (λ a. stmt_statements a.body) arms.now)) }
+    ensures { result ≡ capped (suc (sum_by (λ a. statements_in a.body) arms.now)) }
 {
     let mut total = 1;
     for arm in arms {
@@ -37,7 +37,7 @@ fn count_case(arms: &[SourceArm]) -> u128
 // The marked number of statements of a walk.
 #[cycle(statements)]
 fn count_forall(body: &Stmt) -> u128
-    ensures { result ≡ capped (suc (stmt_statements body.now)) }
+    ensures { result ≡ capped (suc (statements_in body.now)) }
 {
     marked_add(1, count_stmt(body))
 }
@@ -45,7 +45,7 @@ fn count_forall(body: &Stmt) -> u128
 // The marked number of statements beside each other.
 #[cycle(statements)]
 fn count_stmts(stmts: &[Stmt]) -> u128
-    ensures { result ≡ capped (sum_by stmt_statements stmts.now) }
+    ensures { result ≡ capped (sum_by statements_in stmts.now) }
 {
     let mut total = 0;
     for stmt in stmts {
@@ -56,7 +56,7 @@ fn count_stmts(stmts: &[Stmt]) -> u128
 
 // The marked number of statements of what a procedure does.
 fn count_body(body: &ProcBody) -> u128
-    ensures { result ≡ capped (body_statements body.now) }
+    ensures { result ≡ capped (body_statements_in body.now) }
 {
     match body {
         ProcBody::Statements(stmts) => count_stmts(stmts.as_slice()),
@@ -66,7 +66,7 @@ fn count_body(body: &ProcBody) -> u128
 
 /// The marked number of statements of procedures.
 pub(crate) fn count_procs(procs: &[ProcDef]) -> u128
-    ensures { result ≡ capped (sum_by (λ p. body_statements p.body) procs.now) }
+    ensures { result ≡ capped (sum_by (λ p. body_statements_in p.body) procs.now) }
 {
     let mut total = 0;
     for proc in procs {

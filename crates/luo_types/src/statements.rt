@@ -10,14 +10,15 @@ ghost use Rattle.luo_rules.specs.Meanings.{measure_use, value_of};
 ghost use Rattle.luo_rules.specs.Settings.{meant, shape_at, found};
 ghost use Rattle.luo_value_types.specs.inner.Stands.{stand_of};
 ghost use Rattle.luo_value_types.specs.inner.Room.{HasMeasuresWithin, HasRoom};
-ghost use Rattle.luo_rules.specs.Counted.{stmt_statements};
+ghost use Rattle.luo_source.specs.View.{stmt_of, stmt_list, source_arm_list};
+ghost use Rattle.luo_rules.specs.Counted.{stmt_statements, stmts_statements, arms_statements};
 ghost use Rattle.luo_rules.specs.StatementBreaches.{walk_breaches, stmt_breaches};
-ghost use Rattle.luo_rules.specs.inner.StatementLists.{list_breaches, one_arm_breaches, arm_list_breaches, arm_statements};
+ghost use Rattle.luo_rules.specs.inner.StatementLists.{one_arm_breaches, arm_statements};
 ghost use Rattle.luo_types.specs.inner.StatementsMade.{HasItem, IsWalked};
 ghost use Rattle.luo_types.specs.inner.StatementChecks.{ChecksCharge, ChecksStmt, ChecksStmts, ChecksArm, ChecksArms};
 ghost use Rattle.luo_value_types.specs.inner.Values.{HasRoomFor};
 
-use luo_model::{Arm, Body, Item, Shape};
+use luo_model::{Arm, Body, Item, Part, Shape};
 use luo_num::Items;
 use luo_rules::{Rule, Setting, Stop, Variable};
 use luo_source::{Name, SourceArm, Stmt};
@@ -78,12 +79,13 @@ fn call(context: &Context<'_>, callee: &Name, arg: &Name, maker: &mut Maker) -> 
     Ok(())
 }
 
-// What the arm at this place stands for, in a case on this node.
-fn arm_stand(setting: &Setting, node: usize, place: usize) -> Stand
-    requires { place < length (stands node (shape_at setting.now node)) }
-    ensures { slice_get (stands node (shape_at setting.now node)) place ≡ Some (stand_of result) }
+// What the arm at this place stands for, in a case on this part.
+fn arm_stand(setting: &Setting, on: Part, place: usize) -> Stand
+    requires { place < length (stands on (shape_at setting.now on.node)) }
+    ensures { slice_get (stands on (shape_at setting.now on.node)) place
+        ≡ Some (stand_of result) }
 {
-    match stand_at(setting, node, place) {
+    match stand_at(setting, on, place) {
         Some(stand) => stand,
         None => unreachable!(),
     }
@@ -118,24 +120,24 @@ fn arm(
     })
 }
 
-// Checks the arms of a case on this node, and makes them.
+// Checks the arms of a case on this part, and makes them.
 #[cycle(statements)]
 fn arms(
     context: &Context<'_>,
-    node: usize,
+    on: Part,
     var: &Name,
     arms: &[SourceArm],
     next: &mut usize,
 ) -> Result<Items<Arm>, Stop>
-    requires room { HasRoom (sum_by arm_statements arms.now) 0 next.old }
+    requires room { HasRoom (arms_statements (source_arm_list arms.now)) 0 next.old }
     requires within { HasMeasuresWithin context.now.setting.now }
     requires even { length arms.now
-        ≡ length (stands node (shape_at context.now.setting.now node)) }
-    ensures { ChecksArms context.now.setting.now node var.now arms.now result next.old next.new }
+        ≡ length (stands on (shape_at context.now.setting.now on.node)) }
+    ensures { ChecksArms context.now.setting.now on var.now arms.now result next.old next.new }
 {
     let mut made = Items::new(context.alloc);
     for (place, one) in arms.iter().enumerate() {
-        let stand = arm_stand(context.setting, node, place);
+        let stand = arm_stand(context.setting, on, place);
         let done = arm(context, stand, var, one, next)?;
         made.push(done)?;
     }
@@ -150,7 +152,8 @@ fn case(
     branches: &[SourceArm],
     maker: &mut Maker,
 ) -> Result<(), Stop>
-    requires room { HasRoomFor (stmt_statements (form.Case var.now branches.now)) maker.old }
+    requires room { HasRoomFor (stmt_statements
+        (stmt_of (form.Case var.now branches.now))) maker.old }
     requires within { HasMeasuresWithin context.now.setting.now }
     ensures { ChecksStmt context.now.setting.now context.now.scope.now
         (form.Case var.now branches.now) result maker.old maker.new }
@@ -169,8 +172,8 @@ fn case(
     Ok(())
 }
 
-// The place of a walk's variable, and the node of what it binds. It has to be bound, and of a collection.
-fn collection(context: &Context<'_>, source: &Name) -> Result<(usize, usize), Stop>
+// The place of a walk's variable, and the part of what it binds. It has to be bound, and of a collection.
+fn collection(context: &Context<'_>, source: &Name) -> Result<(usize, Part), Stop>
     ensures ok { IfOk result (λ walk. IsWalked context.now.setting.now
         (found context.now.scope.now source.now)
         source.now walk) }
@@ -179,24 +182,24 @@ fn collection(context: &Context<'_>, source: &Name) -> Result<(usize, usize), St
         (found context.now.scope.now source.now) source.now inner) e) }
 {
     let there = variable(context, source)?;
-    match context.setting.shape(there.1) {
-        Some(Shape::Coll { part, .. }) => Ok((there.0, part.node)),
+    match context.setting.shape(there.1.node) {
+        Some(Shape::Coll { part, .. }) => Ok((there.0, *part)),
         _ => Err(breach_at(context.alloc, Rule::Y12, source)),
     }
 }
 
-// The scope of a walk's body: a component of this node.
+// The scope of one variable, of this part.
 pub(crate) fn one_variable(
     alloc: Global,
     name: &Name,
-    node: usize,
+    part: Part,
 ) -> Result<Items<Variable>, AllocError>
-    ensures { IfOk result (λ scope. scope ≡ record { name = name.now.text; node = node } ∷ []) }
+    ensures { IfOk result (λ scope. scope ≡ record { name = name.now.text; part = part } ∷ []) }
 {
     let mut scope = Items::new(alloc);
     scope.push(Variable {
         name: Items::from_slice(alloc, name.text.as_slice())?,
-        node,
+        part,
     })?;
     Ok(scope)
 }
@@ -210,8 +213,8 @@ fn walk(
     each: &Stmt,
     maker: &mut Maker,
 ) -> Result<(), Stop>
-    requires room { HasRoomFor (stmt_statements (form.Forall var.now source.now each.now))
-        maker.old }
+    requires room { HasRoomFor (stmt_statements
+        (stmt_of (form.Forall var.now source.now each.now))) maker.old }
     requires within { HasMeasuresWithin context.now.setting.now }
     ensures { ChecksStmt context.now.setting.now context.now.scope.now
         (form.Forall var.now source.now each.now) result maker.old maker.new }
@@ -245,7 +248,7 @@ fn walk(
 /// It stops at the first breach.
 #[cycle(statements)]
 pub fn stmts(context: &Context<'_>, stmts: &[Stmt], maker: &mut Maker) -> Result<(), Stop>
-    requires room { HasRoomFor (sum_by stmt_statements stmts.now) maker.old }
+    requires room { HasRoomFor (stmts_statements (stmt_list stmts.now)) maker.old }
     requires within { HasMeasuresWithin context.now.setting.now }
     ensures { ChecksStmts context.now.setting.now context.now.scope.now
         stmts.now result maker.old maker.new }
@@ -259,7 +262,7 @@ pub fn stmts(context: &Context<'_>, stmts: &[Stmt], maker: &mut Maker) -> Result
 // Checks a statement, and adds what it does to the body, with the next sites.
 #[cycle(statements)]
 fn stmt(context: &Context<'_>, stmt: &Stmt, maker: &mut Maker) -> Result<(), Stop>
-    requires room { HasRoomFor (stmt_statements stmt.now) maker.old }
+    requires room { HasRoomFor (stmt_statements (stmt_of stmt.now)) maker.old }
     requires within { HasMeasuresWithin context.now.setting.now }
     ensures { ChecksStmt context.now.setting.now context.now.scope.now
         stmt.now result maker.old maker.new }

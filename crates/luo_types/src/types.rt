@@ -1,8 +1,9 @@
 // The check of definitions and measures, and the setting that they make.
 #![tactic(auto, using(luo_value_types::proofs::StopLemmas::stop_steps))]
 
-ghost use Rattle.std.specs.Prelude.{◌≡◌, ◌≤◌, ◌++◌, [], length, sum_by, IfOk, IfErr, OnOk};
+ghost use Rattle.std.specs.Prelude.{◌≡◌, ◌≤◌, ◌++◌, [], map, length, sum_by, IfOk, IfErr, OnOk};
 ghost use Rattle.luo_num.specs.declared.limits.TheConstants.{DEFINITION_LIMIT};
+ghost use Rattle.luo_source.specs.View.{type_def_of, plain_source};
 ghost use Rattle.luo_rules.specs.Breaches.{StopsAt};
 ghost use Rattle.luo_rules.specs.Definitions.{names_of, definitions};
 ghost use Rattle.luo_rules.specs.TypeBreaches.{types_breaches, measures_breaches, first_breaches};
@@ -30,11 +31,11 @@ fn check_all(
     types: &[TypeDef],
 ) -> Result<(), Stop>
     requires { sum_by (λ d. length d.names) types.now ≤ DEFINITION_LIMIT }
-    ensures definitions { OnOk result (types_breaches universe names.now defs.now 0 types.now
-        ≡ []) }
+    ensures definitions { OnOk result (types_breaches universe names.now defs.now 0
+        (map type_def_of types.now) ≡ []) }
     ensures measures { OnOk result (measures_breaches names.now 0 measures.now ≡ []) }
     ensures stops { IfErr result
-        (λ s. StopsAt (types_breaches universe names.now defs.now 0 types.now
+        (λ s. StopsAt (types_breaches universe names.now defs.now 0 (map type_def_of types.now)
         ++ measures_breaches names.now 0 measures.now) s) }
 {
     let checker = Checker {
@@ -49,12 +50,12 @@ fn check_all(
 
 // Checks the definitions and measures, and gives the definitions with the node of each.
 fn checked<'s>(alloc: Global, source: &'s Source) -> Result<Scheme<'s>, Stop>
-    requires { IsWithinLimits source.now }
-    ensures ok { OnOk result (first_breaches source.now ≡ []) }
+    requires { IsWithinLimits (plain_source source.now) }
+    ensures ok { OnOk result (first_breaches (plain_source source.now) ≡ []) }
     ensures universe { IfOk result (λ s. s.universe ≡ source.now.universe) }
-    ensures names { IfOk result (λ s. s.names ≡ names_of source.now) }
-    ensures defs { IfOk result (λ s. s.defs.items ≡ definitions source.now) }
-    ensures stops { IfErr result (λ s. StopsAt (first_breaches source.now) s) }
+    ensures names { IfOk result (λ s. s.names ≡ names_of (plain_source source.now)) }
+    ensures defs { IfOk result (λ s. s.defs.items ≡ definitions (plain_source source.now)) }
+    ensures stops { IfErr result (λ s. StopsAt (first_breaches (plain_source source.now)) s) }
 {
     let types = source.types.as_slice();
     let defs = definitions(alloc, types)?;
@@ -79,10 +80,10 @@ fn checked<'s>(alloc: Global, source: &'s Source) -> Result<Scheme<'s>, Stop>
 
 /// Checks the definitions and measures of a source within the limits, and makes its setting.
 pub(crate) fn types(alloc: Global, source: &Source) -> Result<Setting, Stop>
-    requires { IsWithinLimits source.now }
-    ensures ok { OnOk result (first_breaches source.now ≡ []) }
-    ensures setting { IfOk result (λ s. s ≡ setting_of source.now) }
-    ensures stops { IfErr result (λ s. StopsAt (first_breaches source.now) s) }
+    requires { IsWithinLimits (plain_source source.now) }
+    ensures ok { OnOk result (first_breaches (plain_source source.now) ≡ []) }
+    ensures setting { IfOk result (λ s. s ≡ setting_of (plain_source source.now)) }
+    ensures stops { IfErr result (λ s. StopsAt (first_breaches (plain_source source.now)) s) }
 {
     let scheme = checked(alloc, source)?;
     let made = setting(scheme, source.procs.as_slice())?;

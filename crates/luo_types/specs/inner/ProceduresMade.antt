@@ -5,7 +5,7 @@ use Rattle.luo_model.specs.declared.body.Body.{Body}
 use Rattle.luo_model.specs.declared.program.Proc.{Proc}
 use Rattle.luo_model.specs.declared.value.Made.{Made}
 use Rattle.luo_model.specs.View.{body_of, result_of, procedure_of}
-use Rattle.luo_source.specs.declared.source.ProcDef.{ProcDef}
+use Rattle.luo_source.specs.Plain.Source.{ProcDef}
 use Rattle.luo_rules.specs.declared.rule.Breach.{Breach}
 use Rattle.luo_rules.specs.declared.setting.Setting.{Setting}
 use Rattle.luo_model.specs.Program as plain

@@ -28,7 +28,7 @@ sites_in p f procs = map (λ site. site.1) (sites_from p f procs)
 
 -- the walks of procedures over multisets and powersets
 abbrev pub procedure_walks : Program → Procedure → ℕ
-procedure_walks p P = body_walks p (P.on.node ∷ []) P.body
+procedure_walks p P = body_walks p (P.on ∷ []) P.body
 
 abbrev pub procedure_items : Procedure → ℕ
 procedure_items P = body_items P.body

@@ -1,7 +1,7 @@
 -- The parts of a source that breaks no rule.
 use Rattle.std.specs.Prelude.{◌≡◌, [], map}
 use Rattle.luo_model.specs.View.{procedure_of}
-use Rattle.luo_source.specs.declared.source.Source.{Source}
+use Rattle.luo_source.specs.Plain.Source.{Source}
 use Rattle.luo_rules.specs.Meanings as meanings
 use Rattle.luo_rules.specs.Meanings.{procedure_use}
 use Rattle.luo_rules.specs.Settings.{meant}

@@ -1,6 +1,6 @@
 use Rattle.std.proofs.Common.{◌≡◌, ◌∙◌, ◌++◌, OnOk, subst, ap, arith}
 use Rattle.std.proofs.lemmas.List.Sums.{get_or-le-sum_by}
-use Rattle.luo_rules.specs.Counted.{own_nodes}
+use Rattle.luo_types.specs.inner.Held.{nodes_in}
 use Rattle.luo_types.proofs.CountLemmas.{counts_of_union, counts_of_product, counts_of_collection}
 use Rattle.luo_types.proofs.ExpressionLemmas.{union_breaches, product_breaches}
 use Rattle.luo_types.proofs.NodeLemmas.{next_of, nodes_next, union_nodes, product_nodes, collection_nodes, collection_clean}
@@ -37,7 +37,7 @@ pub put_all-put-requires : goal.put_all-put-requires
 put_all-put-requires t c =
     let inv = c.loop-expr.invariant in
     let next = next_of c.args.scheme.now.universe c.args.scheme.now.names c.loop-expr.spot c.args.exprs.now c.loop-expr.expr-index c.expr-item.result c.loop-expr-test.true c.expr-item.is inv.0 inv.2 inv.3 in
-    (omega (arith, c.decreases, get_or-le-sum_by own_nodes c.args.exprs.now c.loop-expr.expr-index c.expr-item.result c.loop-expr-test.true, ap own_nodes c.expr-item.is), (omega (arith, next.room), (inv.1, (next.clean, next.small))))
+    (omega (arith, c.decreases, get_or-le-sum_by nodes_in c.args.exprs.now c.loop-expr.expr-index c.expr-item.result c.loop-expr-test.true, ap nodes_in c.expr-item.is), (omega (arith, next.room), (inv.1, (next.clean, next.small))))
 
 pub put_all-loop-expr-preserved : goal.put_all-loop-expr-preserved
 put_all-loop-expr-preserved t c =

@@ -10,7 +10,7 @@ overflow_add-walks c =
     let p = types_of c.args.setting.now in
     let P = c.index-procs-caller.result in
     let so = procs-at p c.args.procs.now c.loop-caller.caller P c.loop-caller.sites c.loop-caller.walks c.loop-caller.invariant c.loop-caller-test.true c.index-procs-caller.is in
-    omega (arith, procs-few p c.args.procs.now P (drop (c.loop-caller.caller + 1) c.args.procs.now) c.loop-caller.caller c.loop-caller.sites c.loop-caller.walks so, c.in_ok-walks.ensures.walks, walks-within p (P.on.node ∷ []) (body_of P.body))
+    omega (arith, procs-few p c.args.procs.now P (drop (c.loop-caller.caller + 1) c.args.procs.now) c.loop-caller.caller c.loop-caller.sites c.loop-caller.walks so, c.in_ok-walks.ensures.walks, walks-within p (P.on ∷ []) (body_of P.body))
 
 pub loop-caller-preserved : goal.loop-caller-preserved
 loop-caller-preserved c =

@@ -9,5 +9,5 @@ invariant-items-loop-one l = ItemsSoFar (types_of l.setting) l.vars l.items (dro
 
 abbrev pub invariant-arms-loop-place : goal.invariant-arms-loop-place
 invariant-arms-loop-place l =
-    let all = stands l.node (shape_at l.setting l.node) in
+    let all = stands l.on (shape_at l.setting l.on.node) in
     FoundSoFar (types_of l.setting) all (drop l.place all) l.arms (drop l.place l.arms) l.initial.found l.found

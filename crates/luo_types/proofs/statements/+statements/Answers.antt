@@ -2,6 +2,7 @@ use Rattle.std.proofs.Common.{◌+◌, [], length, sym, ◌∙◌, ap, subst, re
 use Rattle.luo_model.specs.declared.body.Body.{Body}
 use Rattle.luo_model.specs.Scopes.Stands.{stands}
 use Rattle.luo_source.specs.declared.statements.Stmt.{Skip, Charge, Call, Block, Case, Forall}
+use Rattle.luo_source.specs.View.{stmt_of}
 use Rattle.luo_rules.specs.Breaches.{StopsAt}
 use Rattle.luo_rules.specs.Settings.{shape_at}
 use Rattle.luo_value_types.specs.inner.Room.{HasRoom}
@@ -29,14 +30,14 @@ arm-returns-in_err-opened t c =
 pub arms-returns-in_err-done : goal.arms-returns-in_err-done
 arms-returns-in_err-done t c =
     let s = c.args.context.now.setting.now in
-    let all = stands c.args.node (shape_at s c.args.node) in
+    let all = stands c.args.on (shape_at s c.args.on.node) in
     let so = at-arm s all c.args.var.now c.args.arms.now c.args.next.now c.loop-place.place _ c.index-arms-place.result c.loop-place.made c.loop-place.next c.loop-place.invariant c.arm_stand-stand.ensures c.loop-place-test.true c.index-arms-place.is in
     stopped c.from_residual.result _ _ _ c.from_residual.ensures.1 (arms-stop s all c.args.var.now c.args.arms.now c.args.next.now _ _ c.index-arms-place.result _ c.loop-place.made c.loop-place.next _ so c.in_err-done.ensures.1.1)
 
 pub arms-loop-place-preserved : goal.arms-loop-place-preserved
 arms-loop-place-preserved t c =
     let s = c.args.context.now.setting.now in
-    let all = stands c.args.node (shape_at s c.args.node) in
+    let all = stands c.args.on (shape_at s c.args.on.node) in
     let so = at-arm s all c.args.var.now c.args.arms.now c.args.next.now c.loop-place.place _ c.index-arms-place.result c.loop-place.made c.loop-place.next c.loop-place.invariant c.arm_stand-stand.ensures c.loop-place-test.true c.index-arms-place.is in
     arms-more s all c.args.var.now c.args.arms.now c.args.next.now _ _ c.index-arms-place.result _ c.loop-place.made _ c.in_ok-done.done c.loop-place.next _ so c.in_ok-done.ensures.1.0 c.in_ok-push.ensures.ok
 
@@ -44,7 +45,7 @@ pub arms-returns : goal.arms-returns
 arms-returns t c =
     let added =
     let s = c.args.context.now.setting.now in
-    arms-all s (stands c.args.node (shape_at s c.args.node)) c.args.var.now c.args.arms.now c.args.next.now c.loop-place.place c.loop-place.made c.loop-place.next c.loop-place.invariant c.loop-place-test.false in
+    arms-all s (stands c.args.on (shape_at s c.args.on.node)) c.args.var.now c.args.arms.now c.args.next.now c.loop-place.place c.loop-place.made c.loop-place.next c.loop-place.invariant c.loop-place-test.false in
     (added.unbroken, (added, tt))
 
 pub case-returns-in_err-there : goal.case-returns-in_err-there
@@ -82,7 +83,7 @@ stmt-returns-in_err-stmts-in-Block t c =
     let at = c.in_err-stmts-in-Block.field-0.0 in
     let block = c.in-Block.is ∙ ap Block (sym c.as_slice.ensures) in
     stopped c.from_residual-in_err-stmts-in-Block.result _ _ _ c.from_residual-in_err-stmts-in-Block.ensures.1
-    (subst (λ z. StopsAt (stmt_breaches c.args.context.now.setting.now c.args.context.now.scope.now z) at) (sym block) (block-stops c.args.context.now.setting.now c.args.context.now.scope.now c.as_slice.result.now at c.in_err-stmts-in-Block.ensures.1.1))
+    (subst (λ z. StopsAt (stmt_breaches c.args.context.now.setting.now c.args.context.now.scope.now (stmt_of z)) at) (sym block) (block-stops c.args.context.now.setting.now c.args.context.now.scope.now c.as_slice.result.now at c.in_err-stmts-in-Block.ensures.1.1))
 
 pub stmt-returns : goal.stmt-returns
 stmt-returns t c =
@@ -119,7 +120,7 @@ walk-returns-in_err-there t c =
 pub walk-stmt-requires : goal.walk-stmt-requires
 walk-stmt-requires t c =
     let room = walk-room c.args.var.now c.args.source.now c.args.each.now c.args.maker.now.body.own c.args.maker.now.next c.requires.room in
-    (search (rules, the_lemmas), (subst (λ m. HasRoom (stmt_statements c.args.each.now) m.body.own m.next) (sym c.new-made.ensures) room, c.requires.within))
+    (search (rules, the_lemmas), (subst (λ m. HasRoom (stmt_statements (stmt_of c.args.each.now)) m.body.own m.next) (sym c.new-made.ensures) room, c.requires.within))
 
 pub walk-returns-in_err-stmt : goal.walk-returns-in_err-stmt
 walk-returns-in_err-stmt t c =
@@ -127,15 +128,15 @@ walk-returns-in_err-stmt t c =
     let scope = c.as_slice.ensures ∙ c.in_ok-inner.ensures in
     stopped c.from_residual-in_err-stmt.result _ _ _ c.from_residual-in_err-stmt.ensures.1
     (walk-stops s c.args.context.now.scope.now c.args.maker.now.body c.args.maker.now.body c.args.maker.now.next c.args.var.now c.args.source.now c.args.each.now c.in_ok-there.there _ c.in_ok-there.ensures.ok
-    (subst (λ z. StopsAt (stmt_breaches s z c.args.each.now) c.in_err-stmt.field-0.0) scope c.in_err-stmt.ensures.1.1))
+    (subst (λ z. StopsAt (stmt_breaches s z (stmt_of c.args.each.now)) c.in_err-stmt.field-0.0) scope c.in_err-stmt.ensures.1.1))
 
 pub walk-take_site-body_site-requires : goal.walk-take_site-body_site-requires
 walk-take_site-body_site-requires t c =
-    omega (arith, walk-site c.args.var.now c.args.source.now c.args.each.now c.args.maker.now.body.own c.args.maker.now.next c.stmt.new.maker.next c.requires.room (c.in_ok-stmt.ensures.1.0.numbered ∙ ap (λ m. m.next + stmt_sites c.args.each.now) c.new-made.ensures))
+    omega (arith, walk-site c.args.var.now c.args.source.now c.args.each.now c.args.maker.now.body.own c.args.maker.now.next c.stmt.new.maker.next c.requires.room (c.in_ok-stmt.ensures.1.0.numbered ∙ ap (λ m. m.next + stmt_sites (stmt_of c.args.each.now)) c.new-made.ensures))
 
 pub walk-take_site-walk_site-requires : goal.walk-take_site-walk_site-requires
 walk-take_site-walk_site-requires t c =
-    omega (arith, c.take_site-body_site.ensures.left, walk-site c.args.var.now c.args.source.now c.args.each.now c.args.maker.now.body.own c.args.maker.now.next c.stmt.new.maker.next c.requires.room (c.in_ok-stmt.ensures.1.0.numbered ∙ ap (λ m. m.next + stmt_sites c.args.each.now) c.new-made.ensures))
+    omega (arith, c.take_site-body_site.ensures.left, walk-site c.args.var.now c.args.source.now c.args.each.now c.args.maker.now.body.own c.args.maker.now.next c.stmt.new.maker.next c.requires.room (c.in_ok-stmt.ensures.1.0.numbered ∙ ap (λ m. m.next + stmt_sites (stmt_of c.args.each.now)) c.new-made.ensures))
 
 pub walk-returns : goal.walk-returns
 walk-returns t c =

@@ -10,5 +10,5 @@ invariant-stmts-loop-one l = StmtsSoFar l.context.setting.now l.context.scope.no
 
 abbrev pub invariant-arms-loop-place : goal.invariant-arms-loop-place
 invariant-arms-loop-place l =
-    let all = stands l.node (shape_at l.context.setting.now l.node) in
+    let all = stands l.on (shape_at l.context.setting.now l.on.node) in
     ArmsSoFar l.context.setting.now all (drop l.place all) l.var l.arms (drop l.place l.arms) l.made l.initial.next l.next
