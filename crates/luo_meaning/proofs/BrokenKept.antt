@@ -12,7 +12,7 @@ use Rattle.luo_rules.specs.declared.names.Meaning.TheVariants as mean
 use Rattle.luo_rules.specs.declared.rule.Breach.{Breach}
 use Rattle.luo_rules.specs.declared.setting.Variable.{Variable}
 use Rattle.luo_rules.specs.Breaches.{◌or_if_none◌}
-use Rattle.luo_rules.specs.Settings.{type_node}
+use Rattle.luo_rules.specs.Settings.{meant, node_meant, type_node, part_meant}
 use Rattle.luo_rules.specs.Definitions.{definitions, measures, names_of}
 use Rattle.luo_rules.specs.TypeBreaches.{types_breaches, measures_breaches}
 use Rattle.luo_rules.specs.Nodes.{setting_of}
@@ -58,11 +58,19 @@ module _ (source : Source) (sound : SoundAll source.universe (names_of source) (
       by None e = (None, no_type (λ m. none_some _ (sym e ∙ type_node_is source sound r m.0 m.1)))
       by (Some x) e = (Some (of_name r), the_type (type_node_means source sound r x e))
 
+  -- the scope of a procedure, by its parameter's node and type
+  parameter_agrees : (p : ProcDef) (node : ℕ) → type_node (setting_of source) p.on ≡ Some node → AgreeScope source (parameter (setting_of source) p) (one_variable p.param (of_name p.on))
+  parameter_agrees p node e =
+      let i = type_node_means source sound p.on node e in
+      let part = part_meant (setting_of source) (meant (setting_of source) p.on) in
+      let same : Some part.node ≡ type_node (setting_of source) p.on = ap (λ o. Some (part_meant (setting_of source) o).node) i.1 ∙ sym (ap (node_meant (setting_of source)) i.1) in
+      one_agrees source p.param part (of_name p.on) (type_holds source sound p.on part.node (sym same))
+
   -- a body, by the node of its parameter's type, if any
   inner_same : (p : ProcDef) (body : ProcBody) (o : Option ℕ) → type_node (setting_of source) p.on ≡ o → (b : Breach) → Asks source (body_asked (setting_of source) p o body) b ↔ BodyBreaks source p body b
   inner_same p (Statements stmts) None e b = (λ h. absurd h.1, λ h. absurd (none_some _ (sym e ∙ type_node_is source sound p.on h.0.0 h.0.1)))
   inner_same p (Statements stmts) (Some node) e b =
-      let same = list_same stmts (parameter p.param node) (one_variable p.param (of_name p.on)) (one_agrees source p.param node (of_name p.on) (type_holds source sound p.on node e)) b in
+      let same = list_same stmts (parameter (setting_of source) p) (one_variable p.param (of_name p.on)) (parameter_agrees p node e) b in
       (λ h. (type_node_means source sound p.on node e, same.0 h), λ h. same.1 h.1)
   inner_same p (Value colon result value) None e b =
       then_iff (asks_cons source (results colon p.name) (uses a_type result ∷ []) b)
@@ -70,9 +78,9 @@ module _ (source : Source) (sound : SoundAll source.universe (names_of source) (
       (then_iff (asks_cons source (uses a_type result) [] b)
       (or_iff (of_names source (uses a_type result) b tt) (λ h. absurd h.1, λ h. absurd (none_some _ (sym e ∙ type_node_is source sound p.on h.0.0 h.0.1))))))
   inner_same p (Value colon result value) (Some node) e b =
-      let scope = parameter p.param node in
+      let scope = parameter (setting_of source) p in
       let types = one_variable p.param (of_name p.on) in
-      let agree = one_agrees source p.param node (of_name p.on) (type_holds source sound p.on node e) in
+      let agree = parameter_agrees p node e in
       let expected = type_node (setting_of source) result in
       let some = result_wanted result in
       let same : (w : Option Placed) → WantedResult source result w → Asks source (value_asked (setting_of source) scope expected value) b ↔ ValueBreaks source types w value b =

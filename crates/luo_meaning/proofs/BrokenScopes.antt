@@ -63,16 +63,16 @@ not_true false n = refl
 
 module _ (source : Source) where
   -- a variable by its node, and by its type
-  abbrev pub Found : Option (ℕ × ℕ) → Option Placed → Type 0
-  Found o p = ((o ≡ None) × (p ≡ None)) ⊎ ((v : ℕ × ℕ) × (a : Placed) × (o ≡ Some v) × (p ≡ Some a) × HoldsAt source v.1 a)
+  abbrev pub Found : Option (ℕ × Part) → Option Placed → Type 0
+  Found o p = ((o ≡ None) × (p ≡ None)) ⊎ ((v : ℕ × Part) × (a : Placed) × (o ≡ Some v) × (p ≡ Some a) × HoldsAt source v.1.node a)
 
   abbrev pub AgreeScope : List Variable → Scope → Type 0
   AgreeScope [] [] = Unit {0}
-  AgreeScope (v ∷ vs) (t ∷ ts) = (v.name ≡ t.0) × HoldsAt source v.node t.1 × AgreeScope vs ts
+  AgreeScope (v ∷ vs) (t ∷ ts) = (v.name ≡ t.0) × HoldsAt source v.part.node t.1 × AgreeScope vs ts
   AgreeScope _ _ = ⊥
 
-  found_step : (b : Bool) (k x : ℕ) (a : Placed) (more : Option (ℕ × ℕ)) (other : Option Placed) → HoldsAt source x a → Found more other → Found (if b then Some (k, x) else more) (if b then Some a else other)
-  found_step true k x a more other h f = let v : ℕ × ℕ = (k, x) in inr (v, a, refl, refl, h)
+  found_step : (b : Bool) (k : ℕ) (x : Part) (a : Placed) (more : Option (ℕ × Part)) (other : Option Placed) → HoldsAt source x.node a → Found more other → Found (if b then Some (k, x) else more) (if b then Some a else other)
+  found_step true k x a more other h f = let v : ℕ × Part = (k, x) in inr (v, a, refl, refl, h)
   found_step false k x a more other h f = f
 
   found_both : (scope : List Variable) (types : Scope) → AgreeScope scope types → (k : ℕ) (text : List ℕ) → Found (found_from k scope text) (type_at types text)
@@ -82,15 +82,15 @@ module _ (source : Source) where
   found_both (v ∷ vs) (t ∷ ts) agree k text =
       let tested : bytes_eq v.name text ≡ bytes_eq t.0 text = ap (λ z. bytes_eq z text) agree.0 in
       subst (λ b. Found (found_from k (v ∷ vs) text) (if b then Some t.1 else type_at ts text)) tested
-      (found_step (bytes_eq v.name text) k v.node t.1 (found_from (suc k) vs text) (type_at ts text) agree.1 (found_both vs ts agree.2 (suc k) text))
+      (found_step (bytes_eq v.name text) k v.part t.1 (found_from (suc k) vs text) (type_at ts text) agree.1 (found_both vs ts agree.2 (suc k) text))
 
   pub found_agree : (scope : List Variable) (types : Scope) → AgreeScope scope types → (var : Name) → Found (found scope var) (type_at types var.text)
   found_agree scope types agree var = found_both scope types agree 0 var.text
 
-  pub one_agrees : (var : Name) (x : ℕ) (a : Placed) → HoldsAt source x a → AgreeScope (record { name = var.text; node = x } ∷ []) (one_variable var a)
+  pub one_agrees : (var : Name) (x : Part) (a : Placed) → HoldsAt source x.node a → AgreeScope (record { name = var.text; part = x } ∷ []) (one_variable var a)
   one_agrees var x a h = (refl, h, tt)
 
-  parts_agree : (names : List Name) (xs : List ℕ) (parts : List Placed) → AllHoldAt source xs parts → AgreeScope (variables names xs) (named_parts names parts)
+  parts_agree : (names : List Name) (xs : List Part) (parts : List Placed) → AllHoldAt source (nodes_of xs) parts → AgreeScope (variables names xs) (named_parts names parts)
   parts_agree [] [] [] h = tt
   parts_agree [] [] (a ∷ parts) h = absurd h
   parts_agree [] (x ∷ xs) [] h = absurd h
@@ -102,8 +102,8 @@ module _ (source : Source) where
 
   -- what arms stand for, and what they look at
   abbrev pub AgreeLook : Stand → Look → Type 0
-  AgreeLook (inside y) (written.inside a) = HoldsAt source y a
-  AgreeLook (itself x) (written.tuple a) = HoldsAt source x a
+  AgreeLook (inside y) (written.inside a) = HoldsAt source y.node a
+  AgreeLook (itself x) (written.tuple a) = HoldsAt source x.node a
   AgreeLook _ _ = ⊥
 
   abbrev pub AgreeLooks : List Stand → List Look → Type 0
@@ -111,7 +111,7 @@ module _ (source : Source) where
   AgreeLooks (s ∷ ss) (l ∷ ls) = AgreeLook s l × AgreeLooks ss ls
   AgreeLooks _ _ = ⊥
 
-  pub look_holds : (s : Stand) (l : Look) → AgreeLook s l → HoldsAt source (stand_node s) (looked_at l)
+  pub look_holds : (s : Stand) (l : Look) → AgreeLook s l → HoldsAt source (stand_part s).node (looked_at l)
   look_holds (inside y) (written.inside a) h = h
   look_holds (inside y) (written.tuple a) h = absurd h
   look_holds (itself x) (written.inside a) h = absurd h
@@ -123,7 +123,7 @@ module _ (source : Source) where
   looks_length (s ∷ ss) [] h = absurd h
   looks_length (s ∷ ss) (l ∷ ls) h = ap suc (looks_length ss ls h.1)
 
-  branches_agree : (ps : List Part) (parts : List Placed) → AllHoldAt source (nodes_of ps) parts → AgreeLooks (map (λ (part : Part). inside part.node) ps) (map written.inside parts)
+  branches_agree : (ps : List Part) (parts : List Placed) → AllHoldAt source (nodes_of ps) parts → AgreeLooks (map inside ps) (map written.inside parts)
   branches_agree [] [] h = tt
   branches_agree [] (a ∷ parts) h = absurd h
   branches_agree (p ∷ ps) [] h = absurd h
@@ -136,15 +136,15 @@ module _ (source : Source) where
   all_length (p ∷ ps) (a ∷ parts) h = ap suc (all_length ps parts h.1)
 
   module _ (all : SoundAll source.universe (names_of source) (definitions source)) where
-    pub looks_down : (x : ℕ) (a : Placed) (looks : List Look) → HoldsAt source x a → AreLooks source a looks → AgreeLooks (stands x (shape_at_node source x)) looks
+    pub looks_down : (x : Part) (a : Placed) (looks : List Look) → HoldsAt source x.node a → AreLooks source a looks → AgreeLooks (stands x (shape_at_node source x.node)) looks
     looks_down x a looks h (branches parts u) =
-        let k = union_held source all x a parts h u in
+        let k = union_held source all x.node a parts h u in
         subst (λ z. AgreeLooks (stands x z) (map written.inside parts)) (sym k.is) (branches_agree k.ps parts k.hold)
     looks_down x a looks h (tuples parts u) =
-        let k = product_held source all x a parts h u in
+        let k = product_held source all x.node a parts h u in
         subst (λ z. AgreeLooks (stands x z) (written.tuple a ∷ [])) (sym k.is) (h, tt)
-    looks_down x a looks h (of_collection f u) = subst (λ z. AgreeLooks (stands x z) []) (sym (collection_held source all x a f h u).is) tt
-    looks_down x a looks h (of_atom u) = let k = atom_held source all x a h u in subst (λ z. AgreeLooks (stands x z) []) (sym k.1) tt
+    looks_down x a looks h (of_collection f u) = subst (λ z. AgreeLooks (stands x z) []) (sym (collection_held source all x.node a f h u).is) tt
+    looks_down x a looks h (of_atom u) = let k = atom_held source all x.node a h u in subst (λ z. AgreeLooks (stands x z) []) (sym k.1) tt
 
     pub looks_up : (x : ℕ) (a : Placed) → HoldsAt source x a → (looks : List Look) × AreLooks source a looks
     looks_up x a h = by (sorted source all x a h)
@@ -181,8 +181,8 @@ module _ (source : Source) where
         back e (a_collection f u) = (f, u)
         back e (an_atom u) = absurd (subst IsCollection (atom_held source all x a h u).1 e)
 
-    pub component_holds : (x : ℕ) (a f : Placed) → HoldsAt source x a → IsCollectionAt source a f → HoldsAt source (component (shape_at_node source x)) f
-    component_holds x a f h u = let k = collection_held source all x a f h u in subst (λ z. HoldsAt source (component z) f) (sym k.is) k.hold
+    pub component_holds : (x : ℕ) (a f : Placed) → HoldsAt source x a → IsCollectionAt source a f → HoldsAt source (component (shape_at_node source x)).node f
+    component_holds x a f h u = let k = collection_held source all x a f h u in subst (λ z. HoldsAt source (component z).node f) (sym k.is) k.hold
 
     -- the node of a name that means a type
     pub type_node_is : (name : Name) (i : ℕ) → meaning (names_of source) name.text ≡ Some (mean.Definition i) → type_node (setting_of source) name ≡ Some (node_of (names_of source) (definitions source) i)
@@ -234,26 +234,26 @@ module _ (source : Source) where
     pub fits_same : (s : Stand) (l : Look) (p : Pattern) → AgreeLook s l → Fits source l p ↔ (fits (setting_of source) s p ≡ true)
     fits_same (inside y) (written.tuple a) p h = absurd h
     fits_same (itself y) (written.inside a) p h = absurd h
-    fits_same (inside y) (written.inside a) (pattern.Named type) h = named_same type y a h
-    fits_same (inside y) (written.inside a) (pattern.NamedWhole type name) h = named_same type y a h
+    fits_same (inside y) (written.inside a) (pattern.Named type) h = named_same type y.node a h
+    fits_same (inside y) (written.inside a) (pattern.NamedWhole type name) h = named_same type y.node a h
     fits_same (inside y) (written.inside a) (pattern.NamedParts type names) h =
-        let one = named_same type y a h in
-        let two = factors_same y a (length names) h in (
+        let one = named_same type y.node a h in
+        let two = factors_same y.node a (length names) h in (
           λ g. both_and _ _ (one.0 g.0) (two.0 g.1),
-          λ e. let b = and_both (is_node (type_node (setting_of source) type) y) (has_factors (length names) (shape_at_node source y)) e in (one.1 b.0, two.1 b.1),
+          λ e. let b = and_both (is_node (type_node (setting_of source) type) y.node) (has_factors (length names) (shape_at_node source y.node)) e in (one.1 b.0, two.1 b.1),
         )
-    fits_same (inside y) (written.inside a) (pattern.Parts names at) h = factors_same y a (length names) h
+    fits_same (inside y) (written.inside a) (pattern.Parts names at) h = factors_same y.node a (length names) h
     fits_same (inside y) (written.inside a) (pattern.Any at) h = (λ g. refl, λ e. tt)
     fits_same (inside y) (written.inside a) (pattern.AnyWhole name at) h = (λ g. refl, λ e. tt)
     fits_same (itself y) (written.tuple a) (pattern.Named type) h = (λ g. absurd g, λ e. absurd (false_true false refl e))
     fits_same (itself y) (written.tuple a) (pattern.NamedWhole type name) h = (λ g. absurd g, λ e. absurd (false_true false refl e))
     fits_same (itself y) (written.tuple a) (pattern.NamedParts type names) h =
-        let one = named_same type y a h in
-        let two = factors_same y a (length names) h in (
+        let one = named_same type y.node a h in
+        let two = factors_same y.node a (length names) h in (
           λ g. both_and _ _ (one.0 g.0) (two.0 g.1),
-          λ e. let b = and_both (is_node (type_node (setting_of source) type) y) (has_factors (length names) (shape_at_node source y)) e in (one.1 b.0, two.1 b.1),
+          λ e. let b = and_both (is_node (type_node (setting_of source) type) y.node) (has_factors (length names) (shape_at_node source y.node)) e in (one.1 b.0, two.1 b.1),
         )
-    fits_same (itself y) (written.tuple a) (pattern.Parts names at) h = factors_same y a (length names) h
+    fits_same (itself y) (written.tuple a) (pattern.Parts names at) h = factors_same y.node a (length names) h
     fits_same (itself y) (written.tuple a) (pattern.Any at) h = (λ g. refl, λ e. tt)
     fits_same (itself y) (written.tuple a) (pattern.AnyWhole name at) h = (λ g. absurd g, λ e. absurd (false_true false refl e))
 
@@ -269,15 +269,15 @@ module _ (source : Source) where
     product_agrees : (names : List Name) (x : ℕ) (a : Placed) (parts : List Placed) → HoldsAt source x a → IsProductAt source a parts → AgreeScope (variables names (factors (shape_at_node source x))) (named_parts names parts)
     product_agrees names x a parts h u =
         let k = product_held source all x a parts h u in
-        subst (λ z. AgreeScope (variables names (factors z)) (named_parts names parts)) (sym k.is) (parts_agree names (nodes_of k.ps) parts k.hold)
+        subst (λ z. AgreeScope (variables names (factors z)) (named_parts names parts)) (sym k.is) (parts_agree names k.ps parts k.hold)
 
-    pub bound_agrees : (s : Stand) (p : Pattern) (a : Placed) (scope : Scope) → HoldsAt source (stand_node s) a → BindsScope source p a scope → AgreeScope (bound (setting_of source) s p) scope
+    pub bound_agrees : (s : Stand) (p : Pattern) (a : Placed) (scope : Scope) → HoldsAt source (stand_part s).node a → BindsScope source p a scope → AgreeScope (bound (setting_of source) s p) scope
     bound_agrees s (pattern.Named type) a scope h b = subst (AgreeScope []) (sym b) tt
-    bound_agrees s (pattern.NamedWhole type name) a scope h b = subst (AgreeScope (record { name = name.text; node = stand_node s } ∷ [])) (sym b) (one_agrees name (stand_node s) a h)
-    bound_agrees s (pattern.NamedParts type names) a scope h b = subst (AgreeScope (variables names (factors (shape_at_node source (stand_node s))))) (sym b.2) (product_agrees names (stand_node s) a b.0 h b.1)
-    bound_agrees s (pattern.Parts names at) a scope h b = subst (AgreeScope (variables names (factors (shape_at_node source (stand_node s))))) (sym b.2) (product_agrees names (stand_node s) a b.0 h b.1)
+    bound_agrees s (pattern.NamedWhole type name) a scope h b = subst (AgreeScope (record { name = name.text; part = stand_part s } ∷ [])) (sym b) (one_agrees name (stand_part s) a h)
+    bound_agrees s (pattern.NamedParts type names) a scope h b = subst (AgreeScope (variables names (factors (shape_at_node source (stand_part s).node)))) (sym b.2) (product_agrees names (stand_part s).node a b.0 h b.1)
+    bound_agrees s (pattern.Parts names at) a scope h b = subst (AgreeScope (variables names (factors (shape_at_node source (stand_part s).node)))) (sym b.2) (product_agrees names (stand_part s).node a b.0 h b.1)
     bound_agrees s (pattern.Any at) a scope h b = subst (AgreeScope []) (sym b) tt
-    bound_agrees s (pattern.AnyWhole name at) a scope h b = subst (AgreeScope (record { name = name.text; node = stand_node s } ∷ [])) (sym b) (one_agrees name (stand_node s) a h)
+    bound_agrees s (pattern.AnyWhole name at) a scope h b = subst (AgreeScope (record { name = name.text; part = stand_part s } ∷ [])) (sym b) (one_agrees name (stand_part s) a h)
 
     pub binds_there : (l : Look) (p : Pattern) → Fits source l p → (scope : Scope) × BindsScope source p (looked_at l) scope
     binds_there l (pattern.Named type) f = ([], refl)

@@ -2,6 +2,7 @@
 use Rattle.std.proofs.Common.{◌≡◌, ◌⊎◌, ◌↔◌, ℕ, List, [], ◌∷◌, ◌++◌, length, Option, Some, None, Bool, true, false, refl, sym, ap, ◌∙◌, subst, inl, inr, nat_eq}
 use Rattle.std.specs.Prelude.{if◌then◌else◌}
 use Rattle.std.proofs.lemmas.Bool.{eqb-true, eq-eqb}
+use Rattle.luo_model.specs.declared.program.Part.{Part}
 use Rattle.luo_model.specs.declared.program.Shape.{Shape}
 use Rattle.luo_model.specs.declared.program.Shape.TheVariants as shape
 use Rattle.luo_model.specs.Scopes.Stands.{Stand, stands, IsCollection}
@@ -56,7 +57,7 @@ module _ (source : Source) (all : SoundAll source.universe (names_of source) (de
         | inr (v, a, f, t, h) ↦
             let k = known_parameter source all callee node on in
             let same : v ≡ variable = some_same v variable (sym f ∙ e) in
-            (a, k.0, t, k.1, k.2, (λ s. differ (sym (ap (λ (z : ℕ × ℕ). z.1) same) ∙ (same_type source all v.1 node a (of_name k.0.on) h k.3).0 s)), refl)
+            (a, k.0, t, k.1, k.2, (λ s. differ (sym (ap (λ (z : ℕ × Part). z.1.node) same) ∙ (same_type source all v.1.node node a (of_name k.0.on) h k.3).0 s)), refl)
       ]
 
       back : OtherArgument source types arg callee b → One source (hands scope arg callee) b
@@ -66,7 +67,7 @@ module _ (source : Source) (all : SoundAll source.universe (names_of source) (de
             let k = parameter_is source all callee p means on in
             let one : other ≡ a = some_same other a (sym u ∙ t) in
             subst (One source (hands scope arg callee)) (sym is)
-            (other_argument v k.0 f k.1 (λ s. differ ((same_type source all v.1 k.0 a (of_name p.on) (subst (HoldsAt source v.1) one h) k.2).1 s)))
+            (other_argument v k.0 f k.1 (λ s. differ ((same_type source all v.1.node k.0 a (of_name p.on) (subst (HoldsAt source v.1.node) one h) k.2).1 s)))
       ]
 
   -- a call
@@ -159,10 +160,10 @@ module _ (source : Source) (all : SoundAll source.universe (names_of source) (de
       both = found_agree source scope types agree var
 
       -- the stands of a variable that is found
-      stood : (v : ℕ × ℕ) → found scope var ≡ Some v → case_stands (setting_of source) (found scope var) ≡ stands v.1 (shape_at_node source v.1)
+      stood : (v : ℕ × Part) → found scope var ≡ Some v → case_stands (setting_of source) (found scope var) ≡ stands v.1 (shape_at_node source v.1.node)
       stood v e = ap (case_stands (setting_of source)) e
 
-      agreed : (v : ℕ × ℕ) (a : Placed) (looks : List Look) → found scope var ≡ Some v → HoldsAt source v.1 a → AreLooks source a looks → AgreeLooks source (case_stands (setting_of source) (found scope var)) looks
+      agreed : (v : ℕ × Part) (a : Placed) (looks : List Look) → found scope var ≡ Some v → HoldsAt source v.1.node a → AreLooks source a looks → AgreeLooks source (case_stands (setting_of source) (found scope var)) looks
       agreed v a looks e h are = subst (λ z. AgreeLooks source z looks) (sym (stood v e)) (looks_down source all v.1 a looks h are)
 
       counted_forth : (b : Breach) → One source (cases scope var n) b → OtherCount source types var n b
@@ -170,9 +171,9 @@ module _ (source : Source) (all : SoundAll source.universe (names_of source) (de
         | inl h ↦ absurd (none_some variable (sym h.0 ∙ e))
         | inr (v, a, f, t, h) ↦
             let same_v : v ≡ variable = some_same v variable (sym f ∙ e) in
-            let up = looks_up source all v.1 a h in
-            let long = looks_length source (stands v.1 (shape_at_node source v.1)) up.0 (looks_down source all v.1 a up.0 h up.1) in
-            (a, up.0, t, up.1, (λ m. differ (m ∙ (sym long ∙ ap (λ (z : ℕ × ℕ). length (stands z.1 (shape_at_node source z.1))) same_v))), refl)
+            let up = looks_up source all v.1.node a h in
+            let long = looks_length source (stands v.1 (shape_at_node source v.1.node)) up.0 (looks_down source all v.1 a up.0 h up.1) in
+            (a, up.0, t, up.1, (λ m. differ (m ∙ (sym long ∙ ap (λ (z : ℕ × Part). length (stands z.1 (shape_at_node source z.1.node))) same_v))), refl)
       ]
 
       counted_back : (b : Breach) → OtherCount source types var n b → One source (cases scope var n) b
@@ -180,14 +181,14 @@ module _ (source : Source) (all : SoundAll source.universe (names_of source) (de
         | inl h ↦ absurd (none_some a (sym h.1 ∙ t))
         | inr (v, other, f, u, h) ↦
             let one : other ≡ a = some_same other a (sym u ∙ t) in
-            let long = looks_length source (stands v.1 (shape_at_node source v.1)) looks (looks_down source all v.1 a looks (subst (HoldsAt source v.1) one h) are) in
+            let long = looks_length source (stands v.1 (shape_at_node source v.1.node)) looks (looks_down source all v.1 a looks (subst (HoldsAt source v.1.node) one h) are) in
             subst (One source (cases scope var n)) (sym is) (other_arms v f (λ m. differ (m ∙ long)))
       ]
 
       counted : (b : Breach) → One source (cases scope var n) b ↔ OtherCount source types var n b
       counted b = (counted_forth b, counted_back b)
 
-      inside_of : (o : Option (ℕ × ℕ)) (v : ℕ × ℕ) → o ≡ Some v → Asks source (arms_inside (setting_of source) o n inner) b ↔ ((n ≡ length (case_stands (setting_of source) o)) × Asks source inner b)
+      inside_of : (o : Option (ℕ × Part)) (v : ℕ × Part) → o ≡ Some v → Asks source (arms_inside (setting_of source) o n inner) b ↔ ((n ≡ length (case_stands (setting_of source) o)) × Asks source inner b)
       inside_of None v e = absurd (none_some v e)
       inside_of (Some w) v e =
           let k = if_asked (nat_eq n (length (case_stands (setting_of source) (Some w)))) inner b in (
@@ -195,7 +196,7 @@ module _ (source : Source) (all : SoundAll source.universe (names_of source) (de
             λ g. k.1 (eq-eqb n (length (case_stands (setting_of source) (Some w))) g.0, g.1),
           )
 
-      none_inside : (o : Option (ℕ × ℕ)) → o ≡ None → Asks source (arms_inside (setting_of source) o n inner) b → ⊥
+      none_inside : (o : Option (ℕ × Part)) → o ≡ None → Asks source (arms_inside (setting_of source) o n inner) b → ⊥
       none_inside None e h = absurd h.1
       none_inside (Some w) e h = absurd (none_some w (sym e))
 
@@ -204,7 +205,7 @@ module _ (source : Source) (all : SoundAll source.universe (names_of source) (de
         | inl g ↦ absurd (none_inside (found scope var) g.0 h)
         | inr (v, a, f, t, holds) ↦
             let k = (inside_of (found scope var) v f).0 h in
-            let up = looks_up source all v.1 a holds in
+            let up = looks_up source all v.1.node a holds in
             let agree_looks = agreed v a up.0 f holds up.1 in
             (a, up.0, t, up.1, k.0 ∙ looks_length source (case_stands (setting_of source) (found scope var)) up.0 agree_looks, (same up.0 agree_looks).0 k.1)
       ]
@@ -214,13 +215,13 @@ module _ (source : Source) (all : SoundAll source.universe (names_of source) (de
         | inl g ↦ absurd (none_some a (sym g.1 ∙ t))
         | inr (v, other, f, u, holds) ↦
             let one : other ≡ a = some_same other a (sym u ∙ t) in
-            let agree_looks = agreed v a looks f (subst (HoldsAt source v.1) one holds) are in
+            let agree_looks = agreed v a looks f (subst (HoldsAt source v.1.node) one holds) are in
             (inside_of (found scope var) v f).1 (many ∙ sym (looks_length source (case_stands (setting_of source) (found scope var)) looks agree_looks), (same looks agree_looks).1 i)
       ]
 
   -- a walk
   pub walk_same : (scope : List Variable) (types : Scope) → AgreeScope source scope types → (over : Name) (inner : List Asked) (b : Breach) (Inner : Placed → Type 0)
-      → ((v : ℕ × ℕ) (f : Placed) → found scope over ≡ Some v → HoldsAt source (walked (setting_of source) (found scope over)) f → Asks source inner b ↔ Inner f)
+      → ((v : ℕ × Part) (f : Placed) → found scope over ≡ Some v → HoldsAt source (walked (setting_of source) (found scope over)).node f → Asks source inner b ↔ Inner f)
       → Asks source (reads scope over ∷ (walks scope over ∷ walk_inside (setting_of source) (found scope over) inner)) b
       ↔ (Unbound source types over b ⊎ NoCollection source types over b ⊎ ((a : Placed) × (f : Placed) × (type_at types over.text ≡ Some a) × IsCollectionAt source a f × Inner f))
   walk_same scope types agree over inner b Inner same =
@@ -236,7 +237,7 @@ module _ (source : Source) (all : SoundAll source.universe (names_of source) (de
         | inl h ↦ absurd (none_some variable (sym h.0 ∙ e))
         | inr (v, a, f, t, h) ↦
             let same_v : v ≡ variable = some_same v variable (sym f ∙ e) in
-            (a, t, (λ g u. n (subst (λ (z : ℕ × ℕ). IsCollection (shape_at_node source z.1)) same_v ((collection_same source all v.1 a h).0 (g, u)))), refl)
+            (a, t, (λ g u. n (subst (λ (z : ℕ × Part). IsCollection (shape_at_node source z.1.node)) same_v ((collection_same source all v.1.node a h).0 (g, u)))), refl)
       ]
 
       walks_back : (b : Breach) → NoCollection source types over b → One source (walks scope over) b
@@ -244,7 +245,7 @@ module _ (source : Source) (all : SoundAll source.universe (names_of source) (de
         | inl h ↦ absurd (none_some a (sym h.1 ∙ t))
         | inr (v, other, f, u, h) ↦
             let one : other ≡ a = some_same other a (sym u ∙ t) in
-            subst (One source (walks scope over)) (sym is) (no_collection v f (λ c. let k = (collection_same source all v.1 a (subst (HoldsAt source v.1) one h)).1 c in n k.0 k.1))
+            subst (One source (walks scope over)) (sym is) (no_collection v f (λ c. let k = (collection_same source all v.1.node a (subst (HoldsAt source v.1.node) one h)).1 c in n k.0 k.1))
       ]
 
       of_shape : (s : Shape) → Asks source (asked.of_collection s inner) b ↔ (IsCollection s × Asks source inner b)
@@ -253,23 +254,23 @@ module _ (source : Source) (all : SoundAll source.universe (names_of source) (de
       of_shape (shape.Product parts) = (λ h. absurd h.1, λ h. absurd h.0)
       of_shape (shape.Coll kind part low high) = (λ h. (tt, h), λ h. h.1)
 
-      inside_of : (o : Option (ℕ × ℕ)) (v : ℕ × ℕ) → o ≡ Some v → Asks source (walk_inside (setting_of source) o inner) b ↔ (IsCollection (shape_at_node source v.1) × Asks source inner b)
+      inside_of : (o : Option (ℕ × Part)) (v : ℕ × Part) → o ≡ Some v → Asks source (walk_inside (setting_of source) o inner) b ↔ (IsCollection (shape_at_node source v.1.node) × Asks source inner b)
       inside_of None v e = absurd (none_some v e)
-      inside_of (Some w) v e = subst (λ (z : ℕ × ℕ). Asks source (walk_inside (setting_of source) (Some w) inner) b ↔ (IsCollection (shape_at_node source z.1) × Asks source inner b)) (some_same w v e) (of_shape (shape_at_node source w.1))
+      inside_of (Some w) v e = subst (λ (z : ℕ × Part). Asks source (walk_inside (setting_of source) (Some w) inner) b ↔ (IsCollection (shape_at_node source z.1.node) × Asks source inner b)) (some_same w v e) (of_shape (shape_at_node source w.1.node))
 
-      none_inside : (o : Option (ℕ × ℕ)) → o ≡ None → Asks source (walk_inside (setting_of source) o inner) b → ⊥
+      none_inside : (o : Option (ℕ × Part)) → o ≡ None → Asks source (walk_inside (setting_of source) o inner) b → ⊥
       none_inside None e h = absurd h.1
       none_inside (Some w) e h = absurd (none_some w (sym e))
 
-      holds_inside : (v : ℕ × ℕ) (a f : Placed) → found scope over ≡ Some v → HoldsAt source v.1 a → IsCollectionAt source a f → HoldsAt source (walked (setting_of source) (found scope over)) f
-      holds_inside v a f e h u = subst (λ o. HoldsAt source (walked (setting_of source) o) f) (sym e) (component_holds source all v.1 a f h u)
+      holds_inside : (v : ℕ × Part) (a f : Placed) → found scope over ≡ Some v → HoldsAt source v.1.node a → IsCollectionAt source a f → HoldsAt source (walked (setting_of source) (found scope over)).node f
+      holds_inside v a f e h u = subst (λ o. HoldsAt source (walked (setting_of source) o).node f) (sym e) (component_holds source all v.1.node a f h u)
 
       inside_forth : Asks source (walk_inside (setting_of source) (found scope over) inner) b → (a : Placed) × (f : Placed) × (type_at types over.text ≡ Some a) × IsCollectionAt source a f × Inner f
       inside_forth h = elim both [
         | inl g ↦ absurd (none_inside (found scope over) g.0 h)
         | inr (v, a, f, t, holds) ↦
             let k = (inside_of (found scope over) v f).0 h in
-            let u = (collection_same source all v.1 a holds).1 k.0 in
+            let u = (collection_same source all v.1.node a holds).1 k.0 in
             (a, u.0, t, u.1, (same v u.0 f (holds_inside v a u.0 f holds u.1)).0 k.1)
       ]
 
@@ -278,8 +279,8 @@ module _ (source : Source) (all : SoundAll source.universe (names_of source) (de
         | inl h ↦ absurd (none_some a (sym h.1 ∙ t))
         | inr (v, other, f, w, holds) ↦
             let one : other ≡ a = some_same other a (sym w ∙ t) in
-            let h : HoldsAt source v.1 a = subst (HoldsAt source v.1) one holds in
-            (inside_of (found scope over) v f).1 ((collection_same source all v.1 a h).0 (g, u), (same v g f (holds_inside v a g f h u)).1 i)
+            let h : HoldsAt source v.1.node a = subst (HoldsAt source v.1.node) one holds in
+            (inside_of (found scope over) v f).1 ((collection_same source all v.1.node a h).0 (g, u), (same v g f (holds_inside v a g f h u)).1 i)
       ]
 
   mutual
@@ -293,7 +294,7 @@ module _ (source : Source) (all : SoundAll source.universe (names_of source) (de
         case_same scope types agree var (count_arms arms) (arms_asked (setting_of source) ss var arms) b (λ looks. ArmsBreak source looks var arms b)
         (λ looks agree_looks. arms_same arms ss looks var agree_looks b)
     stmt_same (Forall' var over size body) scope types agree b =
-        let inside : List Variable = record { name = var.text; node = walked (setting_of source) (found scope over) } ∷ [] in
+        let inside : List Variable = record { name = var.text; part = walked (setting_of source) (found scope over) } ∷ [] in
         walk_same scope types agree over (stmts_asked (setting_of source) inside body) b (λ f. StmtsBreak source (one_variable var f) body b)
         (λ v f e h. stmts_same body inside (one_variable var f) (one_agrees source var (walked (setting_of source) (found scope over)) f h) b)
 

@@ -68,7 +68,7 @@ module _ (source : Source) (all : SoundAll source.universe (names_of source) (de
         | inl h ↦ absurd (none_some variable (sym h.0 ∙ is))
         | inr (v, a, f, t, h) ↦
             let same : v ≡ variable = some_same v variable (sym f ∙ is) in
-            (e, a, refl, t, (λ s. differ (sym (ap (λ (z : ℕ × ℕ). z.1) same) ∙ (same_type source all v.1 x a e h g).0 s)), refl)
+            (e, a, refl, t, (λ s. differ (sym (ap (λ (z : ℕ × Part). z.1.node) same) ∙ (same_type source all v.1.node x a e h g).0 s)), refl)
       ]
 
       back : OtherVariable source types (Some e) var b → One source (gives scope (Some x) var) b
@@ -78,7 +78,7 @@ module _ (source : Source) (all : SoundAll source.universe (names_of source) (de
             let one : other ≡ a = some_same other a (sym u ∙ t) in
             let wanted : e ≡ d = some_same e d w in
             subst (One source (gives scope (Some x) var)) (sym is)
-            (other_variable x v f (λ s. differ ((same_type source all v.1 x a d (subst (HoldsAt source v.1) one h) (subst (HoldsAt source x) wanted g)).1 s)))
+            (other_variable x v f (λ s. differ ((same_type source all v.1.node x a d (subst (HoldsAt source v.1.node) one h) (subst (HoldsAt source x) wanted g)).1 s)))
       ]
 
   -- a procedure with another result, or with none
@@ -200,11 +200,11 @@ module _ (source : Source) (all : SoundAll source.universe (names_of source) (de
       let h : HoldsAt source x e = subst (HoldsAt source x) (some_same a e is) g in
       let t = (factors_same source all x e k h).0 (parts, u, n) in
       let p = product_held source all x e parts h u in
-      subst (λ xs. AgreeParts xs parts) (sym (chosen (has_factors k (shape_at_node source x)) (factors (shape_at_node source x)) [] t)) (subst (λ z. AgreeParts (factors z) parts) (sym p.is) p.hold)
+      subst (λ xs. AgreeParts xs parts) (sym (chosen (has_factors k (shape_at_node source x)) (nodes_of (factors (shape_at_node source x))) [] t)) (subst (λ z. AgreeParts (nodes_of (factors z)) parts) (sym p.is) p.hold)
   parts_agree (Some x) (Some a) k es g (no_factors e is n) =
       let h : HoldsAt source x e = subst (HoldsAt source x) (some_same a e is) g in
       let t = not_true (has_factors k (shape_at_node source x)) (λ t. n ((factors_same source all x e k h).1 t)) in
-      subst (λ xs. AgreeParts xs []) (sym (other_chosen (has_factors k (shape_at_node source x)) (factors (shape_at_node source x)) [] t)) tt
+      subst (λ xs. AgreeParts xs []) (sym (other_chosen (has_factors k (shape_at_node source x)) (nodes_of (factors (shape_at_node source x))) [] t)) tt
   parts_agree (Some x) (Some a) k es g (nothing_known is) = absurd (none_some a (sym is))
 
   parts_wanted : (o : Option ℕ) (w : Option Placed) (k : ℕ) → AgreeWanted o w → (es : List Placed) × WantedParts source w k es

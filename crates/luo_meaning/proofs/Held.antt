@@ -48,10 +48,10 @@ module _ (source : Source) (c : Clean source) where
   row_held owner at end_of-TypeExpr a = tt
   row_held owner at (more_of-TypeExpr e rest) a = (record { owner = owner; spot = at; sits = head_sits source owner at e rest a; at = refl }, row_held owner (behind at (own_nodes e)) rest (tail_sits source owner at e rest a))
 
-  pub factors_held : (x : ℕ) (e : TypeExpr) (es : List TypeExpr) → Holds source x e → IsProductOf source e es → AllHold source (factors (shape_at_node source x)) es
+  pub factors_held : (x : ℕ) (e : TypeExpr) (es : List TypeExpr) → Holds source x e → IsProductOf source e es → AllHold source (map (λ (part : Part). part.node) (factors (shape_at_node source x))) es
   factors_held x e es h (product_of {size} {parts} {at} l) =
       let k = down source c l x h in
-      subst (λ z. AllHold source (factors z) (exprs_in parts)) (sym (product_shape source c size parts at x k)) (row_held k.owner (behind k.spot 1) parts (product_sits source k.owner k.spot size parts at k.sits))
+      subst (λ z. AllHold source (map (λ (part : Part). part.node) (factors z)) (exprs_in parts)) (sym (product_shape source c size parts at x k)) (row_held k.owner (behind k.spot 1) parts (product_sits source k.owner k.spot size parts at k.sits))
 
   row_branch : (owner : ℕ) (at : Spot) {n : _} (row : Row_of-TypeExpr n) → AllSit source owner at row → (number y : ℕ) → branch_at (parts_at (names_of source) (definitions source) at row) number ≡ Some y → BranchHeld source (exprs_in row) number y
   row_branch owner at end_of-TypeExpr a number y e = absurd (none_some y e)

@@ -6,7 +6,7 @@ use Rattle.luo_model.specs.Program.{Procedure, Body, Does, Items, no_items, item
 use Rattle.luo_model.specs.Levels as model
 use Rattle.luo_model.specs.Levels.{ItemLevel, ItemsLevel, LevelWithin, WholeLevel}
 use Rattle.luo_model.specs.Scopes.ValueBodies.{join_items, value_items, values_items, value_arm_bodies}
-use Rattle.luo_model.specs.Scopes as scopes
+use Rattle.luo_model.specs.Scopes.ValueBodies as scopes
 use Rattle.luo_source.specs.declared.names.Name.{Name}
 use Rattle.luo_source.specs.declared.statements.Stmt.{Stmt, Skip, Charge, Call, Block', Case', Forall', Row_of-Stmt, end_of-Stmt, more_of-Stmt}
 use Rattle.luo_source.specs.declared.values.SourceValue as value
@@ -20,7 +20,7 @@ use Rattle.luo_rules.specs.declared.setting.Setting.{Setting}
 use Rattle.luo_rules.specs.declared.setting.Variable.{Variable}
 use Rattle.luo_rules.specs.Breaches.{◌or_if_none◌}
 use Rattle.luo_rules.specs.Meanings.{meaning, type_use, procedure_use, procedure_of}
-use Rattle.luo_rules.specs.Settings.{meant, signature_meant, found, place_of, argument_breaches, case_stands, def_node, node_meant, type_node}
+use Rattle.luo_rules.specs.Settings.{meant, signature_meant, found, place_of, argument_breaches, case_stands, def_node, type_node}
 use Rattle.luo_rules.specs.ValueBreaches as values
 use Rattle.luo_rules.specs.ValueBreaches.{part_nodes, inner_node, count_values, value_breaches, values_breaches, boxed_value_breaches}
 use Rattle.luo_rules.specs.ValueCore.{value_core, values_core, boxed_value_core, value_arms_core}
@@ -28,7 +28,7 @@ use Rattle.luo_rules.specs.Definitions.{names_of}
 use Rattle.luo_rules.specs.Nodes.{setting_of}
 use Rattle.luo_rules.specs.StatementBreaches.{walked, stmt_breaches, stmts_breaches}
 use Rattle.luo_rules.specs.StatementCore.{stmt_own, stmts_own, stmt_sites, stmts_sites, arms_sites, stmt_items, stmts_items, arms_core}
-use Rattle.luo_rules.specs.Whole.{result_breaches, parameter, body_breaches, node_or, items_of, body_core, proc_core, core}
+use Rattle.luo_rules.specs.Whole.{result_breaches, parameter, body_breaches, items_of, body_core, proc_core, core}
 use Rattle.luo_rules.proofs.Lists.{some_same, nil_left, nil_right, none_first}
 use Rattle.luo_rules.proofs.CleanSource.{Clean, clean_proc, proc_get}
 use Rattle.luo_rules.proofs.ValueFits.{procedure_meant}
@@ -120,7 +120,7 @@ module _ (R : ℕ → ℕ → Type 0) (S : List ℕ → ℕ → Type 0) (s : Set
     stmt_level (Case' var size arms) scope first e n =
         case_item (place_of (found scope var)) (first + arms_sites arms) (arms_core s (case_stands s (found scope var)) first arms) n
     stmt_level (Forall' var over size body) scope first e n =
-        let inside : List Variable = record { name = var.text; node = walked s (found scope over) } ∷ [] in
+        let inside : List Variable = record { name = var.text; part = walked s (found scope over) } ∷ [] in
         walk_item (place_of (found scope over)) (first + stmts_sites body) (first + stmts_sites body + 1) (Does (stmts_own s body) (stmts_items s inside first body)) n
 
     pub stmts_level : {k : _} (row : Row_of-Stmt k) (scope : List Variable) (first : ℕ) → stmts_breaches s scope row ≡ [] → (n : ℕ) → Level R (stmts_items s scope first row) n ↔ StmtsLevel S row n
@@ -188,18 +188,16 @@ module _ (R : ℕ → ℕ → Type 0) (S : List ℕ → ℕ → Type 0) (s : Set
     boxed_level (more_of-SourceValue v rest) scope first expected e n = value_level v scope first expected e n
 
   -- a body in the scope of its parameter
-  pub body_level : (p : ProcDef) (body : ProcBody) (node at : ℕ) → type_node s p.on ≡ Some node → body_breaches s p (Some node) body ≡ [] → (n : ℕ) → model.BodyLevel R (body_core s p at body) n ↔ BodyLevel S body n
-  body_level p (Statements stmts) node at on none n =
-      let m = node_or (type_node s p.on) in
-      let free = own_free R (sum_by (stmt_own s) stmts) (items_of s (parameter p.param m) at stmts) n in
-      let list = list_level stmts (parameter p.param m) at (subst (λ x. flat_map (stmt_breaches s (parameter p.param x)) stmts ≡ []) (sym (ap node_or on)) none) n in
+  pub body_level : (p : ProcDef) (body : ProcBody) (node at : ℕ) → body_breaches s p (Some node) body ≡ [] → (n : ℕ) → model.BodyLevel R (body_core s p at body) n ↔ BodyLevel S body n
+  body_level p (Statements stmts) node at none n =
+      let free = own_free R (sum_by (stmt_own s) stmts) (items_of s (parameter s p) at stmts) n in
+      let list = list_level stmts (parameter s p) at none n in
       (λ h. list.0 (free.0 h), λ h. free.1 (list.1 h))
-  body_level p (Value colon result value) node at on none n =
-      let m = node_or (type_node s p.on) in
-      let made = value_core s (parameter p.param m) (type_node s result) value in
+  body_level p (Value colon result value) node at none n =
+      let made = value_core s (parameter s p) (type_node s result) value in
       let free = own_free R (scopes.value_own made) (value_items at made) n in
-      let list = value_level value (parameter p.param m) at (type_node s result) (subst (λ x. value_breaches s (parameter p.param x) (type_node s result) value ≡ []) (sym (ap node_or on))
-      (nil_right (result_breaches s.universe colon p.name ++ type_use (meant s result) result) (value_breaches s (parameter p.param node) (type_node s result) value) none)) n in
+      let list = value_level value (parameter s p) at (type_node s result)
+      (nil_right (result_breaches s.universe colon p.name ++ type_use (meant s result) result) (value_breaches s (parameter s p) (type_node s result) value) none) n in
       (λ h. list.0 (free.0 h), λ h. free.1 (list.1 h))
 
 module _ (source : Source) (c : Clean source) where
@@ -209,7 +207,7 @@ module _ (source : Source) (c : Clean source) where
   here R S calls f p e at n =
       let s = setting_of source in
       let k = clean_proc source c f p e in
-      body_level R S s calls p p.body (def_node s k.i) at (ap (node_meant s) k.on) k.body n
+      body_level R S s calls p p.body (def_node s k.i) at k.body n
 
   within_kept : (depth : ℕ) (text : List ℕ) (f : ℕ) → meaning (names_of source) text ≡ Some (mean.Procedure f) → (n : ℕ) → LevelWithin (core source).procs depth f n ↔ ProcLevelWithin source depth text n
   within_kept zero text f e n = (λ h. h, λ h. h)

@@ -1,6 +1,5 @@
 -- Counts of nodes are counts of constructs, totals of sites are totals of sites, and so for those that are too large.
 use Rattle.std.proofs.Common.{◌≡◌, ◌↔◌, ℕ, zero, suc, ◌+◌, ◌<◌, List, [], ◌∷◌, ◌++◌, length, Some, slice_get, refl, sym, ap, ◌∙◌, subst, inl, inr, arith}
-use Rattle.std.specs.Prelude.{flat_map}
 use Rattle.luo_finite.specs.Listing.{Totals}
 use Rattle.luo_model.specs.Tree.{Tree}
 use Rattle.luo_model.specs.Levels as level_of
@@ -17,13 +16,12 @@ use Rattle.luo_source.specs.declared.source.ProcBody.TheVariants.{Statements, Va
 use Rattle.luo_source.specs.declared.source.ProcDef.{ProcDef}
 use Rattle.luo_source.specs.declared.source.Source.{Source}
 use Rattle.luo_rules.specs.Meanings.{type_use}
-use Rattle.luo_rules.specs.Settings.{meant, def_node, node_meant, type_node, part_meant}
+use Rattle.luo_rules.specs.Settings.{meant, def_node, type_node, part_meant}
 use Rattle.luo_rules.specs.ValueBreaches.{value_breaches}
 use Rattle.luo_rules.specs.Definitions.{definitions, names_of, measures, definition_meant}
 use Rattle.luo_rules.specs.TypeBreaches.{measures_breaches}
 use Rattle.luo_rules.specs.Nodes.{Spot, named_part, setting_of}
-use Rattle.luo_rules.specs.StatementBreaches.{stmt_breaches}
-use Rattle.luo_rules.specs.Whole.{breaches, core, parameter, node_or, result_breaches, body_breaches, body_core, sites_of, proc_core, procs_core}
+use Rattle.luo_rules.specs.Whole.{breaches, core, parameter, result_breaches, body_breaches, body_core, sites_of, proc_core, procs_core}
 use Rattle.luo_rules.specs.Checks.{IsSource}
 use Rattle.luo_rules.proofs.Lists.{nil_right, get_below}
 use Rattle.luo_rules.proofs.ProperSource.{ProperBody, ProperProc, source_proper}
@@ -54,34 +52,28 @@ use Rattle.luo_meaning.proofs.ValueSitesKept.{value_some}
 
 module _ (source : Source) (c : Clean source) where
   -- the core form has as many sites of a body
-  sites_same : (p : ProcDef) (body : ProcBody) (n : ℕ) → type_node (setting_of source) p.on ≡ Some n → body_breaches (setting_of source) p (Some n) body ≡ [] → sites_of (setting_of source) p body ≡ sites_in body
-  sites_same p (Statements stmts) n on e = refl
-  sites_same p (Value colon result value) n on e =
+  sites_same : (p : ProcDef) (body : ProcBody) (n : ℕ) → body_breaches (setting_of source) p (Some n) body ≡ [] → sites_of (setting_of source) p body ≡ sites_in body
+  sites_same p (Statements stmts) n e = refl
+  sites_same p (Value colon result value) n e =
       let s = setting_of source in
-      let node : node_or (type_node s p.on) ≡ n = ap node_or on in
-      value_same s value (parameter p.param (node_or (type_node s p.on))) (type_node s result)
-      (subst (λ z. value_breaches s (parameter p.param z) (type_node s result) value ≡ []) (sym node)
-      (nil_right (result_breaches s.universe colon p.name ++ type_use (meant s result) result) (value_breaches s (parameter p.param n) (type_node s result) value) e))
+      value_same s value (parameter s p) (type_node s result)
+      (nil_right (result_breaches s.universe colon p.name ++ type_use (meant s result) result) (value_breaches s (parameter s p) (type_node s result) value) e)
 
   pub many_sites : (f : ℕ) (p : ProcDef) → slice_get source.procs f ≡ Some p → sites_of (setting_of source) p p.body ≡ sites_in p.body
-  many_sites f p there = let k = clean_proc source c f p there in sites_same p p.body (def_node (setting_of source) k.i) (ap (node_meant (setting_of source)) k.on) k.body
+  many_sites f p there = let k = clean_proc source c f p there in sites_same p p.body (def_node (setting_of source) k.i) k.body
 
 module _ (source : Source) (c : Clean source) (none : measures_breaches (names_of source) 0 (measures source) ≡ []) (Q : InNode) (P : InType) (related : Related source Q P) where
-  body_some : (p : ProcDef) (body : ProcBody) (n x at : ℕ) → type_node (setting_of source) p.on ≡ Some n → x ≡ n → Holds source x (Named p.on) → ProperBody body → body_breaches (setting_of source) p (Some n) body ≡ []
-      → InBody (core source) (At source c none Q P related) (x ∷ []) (body_core (setting_of source) p at body) ↔ SomeBodySite source P ((p.param.text, Named p.on) ∷ []) at body
-  body_some p (Statements stmts) n x at on is holds proper e =
+  body_some : (p : ProcDef) (body : ProcBody) (n at : ℕ) → Holds source (part_meant (setting_of source) (meant (setting_of source) p.on)).node (Named p.on) → ProperBody body → body_breaches (setting_of source) p (Some n) body ≡ []
+      → InBody (core source) (At source c none Q P related) (part_meant (setting_of source) (meant (setting_of source) p.on) ∷ []) (body_core (setting_of source) p at body) ↔ SomeBodySite source P ((p.param.text, Named p.on) ∷ []) at body
+  body_some p (Statements stmts) n at holds proper e =
       let s = setting_of source in
-      let m = node_or (type_node s p.on) in
-      let node : m ≡ n = ap node_or on in
-      list_some source c none Q P related stmts (parameter p.param m) ((p.param.text, Named p.on) ∷ []) (x ∷ []) (typed_one source c p.param.text x m (Named p.on) (is ∙ sym node) holds) at proper
-      (subst (λ z. flat_map (stmt_breaches s (parameter p.param z)) stmts ≡ []) (sym node) e)
-  body_some p (Value colon result value) n x at on is holds proper e =
+      let x = part_meant s (meant s p.on) in
+      list_some source c none Q P related stmts (parameter s p) ((p.param.text, Named p.on) ∷ []) (x ∷ []) (typed_one source c p.param.text x x (Named p.on) refl holds) at proper e
+  body_some p (Value colon result value) n at holds proper e =
       let s = setting_of source in
-      let m = node_or (type_node s p.on) in
-      let node : m ≡ n = ap node_or on in
-      value_some source c none Q P related value (parameter p.param m) ((p.param.text, Named p.on) ∷ []) (x ∷ []) (typed_one source c p.param.text x m (Named p.on) (is ∙ sym node) holds) at (type_node s result) proper
-      (subst (λ z. value_breaches s (parameter p.param z) (type_node s result) value ≡ []) (sym node)
-      (nil_right (result_breaches s.universe colon p.name ++ type_use (meant s result) result) (value_breaches s (parameter p.param n) (type_node s result) value) e))
+      let x = part_meant s (meant s p.on) in
+      value_some source c none Q P related value (parameter s p) ((p.param.text, Named p.on) ∷ []) (x ∷ []) (typed_one source c p.param.text x x (Named p.on) refl holds) at (type_node s result) proper
+      (nil_right (result_breaches s.universe colon p.name ++ type_use (meant s result) result) (value_breaches s (parameter s p) (type_node s result) value) e)
 
   -- the site of a procedure's whole, and those inside it
   abbrev Whole : ℕ → ProcDef → Type 0
@@ -94,7 +86,7 @@ module _ (source : Source) (c : Clean source) (none : measures_breaches (names_o
   WholeCore at p = At source c none Q P related (proc_core (setting_of source) at p).site (proc_core (setting_of source) at p).on.node (of_body (proc_core (setting_of source) at p).body)
 
   abbrev InsideCore : ℕ → ProcDef → Type 0
-  InsideCore at p = InBody (core source) (At source c none Q P related) ((proc_core (setting_of source) at p).on.node ∷ []) (proc_core (setting_of source) at p).body
+  InsideCore at p = InBody (core source) (At source c none Q P related) ((proc_core (setting_of source) at p).on ∷ []) (proc_core (setting_of source) at p).body
 
   proc_some : (f : ℕ) (p : ProcDef) (at : ℕ) → ProperProc p → slice_get source.procs f ≡ Some p → slice_get (core source).procs f ≡ Some (proc_core (setting_of source) at p) → (WholeCore at p ↔ Whole at p) × (InsideCore at p ↔ Inside at p)
   proc_some f p at proper there core_there =
@@ -110,7 +102,7 @@ module _ (source : Source) (c : Clean source) (none : measures_breaches (names_o
         sits = named_sits source c p.on k.i k.on spot;
         at = ap (λ o. (named_part names (definitions source) (definition_meant o)).node) k.on ∙ (sym (def_node_is source c k.i k.below) ∙ sym node);
       } in
-      let body = body_some p p.body (def_node s k.i) x at (ap (node_meant s) k.on) node holds proper k.body in
+      let body = body_some p p.body (def_node s k.i) at holds proper k.body in
       let C : Tree → ℕ → Type 0 = λ t q. BodyCharges (Charges (core source)) (proc_core s at p).body (t ∷ []) q in
       let D : Tree → ℕ → Type 0 = λ t q. ProcCharges source p.name.text t q in
       let same : (t : Tree) (q : ℕ) → C t q ↔ D t q =

@@ -1,6 +1,5 @@
 -- What procedures charge, by number and by name, at each depth of calls.
 use Rattle.std.proofs.Common.{◌≡◌, ℕ, zero, suc, ◌↔◌, List, [], ◌∷◌, ◌++◌, Some, slice_get, sym, ap, ◌∙◌, subst}
-use Rattle.std.specs.Prelude.{flat_map}
 use Rattle.luo_model.specs.Tree.{Tree}
 use Rattle.luo_model.specs.Program.{Procedure}
 use Rattle.luo_model.specs.Charges as model
@@ -12,13 +11,12 @@ use Rattle.luo_source.specs.declared.source.Source.{Source}
 use Rattle.luo_rules.specs.declared.names.Meaning.TheVariants as mean
 use Rattle.luo_rules.specs.declared.setting.Setting.{Setting}
 use Rattle.luo_rules.specs.Meanings.{meaning, type_use}
-use Rattle.luo_rules.specs.Settings.{meant, def_node, node_meant, type_node}
+use Rattle.luo_rules.specs.Settings.{meant, def_node, type_node, part_meant}
 use Rattle.luo_rules.specs.ValueBreaches.{value_breaches}
 use Rattle.luo_rules.specs.Definitions.{names_of, measures}
 use Rattle.luo_rules.specs.TypeBreaches.{measures_breaches}
 use Rattle.luo_rules.specs.Nodes.{setting_of}
-use Rattle.luo_rules.specs.StatementBreaches.{stmt_breaches}
-use Rattle.luo_rules.specs.Whole.{result_breaches, parameter, body_breaches, node_or, body_core, proc_core, procs_core, core}
+use Rattle.luo_rules.specs.Whole.{result_breaches, parameter, body_breaches, body_core, proc_core, procs_core, core}
 use Rattle.luo_rules.proofs.Lists.{some_same, nil_right}
 use Rattle.luo_rules.proofs.CleanSource.{Clean, clean_proc, proc_get}
 use Rattle.luo_meaning.specs.Defined.{DefinesMeasure}
@@ -35,17 +33,13 @@ pub procedure_number : (f g : ℕ) → Some (mean.Procedure f) ≡ Some (mean.Pr
 procedure_number f g e = cc
 
 -- a body in the scope of its parameter
-body_kept : (source : Source) (R : ℕ → Tree → ℕ → Type 0) (S : List ℕ → Tree → ℕ → Type 0) (s : Setting) → Keeps source s R S → (p : ProcDef) (body : ProcBody) (n at : ℕ) → type_node s p.on ≡ Some n → body_breaches s p (Some n) body ≡ [] → (t : Tree) (q : ℕ)
+body_kept : (source : Source) (R : ℕ → Tree → ℕ → Type 0) (S : List ℕ → Tree → ℕ → Type 0) (s : Setting) → Keeps source s R S → (p : ProcDef) (body : ProcBody) (n at : ℕ) → body_breaches s p (Some n) body ≡ [] → (t : Tree) (q : ℕ)
     → model.BodyCharges R (body_core s p at body) (t ∷ []) q ↔ BodyCharges source S ((p.param.text, t) ∷ []) body q
-body_kept source R S s keeps p (Statements stmts) n at on none t q =
-    let m = node_or (type_node s p.on) in
-    list_kept source R S s keeps stmts (parameter p.param m) ((p.param.text, t) ∷ []) (t ∷ []) (agree_one p.param.text m t) at
-    (subst (λ x. flat_map (stmt_breaches s (parameter p.param x)) stmts ≡ []) (sym (ap node_or on)) none) q
-body_kept source R S s keeps p (Value colon result value) n at on none t q =
-    let m = node_or (type_node s p.on) in
-    value_kept source R S s keeps value (parameter p.param m) ((p.param.text, t) ∷ []) (t ∷ []) (agree_one p.param.text m t) at (type_node s result)
-    (subst (λ x. value_breaches s (parameter p.param x) (type_node s result) value ≡ []) (sym (ap node_or on))
-    (nil_right (result_breaches s.universe colon p.name ++ type_use (meant s result) result) (value_breaches s (parameter p.param n) (type_node s result) value) none)) q
+body_kept source R S s keeps p (Statements stmts) n at none t q =
+    list_kept source R S s keeps stmts (parameter s p) ((p.param.text, t) ∷ []) (t ∷ []) (agree_one p.param.text (part_meant s (meant s p.on)) t) at none q
+body_kept source R S s keeps p (Value colon result value) n at none t q =
+    value_kept source R S s keeps value (parameter s p) ((p.param.text, t) ∷ []) (t ∷ []) (agree_one p.param.text (part_meant s (meant s p.on)) t) at (type_node s result)
+    (nil_right (result_breaches s.universe colon p.name ++ type_use (meant s result) result) (value_breaches s (parameter s p) (type_node s result) value) none) q
 
 module _ (source : Source) (c : Clean source) (none : measures_breaches (names_of source) 0 (measures source) ≡ []) where
   pub measures_kept : (text : List ℕ) (k v : ℕ) → meaning (names_of source) text ≡ Some (mean.Measure k v) → (q : ℕ) → (q ≡ v) ↔ DefinesMeasure source text q
@@ -60,7 +54,7 @@ module _ (source : Source) (c : Clean source) (none : measures_breaches (names_o
   here R S keeps f p e at t q =
       let s = setting_of source in
       let k = clean_proc source c f p e in
-      body_kept source R S s keeps p p.body (def_node s k.i) at (ap (node_meant s) k.on) k.body t q
+      body_kept source R S s keeps p p.body (def_node s k.i) at k.body t q
 
   pub within_kept : (depth : ℕ) (text : List ℕ) (f : ℕ) → meaning (names_of source) text ≡ Some (mean.Procedure f) → (t : Tree) (q : ℕ)
       → ChargesWithin (procs_core (setting_of source) 0 source.procs) depth f t q ↔ ProcChargesWithin source depth text t q

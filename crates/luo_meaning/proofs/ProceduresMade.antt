@@ -12,12 +12,12 @@ use Rattle.luo_source.specs.declared.source.ProcDef.{ProcDef}
 use Rattle.luo_source.specs.declared.source.Source.{Source}
 use Rattle.luo_rules.specs.declared.names.Meaning.TheVariants as mean
 use Rattle.luo_rules.specs.Meanings.{meaning}
-use Rattle.luo_rules.specs.Settings.{def_node, node_meant, type_node}
+use Rattle.luo_rules.specs.Settings.{meant, def_node, node_meant, type_node, part_meant}
 use Rattle.luo_rules.specs.ValueBreaches.{value_breaches}
 use Rattle.luo_rules.specs.ValueCore.{value_core}
 use Rattle.luo_rules.specs.Definitions.{definitions, names_of, definition_meant}
 use Rattle.luo_rules.specs.Nodes.{Spot, named_part, setting_of}
-use Rattle.luo_rules.specs.Whole.{result_breaches, parameter, body_breaches, node_or, result_core, proc_core, procs_core, core, breaches}
+use Rattle.luo_rules.specs.Whole.{result_breaches, parameter, body_breaches, result_core, proc_core, procs_core, core, breaches}
 use Rattle.luo_rules.proofs.Lists.{some_same, none_some}
 use Rattle.luo_rules.proofs.ProperSource.{ProperBody, ProperProc, source_proper}
 use Rattle.luo_rules.proofs.SourceFacts.{all_get}
@@ -51,19 +51,17 @@ module _ (source : Source) (c : Clean source) where
 
   module _ (R : ℕ → Tree → Tree → Type 0) (S : List ℕ → Tree → Tree → Type 0) (calls : (text : List ℕ) (f : ℕ) → meaning (names_of source) text ≡ Some (mean.Procedure f) → (t r : Tree) → R f t r ↔ S text t r) where
     -- a body in the scope of its parameter
-    body_made : (p : ProcDef) (body : ProcBody) (n : ℕ) → type_node (setting_of source) p.on ≡ Some n → ProperBody body → body_breaches (setting_of source) p (Some n) body ≡ [] → (t r : Tree)
+    body_made : (p : ProcDef) (body : ProcBody) (n : ℕ) → ProperBody body → body_breaches (setting_of source) p (Some n) body ≡ [] → (t r : Tree)
         → ((result : Result) × (result_core (setting_of source) p body ≡ Some result) × makes.ValueMakes R result.value (t ∷ []) r) ↔ BodyMakes source S ((p.param.text, t) ∷ []) body r
-    body_made p (Statements stmts) n on proper none t r = (λ h. absurd (none_some h.0 h.1), λ h. absurd h)
-    body_made p (Value colon result value) n on proper none t r =
+    body_made p (Statements stmts) n proper none t r = (λ h. absurd (none_some h.0 h.1), λ h. absurd h)
+    body_made p (Value colon result value) n proper none t r =
         let s = setting_of source in
-        let m = node_or (type_node s p.on) in
-        let k = clean_result source c colon p.name result (value_breaches s (parameter p.param n) (type_node s result) value) none in
+        let k = clean_result source c colon p.name result (value_breaches s (parameter s p) (type_node s result) value) none in
         let x = def_node s k.i in
         let wanted : type_node s result ≡ Some x = ap (node_meant s) k.on in
-        let clean : value_breaches s (parameter p.param m) (Some x) value ≡ [] =
-        subst (λ z. value_breaches s (parameter p.param z) (Some x) value ≡ []) (sym (ap node_or on)) (subst (λ (o : Option ℕ). value_breaches s (parameter p.param n) o value ≡ []) wanted k.value) in
-        let made = value_made source R S c (unlabelled source.universe colon p.name k.universe) calls value (parameter p.param m) ((p.param.text, t) ∷ []) (t ∷ []) (agree_one p.param.text m t) x (Named result) (name_holds result k.i k.on x refl) proper clean r in
-        let here = subst (λ (o : Option ℕ). makes.ValueMakes R (value_core s (parameter p.param m) o value) (t ∷ []) r ↔ BodyMakes source S ((p.param.text, t) ∷ []) (Value colon result value) r) (sym wanted) made in (
+        let clean : value_breaches s (parameter s p) (Some x) value ≡ [] = subst (λ (o : Option ℕ). value_breaches s (parameter s p) o value ≡ []) wanted k.value in
+        let made = value_made source R S c (unlabelled source.universe colon p.name k.universe) calls value (parameter s p) ((p.param.text, t) ∷ []) (t ∷ []) (agree_one p.param.text (part_meant s (meant s p.on)) t) x (Named result) (name_holds result k.i k.on x refl) proper clean r in
+        let here = subst (λ (o : Option ℕ). makes.ValueMakes R (value_core s (parameter s p) o value) (t ∷ []) r ↔ BodyMakes source S ((p.param.text, t) ∷ []) (Value colon result value) r) (sym wanted) made in (
           λ h. here.0 (subst (λ (z : Result). makes.ValueMakes R z.value (t ∷ []) r) (sym (some_same _ h.0 h.1)) h.2),
           λ h. (_, refl, here.1 h),
         )
@@ -76,7 +74,7 @@ module _ (source : Source) (c : Clean source) where
     here R S calls f p e at t r =
         let s = setting_of source in
         let k = clean_proc source c f p e in
-        body_made R S calls p p.body (def_node s k.i) (ap (node_meant s) k.on) (proper f p e) k.body t r
+        body_made R S calls p p.body (def_node s k.i) (proper f p e) k.body t r
 
     within_made : (depth : ℕ) (text : List ℕ) (f : ℕ) → meaning (names_of source) text ≡ Some (mean.Procedure f) → (t r : Tree)
         → MakesWithin (procs_core (setting_of source) 0 source.procs) depth f t r ↔ ProcMakesWithin source depth text t r

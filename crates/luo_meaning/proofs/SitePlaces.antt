@@ -80,7 +80,7 @@ module _ (source : Source) (is : IsSource source) (checked : IsChecked source (c
       let proper : ProperProc p = all_get ProperProc source.procs f p (source_proper source is).bodies e in
       let small : body_statements p.body ≤ STATEMENT_LIMIT = omega (arith, sum_get (λ (q : ProcDef). body_statements q.body) source.procs f p e, (within_limits source checked.0).statements) in
       let good = proc_good source c (core source).sites (core source).analyses f p e proper small at in
-      let inner : List (ℕ × ℕ) = body_sites (core source) (P.on.node ∷ []) P.body in
+      let inner : List (ℕ × ℕ) = body_sites (core source) (P.on ∷ []) P.body in
       let own : List (ℕ × ℕ) = (P.site, P.on.node) ∷ [] in
       let same : length inner ≡ sites_in p.body = good.many ∙ many_sites source c f p e in
       length-append inner own ∙ omega (arith, same)

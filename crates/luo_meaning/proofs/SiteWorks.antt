@@ -3,12 +3,13 @@ use Rattle.std.proofs.Common.{◌≡◌, ◌⊎◌, ◌↔◌, ℕ, zero, suc, �
 use Rattle.std.specs.Prelude.{flat_map}
 use Rattle.luo_finite.specs.Listing.{In, NoDouble}
 use Rattle.luo_finite.proofs.Membership.{In-append_left, In-append_right, In-append_cases, In-map}
+use Rattle.luo_model.specs.declared.program.Part.{Part}
 use Rattle.luo_model.specs.declared.program.Site.{Site}
 use Rattle.luo_model.specs.Tree.{Tree}
 use Rattle.luo_model.specs.Program.{Program, Procedure, Body, Does, Items, no_items, item, Item, Call, Case, Forall, Arms, no_arms, arm, shape_of, site_node}
 use Rattle.luo_model.specs.Charges.{Work, of_body, of_call, of_case, of_walk, works_of_body, works_of_items, works_of_item, works_of_arms, works_of_procedure, works_of, WorkCharges, SiteCharges}
 use Rattle.luo_model.specs.Levels.{IsLevel, WorkLevel}
-use Rattle.luo_model.specs.Scopes.Stands.{Stand, stands, component, bound_parts, part_at}
+use Rattle.luo_model.specs.Scopes.Stands.{Stand, stands, component, no_part, bound_parts, part_at}
 use Rattle.luo_model.specs.Scopes.Fits.{FitsBody, FitsItems, FitsItem, FitsArms}
 use Rattle.luo_model.specs.Scopes.Sites.{body_sites, items_sites, item_sites, arms_sites}
 use Rattle.luo_model.specs.Invariant.{IsProgram, procedure_sites, placed, sites_from}
@@ -19,28 +20,28 @@ use Rattle.luo_rules.proofs.Lists.{index_get, below_get, get_below, In_get}
 -- Q holds of a site, the node of its variable and what is done there
 module _ (p : Program) (Q : ℕ → ℕ → Work → Type 0) where
   abbrev mutual
-    pub InBody : List ℕ → Body → Type 0
+    pub InBody : List Part → Body → Type 0
     InBody vars (Does own items) = InItems vars items
 
-    pub InItems : List ℕ → Items → Type 0
+    pub InItems : List Part → Items → Type 0
     InItems vars no_items = ⊥
     InItems vars (item i is) = InItem vars i ⊎ InItems vars is
 
-    pub InItem : List ℕ → Item → Type 0
-    InItem vars (Call var callee site) = Q site (node_at vars var) (of_call callee)
-    InItem vars (Case var arms site) = Q site (node_at vars var) (of_case arms) ⊎ InArms (stands (node_at vars var) (shape_of p (node_at vars var))) arms
+    pub InItem : List Part → Item → Type 0
+    InItem vars (Call var callee site) = Q site (part_at vars var).node (of_call callee)
+    InItem vars (Case var arms site) = Q site (part_at vars var).node (of_case arms) ⊎ InArms (stands (part_at vars var) (shape_of p (part_at vars var).node)) arms
     InItem vars (Forall var body body_site site) =
-        Q site (node_at vars var) (of_walk body)
-        ⊎ Q body_site (component (shape_of p (node_at vars var))) (of_body body)
-        ⊎ InBody (component (shape_of p (node_at vars var)) ∷ []) body
+        Q site (part_at vars var).node (of_walk body)
+        ⊎ Q body_site (component (shape_of p (part_at vars var).node)).node (of_body body)
+        ⊎ InBody (component (shape_of p (part_at vars var).node) ∷ []) body
 
     pub InArms : List Stand → Arms → Type 0
-    InArms (stand ∷ ss) (arm bind body arms) = InBody (bound_nodes p stand bind) body ⊎ InArms ss arms
+    InArms (stand ∷ ss) (arm bind body arms) = InBody (bound_parts p stand bind) body ⊎ InArms ss arms
     InArms _ _ = ⊥
 
   abbrev pub InProcs : List Procedure → Type 0
   InProcs [] = ⊥
-  InProcs (P ∷ Ps) = Q P.site P.on.node (of_body P.body) ⊎ InBody (P.on.node ∷ []) P.body ⊎ InProcs Ps
+  InProcs (P ∷ Ps) = Q P.site P.on.node (of_body P.body) ⊎ InBody (P.on ∷ []) P.body ⊎ InProcs Ps
 
 -- where Q holds of a site of these works and of these nodes
 pub record Found (Q : ℕ → ℕ → Work → Type 0) (works : List (ℕ × Work)) (sites : List (ℕ × ℕ)) : Type 0 where
@@ -65,31 +66,31 @@ module _ (Q : ℕ → ℕ → Work → Type 0) where
   module _ (p : Program) where
     -- from the place to the lists
     mutual
-      body_found : (b : Body) (vars : List ℕ) → InBody p Q vars b → Found Q (works_of_body b) (body_sites p vars b)
+      body_found : (b : Body) (vars : List Part) → InBody p Q vars b → Found Q (works_of_body b) (body_sites p vars b)
       body_found (Does own items) vars h = items_found items vars h
 
-      items_found : (is : Items) (vars : List ℕ) → InItems p Q vars is → Found Q (works_of_items is) (items_sites p vars is)
+      items_found : (is : Items) (vars : List Part) → InItems p Q vars is → Found Q (works_of_items is) (items_sites p vars is)
       items_found no_items vars h = absurd h
       items_found (item i is) vars (inl h) = wider_left (works_of_item i) (works_of_items is) (item_sites p vars i) (items_sites p vars is) (item_found i vars h)
       items_found (item i is) vars (inr h) = wider_right (works_of_item i) (works_of_items is) (item_sites p vars i) (items_sites p vars is) (items_found is vars h)
 
-      item_found : (i : Item) (vars : List ℕ) → InItem p Q vars i → Found Q (works_of_item i) (item_sites p vars i)
-      item_found (Call var callee site) vars h = record { i = site; x = node_at vars var; w = of_call callee; work = inl refl; node = inl refl; is = h }
+      item_found : (i : Item) (vars : List Part) → InItem p Q vars i → Found Q (works_of_item i) (item_sites p vars i)
+      item_found (Call var callee site) vars h = record { i = site; x = (part_at vars var).node; w = of_call callee; work = inl refl; node = inl refl; is = h }
       item_found (Case var arms site) vars (inl h) =
-          let x = node_at vars var in
-          wider_right (works_of_arms arms) ((site, of_case arms) ∷ []) (arms_sites p (stands x (shape_of p x)) arms) ((site, x) ∷ []) (record { i = site; x = x; w = of_case arms; work = inl refl; node = inl refl; is = h })
+          let x = part_at vars var in
+          wider_right (works_of_arms arms) ((site, of_case arms) ∷ []) (arms_sites p (stands x (shape_of p x.node)) arms) ((site, x.node) ∷ []) (record { i = site; x = x.node; w = of_case arms; work = inl refl; node = inl refl; is = h })
       item_found (Case var arms site) vars (inr h) =
-          let x = node_at vars var in
-          wider_left (works_of_arms arms) ((site, of_case arms) ∷ []) (arms_sites p (stands x (shape_of p x)) arms) ((site, x) ∷ []) (arms_found arms (stands x (shape_of p x)) h)
+          let x = part_at vars var in
+          wider_left (works_of_arms arms) ((site, of_case arms) ∷ []) (arms_sites p (stands x (shape_of p x.node)) arms) ((site, x.node) ∷ []) (arms_found arms (stands x (shape_of p x.node)) h)
       item_found (Forall var body body_site site) vars h =
-          let x = node_at vars var in
-          let y = component (shape_of p x) in
+          let x = part_at vars var in
+          let y = component (shape_of p x.node) in
           let works : List (ℕ × Work) = (body_site, of_body body) ∷ ((site, of_walk body) ∷ []) in
-          let nodes : List (ℕ × ℕ) = (body_site, y) ∷ (site, x) ∷ [] in
+          let nodes : List (ℕ × ℕ) = (body_site, y.node) ∷ (site, x.node) ∷ [] in
           elim h [
-            | inl h ↦ wider_right (works_of_body body) works (body_sites p (y ∷ []) body) nodes (record { i = site; x = x; w = of_walk body; work = inr (inl refl); node = inr (inl refl); is = h })
+            | inl h ↦ wider_right (works_of_body body) works (body_sites p (y ∷ []) body) nodes (record { i = site; x = x.node; w = of_walk body; work = inr (inl refl); node = inr (inl refl); is = h })
             | inr h ↦ elim h [
-              | inl h ↦ wider_right (works_of_body body) works (body_sites p (y ∷ []) body) nodes (record { i = body_site; x = y; w = of_body body; work = inl refl; node = inl refl; is = h })
+              | inl h ↦ wider_right (works_of_body body) works (body_sites p (y ∷ []) body) nodes (record { i = body_site; x = y.node; w = of_body body; work = inl refl; node = inl refl; is = h })
               | inr h ↦ wider_left (works_of_body body) works (body_sites p (y ∷ []) body) nodes (body_found body (y ∷ []) h)
             ]
           ]
@@ -98,15 +99,15 @@ module _ (Q : ℕ → ℕ → Work → Type 0) where
       arms_found no_arms [] h = absurd h
       arms_found no_arms (stand ∷ ss) h = absurd h
       arms_found (arm bind body arms) [] h = absurd h
-      arms_found (arm bind body arms) (stand ∷ ss) (inl h) = wider_left (works_of_body body) (works_of_arms arms) (body_sites p (bound_nodes p stand bind) body) (arms_sites p ss arms) (body_found body (bound_nodes p stand bind) h)
-      arms_found (arm bind body arms) (stand ∷ ss) (inr h) = wider_right (works_of_body body) (works_of_arms arms) (body_sites p (bound_nodes p stand bind) body) (arms_sites p ss arms) (arms_found arms ss h)
+      arms_found (arm bind body arms) (stand ∷ ss) (inl h) = wider_left (works_of_body body) (works_of_arms arms) (body_sites p (bound_parts p stand bind) body) (arms_sites p ss arms) (body_found body (bound_parts p stand bind) h)
+      arms_found (arm bind body arms) (stand ∷ ss) (inr h) = wider_right (works_of_body body) (works_of_arms arms) (body_sites p (bound_parts p stand bind) body) (arms_sites p ss arms) (arms_found arms ss h)
 
     -- from a work of the list to its place, where Q holds of each site with this work, whatever its node
     mutual
-      body_placed : (b : Body) (vars : List ℕ) → FitsBody p vars b → (i : ℕ) (w : Work) → In (i, w) (works_of_body b) → ((x : ℕ) → In (i, x) (body_sites p vars b) → Q i x w) → InBody p Q vars b
+      body_placed : (b : Body) (vars : List Part) → FitsBody p vars b → (i : ℕ) (w : Work) → In (i, w) (works_of_body b) → ((x : ℕ) → In (i, x) (body_sites p vars b) → Q i x w) → InBody p Q vars b
       body_placed (Does own items) vars f i w h q = items_placed items vars f.1 i w h q
 
-      items_placed : (is : Items) (vars : List ℕ) → FitsItems p vars is → (i : ℕ) (w : Work) → In (i, w) (works_of_items is) → ((x : ℕ) → In (i, x) (items_sites p vars is) → Q i x w) → InItems p Q vars is
+      items_placed : (is : Items) (vars : List Part) → FitsItems p vars is → (i : ℕ) (w : Work) → In (i, w) (works_of_items is) → ((x : ℕ) → In (i, x) (items_sites p vars is) → Q i x w) → InItems p Q vars is
       items_placed no_items vars f i w h q = absurd h
       items_placed (item j is) vars f i w h q =
           elim (In-append_cases (i, w) (works_of_item j) (works_of_items is) h) [
@@ -114,31 +115,31 @@ module _ (Q : ℕ → ℕ → Work → Type 0) where
             | inr k ↦ inr (items_placed is vars f.1 i w k (λ x m. q x (In-append_right (i, x) (item_sites p vars j) (items_sites p vars is) m)))
           ]
 
-      item_placed : (j : Item) (vars : List ℕ) → FitsItem p vars j → (i : ℕ) (w : Work) → In (i, w) (works_of_item j) → ((x : ℕ) → In (i, x) (item_sites p vars j) → Q i x w) → InItem p Q vars j
+      item_placed : (j : Item) (vars : List Part) → FitsItem p vars j → (i : ℕ) (w : Work) → In (i, w) (works_of_item j) → ((x : ℕ) → In (i, x) (item_sites p vars j) → Q i x w) → InItem p Q vars j
       item_placed (Call var callee site) vars f i w h q =
-          elim h [ inl e ↦ at_site i site (node_at vars var) w (of_call callee) e (λ same. q (node_at vars var) (inl (ap (λ (n : ℕ). (n, node_at vars var)) same))) | inr e ↦ absurd e ]
+          elim h [ inl e ↦ at_site i site (part_at vars var).node w (of_call callee) e (λ same. q (part_at vars var).node (inl (ap (λ (n : ℕ). (n, (part_at vars var).node)) same))) | inr e ↦ absurd e ]
       item_placed (Case var arms site) vars f i w h q =
-          let x = node_at vars var in
-          let same : f.0 ≡ x = sym (index_get vars var f.0 0 f.1) in
+          let x = part_at vars var in
+          let same : f.0 ≡ x = sym (index_get vars var f.0 no_part f.1) in
           elim (In-append_cases (i, w) (works_of_arms arms) ((site, of_case arms) ∷ []) h) [
-            | inl k ↦ inr (arms_placed arms (stands x (shape_of p x)) (subst (λ y. FitsArms p (stands y (shape_of p y)) arms) same f.3) i w k (λ y m. q y (In-append_left (i, y) (arms_sites p (stands x (shape_of p x)) arms) ((site, x) ∷ []) m)))
+            | inl k ↦ inr (arms_placed arms (stands x (shape_of p x.node)) (subst (λ (y : Part). FitsArms p (stands y (shape_of p y.node)) arms) same f.3) i w k (λ y m. q y (In-append_left (i, y) (arms_sites p (stands x (shape_of p x.node)) arms) ((site, x.node) ∷ []) m)))
             | inr k ↦ elim k [
-              | inl e ↦ inl (at_site i site x w (of_case arms) e (λ s. q x (In-append_right (i, x) (arms_sites p (stands x (shape_of p x)) arms) ((site, x) ∷ []) (inl (ap (λ (n : ℕ). (n, x)) s)))))
+              | inl e ↦ inl (at_site i site x.node w (of_case arms) e (λ s. q x.node (In-append_right (i, x.node) (arms_sites p (stands x (shape_of p x.node)) arms) ((site, x.node) ∷ []) (inl (ap (λ (n : ℕ). (n, x.node)) s)))))
               | inr e ↦ absurd e
             ]
           ]
       item_placed (Forall var body body_site site) vars f i w h q =
-          let x = node_at vars var in
-          let y = component (shape_of p x) in
-          let same : f.0 ≡ x = sym (index_get vars var f.0 0 f.1) in
+          let x = part_at vars var in
+          let y = component (shape_of p x.node) in
+          let same : f.0 ≡ x = sym (index_get vars var f.0 no_part f.1) in
           let works : List (ℕ × Work) = (body_site, of_body body) ∷ ((site, of_walk body) ∷ []) in
-          let nodes : List (ℕ × ℕ) = (body_site, y) ∷ (site, x) ∷ [] in
+          let nodes : List (ℕ × ℕ) = (body_site, y.node) ∷ (site, x.node) ∷ [] in
           elim (In-append_cases (i, w) (works_of_body body) works h) [
-            | inl k ↦ inr (inr (body_placed body (y ∷ []) (subst (λ z. FitsBody p (component (shape_of p z) ∷ []) body) same f.3) i w k (λ z m. q z (In-append_left (i, z) (body_sites p (y ∷ []) body) nodes m))))
+            | inl k ↦ inr (inr (body_placed body (y ∷ []) (subst (λ (z : Part). FitsBody p (component (shape_of p z.node) ∷ []) body) same f.3) i w k (λ z m. q z (In-append_left (i, z) (body_sites p (y ∷ []) body) nodes m))))
             | inr k ↦ elim k [
-              | inl e ↦ inr (inl (at_site i body_site y w (of_body body) e (λ s. q y (In-append_right (i, y) (body_sites p (y ∷ []) body) nodes (inl (ap (λ (n : ℕ). (n, y)) s))))))
+              | inl e ↦ inr (inl (at_site i body_site y.node w (of_body body) e (λ s. q y.node (In-append_right (i, y.node) (body_sites p (y ∷ []) body) nodes (inl (ap (λ (n : ℕ). (n, y.node)) s))))))
               | inr k ↦ elim k [
-                | inl e ↦ inl (at_site i site x w (of_walk body) e (λ s. q x (In-append_right (i, x) (body_sites p (y ∷ []) body) nodes (inr (inl (ap (λ (n : ℕ). (n, x)) s))))))
+                | inl e ↦ inl (at_site i site x.node w (of_walk body) e (λ s. q x.node (In-append_right (i, x.node) (body_sites p (y ∷ []) body) nodes (inr (inl (ap (λ (n : ℕ). (n, x.node)) s))))))
                 | inr e ↦ absurd e
               ]
             ]
@@ -149,8 +150,8 @@ module _ (Q : ℕ → ℕ → Work → Type 0) where
       arms_placed (arm bind body arms) [] f i w h q = absurd f
       arms_placed (arm bind body arms) (stand ∷ ss) f i w h q =
           elim (In-append_cases (i, w) (works_of_body body) (works_of_arms arms) h) [
-            | inl k ↦ inl (body_placed body (bound_nodes p stand bind) f.1 i w k (λ x m. q x (In-append_left (i, x) (body_sites p (bound_nodes p stand bind) body) (arms_sites p ss arms) m)))
-            | inr k ↦ inr (arms_placed arms ss f.2 i w k (λ x m. q x (In-append_right (i, x) (body_sites p (bound_nodes p stand bind) body) (arms_sites p ss arms) m)))
+            | inl k ↦ inl (body_placed body (bound_parts p stand bind) f.1 i w k (λ x m. q x (In-append_left (i, x) (body_sites p (bound_parts p stand bind) body) (arms_sites p ss arms) m)))
+            | inr k ↦ inr (arms_placed arms ss f.2 i w k (λ x m. q x (In-append_right (i, x) (body_sites p (bound_parts p stand bind) body) (arms_sites p ss arms) m)))
           ]
 
 -- a place among sites is a place among those of the procedure
@@ -193,9 +194,9 @@ module _ (p : Program) (Q : ℕ → ℕ → Work → Type 0) where
       } in
       let whole : List (ℕ × Work) = (P.site, of_body P.body) ∷ [] in
       elim h [
-        | inl h ↦ here (wider_right Q (works_of_body P.body) whole (body_sites p (P.on.node ∷ []) P.body) ((P.site, P.on.node) ∷ []) (record { i = P.site; x = P.on.node; w = of_body P.body; work = inl refl; node = inl refl; is = h }))
+        | inl h ↦ here (wider_right Q (works_of_body P.body) whole (body_sites p (P.on ∷ []) P.body) ((P.site, P.on.node) ∷ []) (record { i = P.site; x = P.on.node; w = of_body P.body; work = inl refl; node = inl refl; is = h }))
         | inr h ↦ elim h [
-          | inl h ↦ here (wider_left Q (works_of_body P.body) whole (body_sites p (P.on.node ∷ []) P.body) ((P.site, P.on.node) ∷ []) (body_found Q p P.body (P.on.node ∷ []) h))
+          | inl h ↦ here (wider_left Q (works_of_body P.body) whole (body_sites p (P.on ∷ []) P.body) ((P.site, P.on.node) ∷ []) (body_found Q p P.body (P.on ∷ []) h))
           | inr h ↦
               let r = procs_found (g + 1) Ps h in
               record {
@@ -209,18 +210,18 @@ module _ (p : Program) (Q : ℕ → ℕ → Work → Type 0) where
         ]
       ]
 
-  procs_placed : (g : ℕ) (Ps : List Procedure) → ((k : ℕ) (P : Procedure) → slice_get Ps k ≡ Some P → FitsBody p (P.on.node ∷ []) P.body) → (i : ℕ) (w : Work) → In (i, w) (flat_map works_of_procedure Ps)
+  procs_placed : (g : ℕ) (Ps : List Procedure) → ((k : ℕ) (P : Procedure) → slice_get Ps k ≡ Some P → FitsBody p (P.on ∷ []) P.body) → (i : ℕ) (w : Work) → In (i, w) (flat_map works_of_procedure Ps)
       → ((v : Site) → In (i, v) (sites_from p g Ps) → Q i v.node w) → InProcs p Q Ps
   procs_placed g [] fits i w h q = absurd h
   procs_placed g (P ∷ Ps) fits i w h q =
       let whole : List (ℕ × Work) = (P.site, of_body P.body) ∷ [] in
       let own : List (ℕ × ℕ) = (P.site, P.on.node) ∷ [] in
-      let inner : List (ℕ × ℕ) = body_sites p (P.on.node ∷ []) P.body in
+      let inner : List (ℕ × ℕ) = body_sites p (P.on ∷ []) P.body in
       let here : (x : ℕ) → In (i, x) (procedure_sites p P) → Q i x w =
       λ x m. let v = placed_in g 0 (procedure_sites p P) i x m in subst (λ n. Q i n w) v.2 (q v.0 (In-append_left (i, v.0) (placed g 0 (procedure_sites p P)) (sites_from p (g + 1) Ps) v.1)) in
       elim (In-append_cases (i, w) (works_of_procedure P) (flat_map works_of_procedure Ps) h) [
         | inl k ↦ elim (In-append_cases (i, w) (works_of_body P.body) whole k) [
-          | inl k ↦ inr (inl (body_placed Q p P.body (P.on.node ∷ []) (fits zero P refl) i w k (λ x m. here x (In-append_left (i, x) inner own m))))
+          | inl k ↦ inr (inl (body_placed Q p P.body (P.on ∷ []) (fits zero P refl) i w k (λ x m. here x (In-append_left (i, x) inner own m))))
           | inr k ↦ elim k [
             | inl e ↦ inl (at_site Q i P.site P.on.node w (of_body P.body) e (λ s. here P.on.node (In-append_right (i, P.on.node) inner own (inl (ap (λ (n : ℕ). let r : ℕ × ℕ = (n, P.on.node) in r) s)))))
             | inr e ↦ absurd e

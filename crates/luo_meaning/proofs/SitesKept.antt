@@ -1,6 +1,7 @@
 -- Some site of statements in the core form is some site of the statements as written.
 use Rattle.std.proofs.Common.{◌≡◌, ◌⊎◌, ◌↔◌, ℕ, suc, ◌+◌, List, [], ◌∷◌, length, Option, Some, None, refl, sym, ap, ◌∙◌, subst, inl, inr, arith}
 use Rattle.std.specs.Prelude.{flat_map}
+use Rattle.luo_model.specs.declared.program.Part.{Part}
 use Rattle.luo_model.specs.declared.program.Shape.{Shape}
 use Rattle.luo_model.specs.declared.program.Shape.TheVariants as shape
 use Rattle.luo_model.specs.Tree.{Tree, Trees, Coll}
@@ -10,7 +11,7 @@ use Rattle.luo_model.specs.Charges as model
 use Rattle.luo_model.specs.Levels as level_of
 use Rattle.luo_model.specs.Levels.{WholeLevel, WorkLevel}
 use Rattle.luo_model.specs.Charges.{Work, of_body, of_call, of_case, of_walk, EachCharges, Charges, CaseCharges, WorkCharges}
-use Rattle.luo_model.specs.Scopes.Stands.{Stand, stands, component, IsCollection, part_at, bound_parts}
+use Rattle.luo_model.specs.Scopes.Stands.{Stand, stands, component, IsCollection, no_part, part_at, bound_parts}
 use Rattle.luo_model.specs.Scopes.ValueBodies.{join_items}
 use Rattle.luo_source.specs.declared.names.Name.{Name}
 use Rattle.luo_source.specs.declared.types.TypeExpr.{TypeExpr}
@@ -49,10 +50,10 @@ use Rattle.luo_meaning.proofs.Typing.{Holds, SameStands, IsTyped, AgreeTypes, st
 use Rattle.luo_meaning.proofs.TypedScopes.{typed_one, bound_typed, types_bound}
 
 -- a walk without breach goes over a collection
-pub record Walked (s : Setting) (o : Option (ℕ × ℕ)) (inner : List Breach) : Type 0 where
-  pub v : ℕ × ℕ
+pub record Walked (s : Setting) (o : Option (ℕ × Part)) (inner : List Breach) : Type 0 where
+  pub v : ℕ × Part
   pub is : o ≡ Some v
-  pub collection : IsCollection (shape_at s v.1)
+  pub collection : IsCollection (shape_at s v.1.node)
   pub none : inner ≡ []
 
 walk_in : (form : Shape) (source : Name) (inner : List Breach) → walk_into form source inner ≡ [] → IsCollection form × (inner ≡ [])
@@ -61,9 +62,9 @@ walk_in (shape.Union parts) source inner e = absurd (cc)
 walk_in (shape.Product parts) source inner e = absurd (cc)
 walk_in (shape.Coll kind part low high) source inner e = (tt, e)
 
-pub walk_there : (s : Setting) (o : Option (ℕ × ℕ)) (source : Name) (inner : List Breach) → walk_breaches s o source inner ≡ [] → Walked s o inner
+pub walk_there : (s : Setting) (o : Option (ℕ × Part)) (source : Name) (inner : List Breach) → walk_breaches s o source inner ≡ [] → Walked s o inner
 walk_there s None source inner e = absurd (cc)
-walk_there s (Some v) source inner e = let w = walk_in (shape_at s v.1) source inner e in record { v = v; is = refl; collection = w.0; none = w.1 }
+walk_there s (Some v) source inner e = let w = walk_in (shape_at s v.1.node) source inner e in record { v = v; is = refl; collection = w.0; none = w.1 }
 
 -- what is said of a site by its number, the node or the type of its variable, its charges and its level
 abbrev pub InNode : Type 1
@@ -90,7 +91,7 @@ module _ (source : Source) (c : Clean source) (none : measures_breaches (names_o
   pub at_zero : (n : ℕ) → (n ≡ 0) ↔ (n ≡ 0)
   at_zero n = (λ h. h, λ h. h)
 
-  pub in_join : (vars : List ℕ) (a b : Items) → InItems (core source) At vars (join_items a b) ↔ (InItems (core source) At vars a ⊎ InItems (core source) At vars b)
+  pub in_join : (vars : List Part) (a b : Items) → InItems (core source) At vars (join_items a b) ↔ (InItems (core source) At vars a ⊎ InItems (core source) At vars b)
   in_join vars no_items b = (λ h. inr h, λ h. elim h [ inl h ↦ absurd h | inr h ↦ h ])
   in_join vars (item i is) b =
       let rest = in_join vars is b in (
@@ -98,18 +99,18 @@ module _ (source : Source) (c : Clean source) (none : measures_breaches (names_o
         λ h. elim h [ inl h ↦ elim h [ inl h ↦ inl h | inr h ↦ inr (rest.1 (inl h)) ] | inr h ↦ inr (rest.1 (inr h)) ],
       )
 
-  -- the node of a variable
-  pub place_node : (scope : List Variable) (types : Types) (vars : List ℕ) (name : Name) (v : ℕ × ℕ) → found scope name ≡ Some v → IsTyped source types vars name.text v.0 v.1 → node_at vars (place_of (found scope name)) ≡ v.1
-  place_node scope types vars name v e t = ap (λ o. node_at vars (place_of o)) e ∙ index_get vars v.0 v.1 0 t.there
+  -- the part of a variable
+  pub place_part : (scope : List Variable) (types : Types) (vars : List Part) (name : Name) (v : ℕ × Part) → found scope name ≡ Some v → IsTyped source types vars name.text v.0 v.1 → part_at vars (place_of (found scope name)) ≡ v.1
+  place_part scope types vars name v e t = ap (λ o. part_at vars (place_of o)) e ∙ index_get vars v.0 v.1 no_part t.there
 
-  pub call_some : (scope : List Variable) (types : Types) (vars : List ℕ) → AgreeTypes source scope types vars → (first : ℕ) (callee arg : Name) → procedure_use (meant (setting_of source) callee) callee ≡ [] → (on : Option ℕ) → argument_breaches (found scope arg) on arg callee ≡ []
+  pub call_some : (scope : List Variable) (types : Types) (vars : List Part) → AgreeTypes source scope types vars → (first : ℕ) (callee arg : Name) → procedure_use (meant (setting_of source) callee) callee ≡ [] → (on : Option ℕ) → argument_breaches (found scope arg) on arg callee ≡ []
       → InItems (core source) At vars (item (plain.Call (place_of (found scope arg)) (procedure_of (meant (setting_of source) callee)) first) no_items) ↔ ((e : TypeExpr) × (type_of types arg.text ≡ Some e) × P first e (ProcCharges source callee.text) (CallLevel (ProcLevel source) callee.text))
   call_some scope types vars agree first callee arg called on argument =
       let s = setting_of source in
       let f = procedure_meant (meant s callee) callee called in
       let v = argument_found (found scope arg) on arg callee argument in
       let t = agree arg v.0 v.1 in
-      let node = place_node scope types vars arg v.0 v.1 t in
+      let part = place_part scope types vars arg v.0 v.1 t in
       let g = procedure_of (meant s callee) in
       let number : g ≡ f.0 = ap procedure_of f.1 in
       let C : Tree → ℕ → Type 0 = λ u q. Charges (core source) g u q in
@@ -117,13 +118,13 @@ module _ (source : Source) (c : Clean source) (none : measures_breaches (names_o
       let same : (u : Tree) (q : ℕ) → C u q ↔ D u q = λ u q. let k = charges_kept source c none callee.text f.0 f.1 u q in (λ h. k.0 (subst (λ n. Charges (core source) n u q) number h), λ h. subst (λ n. Charges (core source) n u q) (sym number) (k.1 h)) in
       let L : ℕ → Type 0 = λ n. (m : ℕ) × WholeLevel (core source) g m × (n ≡ suc m) in
       let M : ℕ → Type 0 = CallLevel (ProcLevel source) callee.text in
-      let r = related first v.0.1 t.e C D L M t.holds same (λ n. call_kept (WholeLevel (core source)) (ProcLevel source) s levels callee called n) in (
-        λ h. elim h [ inl h ↦ (t.e, t.type, r.0 (subst (λ n. Q first n C L) node h)) | inr h ↦ absurd h ],
-        λ h. let one : h.0 ≡ t.e = some_same h.0 t.e (sym h.1 ∙ t.type) in inl (subst (λ n. Q first n C L) (sym node) (r.1 (subst (λ z. P first z D M) one h.2))),
+      let r = related first v.0.1.node t.e C D L M t.holds same (λ n. call_kept (WholeLevel (core source)) (ProcLevel source) s levels callee called n) in (
+        λ h. elim h [ inl h ↦ (t.e, t.type, r.0 (subst (λ (n : Part). Q first n.node C L) part h)) | inr h ↦ absurd h ],
+        λ h. let one : h.0 ≡ t.e = some_same h.0 t.e (sym h.1 ∙ t.type) in inl (subst (λ (n : Part). Q first n.node C L) (sym part) (r.1 (subst (λ z. P first z D M) one h.2))),
       )
 
   mutual
-    pub stmt_some : (stmt : Stmt) (scope : List Variable) (types : Types) (vars : List ℕ) → AgreeTypes source scope types vars → (first : ℕ) → ProperStmt stmt → stmt_breaches (setting_of source) scope stmt ≡ []
+    pub stmt_some : (stmt : Stmt) (scope : List Variable) (types : Types) (vars : List Part) → AgreeTypes source scope types vars → (first : ℕ) → ProperStmt stmt → stmt_breaches (setting_of source) scope stmt ≡ []
         → InItems (core source) At vars (stmt_items (setting_of source) scope first stmt) ↔ SomeSite source P types first stmt
     stmt_some Skip scope types vars agree first p e = (λ h. h, λ h. h)
     stmt_some (Charge measure) scope types vars agree first p e = (λ h. h, λ h. h)
@@ -138,24 +139,24 @@ module _ (source : Source) (c : Clean source) (none : measures_breaches (names_o
         let k = case_fits s o var (count_arms arms) (arms_breaches s (case_stands s o) var arms) e in
         let v = k.variable in
         let t = agree var v k.is in
-        let node = place_node scope types vars var v k.is t in
-        let x = node_at vars (place_of o) in
+        let part = place_part scope types vars var v k.is t in
+        let x = part_at vars (place_of o) in
         let cs = case_stands s o in
-        let stood : cs ≡ stands v.1 (shape_at_node source v.1) = ap (case_stands s) k.is in
-        let stood_x : stands x (shape_at_node source x) ≡ cs = ap (λ n. stands n (shape_at_node source n)) node ∙ sym stood in
+        let stood : cs ≡ stands v.1 (shape_at_node source v.1.node) = ap (case_stands s) k.is in
+        let stood_x : stands x (shape_at_node source x.node) ≡ cs = ap (λ (n : Part). stands n (shape_at_node source n.node)) part ∙ sym stood in
         let long : length cs ≡ count_arms arms = ap length stood ∙ sym k.many in
         let core_arms : Arms = arms_core s cs first arms in
         let C : Tree → ℕ → Type 0 = λ u q. CaseCharges (Charges (core source)) core_arms u q in
         let D : Tree → ℕ → Type 0 = λ u q. ArmsCharge source (ProcCharges source) arms u q in
         let Z : ℕ → Type 0 = λ n. n ≡ 0 in
         let site = first + arms_sites arms in
-        let r = related site v.1 t.e C D Z Z t.holds (λ u q. arms_kept source (Charges (core source)) (ProcCharges source) s (keeps_all source c none) arms cs var first long k.none u q) at_zero in
+        let r = related site v.1.node t.e C D Z Z t.holds (λ u q. arms_kept source (Charges (core source)) (ProcCharges source) s (keeps_all source c none) arms cs var first long k.none u q) at_zero in
         let inner : (es : List TypeExpr) → AreStands source t.e es → InArms (core source) At cs core_arms ↔ SomeArm source P es first arms =
         λ es are. arms_some arms cs es var (subst (λ z. SameStands source z es) (sym stood) (stands_down source c v.1 t.e es t.holds are)) first p.1 long k.none in
         let up = stands_up source c v.1 t.e t.holds (omega (arith, k.many, p.0)) in (
           λ h. elim h [
             | inl h ↦ elim h [
-              | inl h ↦ (t.e, up.es, t.type, up.are, inl (r.0 (subst (λ n. Q site n C Z) node h)))
+              | inl h ↦ (t.e, up.es, t.type, up.are, inl (r.0 (subst (λ (n : Part). Q site n.node C Z) part h)))
               | inr h ↦ (t.e, up.es, t.type, up.are, inr ((inner up.es up.are).0 (subst (λ z. InArms (core source) At z core_arms) stood_x h)))
             ]
             | inr h ↦ absurd h
@@ -164,21 +165,21 @@ module _ (source : Source) (c : Clean source) (none : measures_breaches (names_o
               let one : h.0 ≡ t.e = some_same h.0 t.e (sym h.2 ∙ t.type) in
               let are = subst (λ z. AreStands source z h.1) one h.3 in
               elim h.4 [
-                | inl g ↦ inl (inl (subst (λ n. Q site n C Z) (sym node) (r.1 (subst (λ z. P site z D Z) one g))))
+                | inl g ↦ inl (inl (subst (λ (n : Part). Q site n.node C Z) (sym part) (r.1 (subst (λ z. P site z D Z) one g))))
                 | inr g ↦ inl (inr (subst (λ z. InArms (core source) At z core_arms) (sym stood_x) ((inner h.1 are).1 g)))
               ],
         )
     stmt_some (Forall' var over size body) scope types vars agree first p e =
         let s = setting_of source in
         let o = found scope over in
-        let inside : List Variable = record { name = var.text; node = walked s o } ∷ [] in
+        let inside : List Variable = record { name = var.text; part = walked s o } ∷ [] in
         let w = walk_there s o over (stmts_breaches s inside body) e in
         let v = w.v in
         let t = agree over v w.is in
-        let node = place_node scope types vars over v w.is t in
-        let x = node_at vars (place_of o) in
-        let y = component (shape_at_node source x) in
-        let y_is : y ≡ component (shape_at_node source v.1) = ap (λ n. component (shape_at_node source n)) node in
+        let part = place_part scope types vars over v w.is t in
+        let x = part_at vars (place_of o) in
+        let y = component (shape_at_node source x.node) in
+        let y_is : y ≡ component (shape_at_node source v.1.node) = ap (λ (n : Part). component (shape_at_node source n.node)) part in
         let y_walked : y ≡ walked s o = y_is ∙ sym (ap (walked s) w.is) in
         let core_body : plain.Body = Does (stmts_own s body) (stmts_items s inside first body) in
         let kept : (u : Tree) (q : ℕ) → model.BodyCharges (Charges (core source)) core_body (u ∷ []) q ↔ StmtsCharge source (ProcCharges source) ((var.text, u) ∷ []) body q =
@@ -196,15 +197,15 @@ module _ (source : Source) (c : Clean source) (none : measures_breaches (names_o
         let deep : (n : ℕ) → L n ↔ M n =
         λ n. let free = own_free (WholeLevel (core source)) (stmts_own s body) (stmts_items s inside first body) n in
         let b = stmts_level (WholeLevel (core source)) (ProcLevel source) s levels body inside first w.none n in (λ h. b.0 (free.0 h), λ h. free.1 (b.1 h)) in
-        let r = related site v.1 t.e C D Z Z t.holds walks at_zero in
-        let holds : (f : TypeExpr) → IsCollectionOf source t.e f → Holds source y f = λ f is. subst (λ n. Holds source n f) (sym y_is) (component_down source c v.1 t.e f t.holds is) in
-        let whole : (f : TypeExpr) → IsCollectionOf source t.e f → Q body_site y B L ↔ P body_site f E M = λ f is. related body_site y f B E L M (holds f is) kept deep in
+        let r = related site v.1.node t.e C D Z Z t.holds walks at_zero in
+        let holds : (f : TypeExpr) → IsCollectionOf source t.e f → Holds source y.node f = λ f is. subst (λ (n : Part). Holds source n.node f) (sym y_is) (component_down source c v.1.node t.e f t.holds is) in
+        let whole : (f : TypeExpr) → IsCollectionOf source t.e f → Q body_site y.node B L ↔ P body_site f E M = λ f is. related body_site y.node f B E L M (holds f is) kept deep in
         let inner : (f : TypeExpr) → IsCollectionOf source t.e f → InItems (core source) At (y ∷ []) (stmts_items s inside first body) ↔ SomeSites source P ((var.text, f) ∷ []) first body =
         λ f is. stmts_some body inside ((var.text, f) ∷ []) (y ∷ []) (typed_one source c var.text y (walked s o) f y_walked (holds f is)) first p w.none in
-        let up = component_up source c v.1 t.e t.holds w.collection in (
+        let up = component_up source c v.1.node t.e t.holds w.collection in (
           λ h. elim h [
             | inl h ↦ elim h [
-              | inl h ↦ (t.e, up.0, t.type, up.1, inl (r.0 (subst (λ n. Q site n C Z) node h)))
+              | inl h ↦ (t.e, up.0, t.type, up.1, inl (r.0 (subst (λ (n : Part). Q site n.node C Z) part h)))
               | inr h ↦ elim h [
                 | inl h ↦ (t.e, up.0, t.type, up.1, inr (inl ((whole up.0 up.1).0 h)))
                 | inr h ↦ (t.e, up.0, t.type, up.1, inr (inr ((inner up.0 up.1).0 h)))
@@ -216,7 +217,7 @@ module _ (source : Source) (c : Clean source) (none : measures_breaches (names_o
               let one : h.0 ≡ t.e = some_same h.0 t.e (sym h.2 ∙ t.type) in
               let is = subst (λ z. IsCollectionOf source z h.1) one h.3 in
               elim h.4 [
-                | inl g ↦ inl (inl (subst (λ n. Q site n C Z) (sym node) (r.1 (subst (λ z. P site z D Z) one g))))
+                | inl g ↦ inl (inl (subst (λ (n : Part). Q site n.node C Z) (sym part) (r.1 (subst (λ z. P site z D Z) one g))))
                 | inr g ↦ elim g [
                   | inl g ↦ inl (inr (inl ((whole h.1 is).1 g)))
                   | inr g ↦ inl (inr (inr ((inner h.1 is).1 g)))
@@ -224,7 +225,7 @@ module _ (source : Source) (c : Clean source) (none : measures_breaches (names_o
               ],
         )
 
-    stmts_some : {n : _} (row : Row_of-Stmt n) (scope : List Variable) (types : Types) (vars : List ℕ) → AgreeTypes source scope types vars → (first : ℕ) → ProperStmts row → stmts_breaches (setting_of source) scope row ≡ []
+    stmts_some : {n : _} (row : Row_of-Stmt n) (scope : List Variable) (types : Types) (vars : List Part) → AgreeTypes source scope types vars → (first : ℕ) → ProperStmts row → stmts_breaches (setting_of source) scope row ≡ []
         → InItems (core source) At vars (stmts_items (setting_of source) scope first row) ↔ SomeSites source P types first row
     stmts_some end_of-Stmt scope types vars agree first p e = (λ h. h, λ h. h)
     stmts_some (more_of-Stmt stmt rest) scope types vars agree first p e =
@@ -247,8 +248,8 @@ module _ (source : Source) (c : Clean source) (none : measures_breaches (names_o
         let s = setting_of source in
         let inner = stmt_breaches s (patterns.bound s t pattern) body in
         let a = arm_fits s t var pattern inner (nil_left (arm_breaches s t var pattern inner) (arms_breaches s ss var rest) e) in
-        let body_some : (types : Types) → BindsTypes source pattern f types → InItems (core source) At (bound_nodes (core source) t (bind_of pattern)) (stmt_items s (patterns.bound s t pattern) first body) ↔ SomeSite source P types first body =
-        λ types b. stmt_some body (patterns.bound s t pattern) types (bound_nodes (core source) t (bind_of pattern)) (bound_typed source c t pattern f types stand.0 b) first p.0 a.1 in
+        let body_some : (types : Types) → BindsTypes source pattern f types → InItems (core source) At (bound_parts (core source) t (bind_of pattern)) (stmt_items s (patterns.bound s t pattern) first body) ↔ SomeSite source P types first body =
+        λ types b. stmt_some body (patterns.bound s t pattern) types (bound_parts (core source) t (bind_of pattern)) (bound_typed source c t pattern f types stand.0 b) first p.0 a.1 in
         let up = types_bound source c t pattern f stand.0 a.0 in
         let more = arms_some rest ss es var stand.1 (first + stmt_sites body) p.1 (omega (arith, l)) (nil_right (arm_breaches s t var pattern inner) (arms_breaches s ss var rest) e) in (
           λ h. elim h [ inl h ↦ inl (up.0, up.1, (body_some up.0 up.1).0 h) | inr h ↦ inr (more.0 h) ],
@@ -256,7 +257,7 @@ module _ (source : Source) (c : Clean source) (none : measures_breaches (names_o
         )
 
   -- statements one behind the other
-  pub list_some : (stmts : List Stmt) (scope : List Variable) (types : Types) (vars : List ℕ) → AgreeTypes source scope types vars → (first : ℕ) → AllStmts stmts → flat_map (stmt_breaches (setting_of source) scope) stmts ≡ []
+  pub list_some : (stmts : List Stmt) (scope : List Variable) (types : Types) (vars : List Part) → AgreeTypes source scope types vars → (first : ℕ) → AllStmts stmts → flat_map (stmt_breaches (setting_of source) scope) stmts ≡ []
       → InItems (core source) At vars (items_of (setting_of source) scope first stmts) ↔ SomeListSite source P types first stmts
   list_some [] scope types vars agree first p e = (λ h. h, λ h. h)
   list_some (stmt ∷ stmts) scope types vars agree first p e =

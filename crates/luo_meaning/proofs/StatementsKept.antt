@@ -3,6 +3,7 @@ use Rattle.std.proofs.Common.{◌≡◌, ℕ, zero, suc, ◌+◌, ◌↔◌, Lis
 use Rattle.std.specs.Prelude.{flat_map}
 use Rattle.std.proofs.lemmas.List.Sums.{sum_by-cons}
 use Rattle.luo_model.specs.declared.body.Bind.{Bind}
+use Rattle.luo_model.specs.declared.program.Part.{Part}
 use Rattle.luo_model.specs.declared.program.Shape.{Shape}
 use Rattle.luo_model.specs.declared.program.Shape.TheVariants as shape
 use Rattle.luo_model.specs.Tree.{Tree, Atom, Inj, Tup, Coll}
@@ -40,7 +41,7 @@ pub record Keeps (source : Source) (s : Setting) (R : ℕ → Tree → ℕ → T
   pub measures : (text : List ℕ) (k v : ℕ) → meaning s.names text ≡ Some (mean.Measure k v) → (q : ℕ) → (q ≡ v) ↔ DefinesMeasure source text q
   pub calls : (text : List ℕ) (f : ℕ) → meaning s.names text ≡ Some (mean.Procedure f) → (t : Tree) (q : ℕ) → R f t q ↔ S text t q
 
-pub argument_found : (o : Option (ℕ × ℕ)) (on : Option ℕ) (arg callee : Name) → argument_breaches o on arg callee ≡ [] → (v : ℕ × ℕ) × (o ≡ Some v)
+pub argument_found : (o : Option (ℕ × Part)) (on : Option ℕ) (arg callee : Name) → argument_breaches o on arg callee ≡ [] → (v : ℕ × Part) × (o ≡ Some v)
 argument_found None on arg callee e = absurd (cc)
 argument_found (Some v) on arg callee e = (v, refl)
 
@@ -50,12 +51,12 @@ walk_in (shape.Union parts) source inner e = absurd (cc)
 walk_in (shape.Product parts) source inner e = absurd (cc)
 walk_in (shape.Coll kind part low high) source inner e = e
 
-walk_found : (s : Setting) (o : Option (ℕ × ℕ)) (source : Name) (inner : List Breach) → walk_breaches s o source inner ≡ [] → (v : ℕ × ℕ) × (o ≡ Some v) × (inner ≡ [])
+walk_found : (s : Setting) (o : Option (ℕ × Part)) (source : Name) (inner : List Breach) → walk_breaches s o source inner ≡ [] → (v : ℕ × Part) × (o ≡ Some v) × (inner ≡ [])
 walk_found s None source inner e = absurd (cc)
-walk_found s (Some v) source inner e = (v, refl, walk_in (shape_at s v.1) source inner e)
+walk_found s (Some v) source inner e = (v, refl, walk_in (shape_at s v.1.node) source inner e)
 
 -- a variable by its place and by its name
-pub looked : (scope : List Variable) (env : Environment) (vars : List Tree) → Agree scope env vars → (name : Name) (v : ℕ × ℕ) → found scope name ≡ Some v → slice_get vars (place_of (found scope name)) ≡ structure_of env name.text
+pub looked : (scope : List Variable) (env : Environment) (vars : List Tree) → Agree scope env vars → (name : Name) (v : ℕ × Part) → found scope name ≡ Some v → slice_get vars (place_of (found scope name)) ≡ structure_of env name.text
 looked scope env vars agree name v e = ap (λ o. slice_get vars (place_of o)) e ∙ agree name v e
 
 -- both have arms, or none has
@@ -137,7 +138,7 @@ module _ (source : Source) (R : ℕ → Tree → ℕ → Type 0) (S : List ℕ �
           )
       stmt_kept (Forall' var over size body) scope env vars agree first e q =
           let o = found scope over in
-          let inside : List Variable = record { name = var.text; node = walked s o } ∷ [] in
+          let inside : List Variable = record { name = var.text; part = walked s o } ∷ [] in
           let w = walk_found s o over (stmts_breaches s inside body) e in
           let look = looked scope env vars agree over w.0 w.1 in
           let kept : (t : Tree) (r : ℕ) → model.BodyCharges R (Does (stmts_own s body) (stmts_items s inside first body)) (t ∷ []) r ↔ StmtsCharge source S ((var.text, t) ∷ []) body r =

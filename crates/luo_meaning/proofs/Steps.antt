@@ -2,6 +2,7 @@
 use Rattle.std.proofs.Common.{◌≡◌, ℕ, zero, suc, ◌+◌, ◌↔◌, List, [], ◌∷◌, Option, Some, None, slice_get, refl, ap, ◌∙◌, subst, arith}
 use Rattle.std.specs.Prelude.{Bool, true, false, if◌then◌else◌}
 use Rattle.std.specs.Str.{bytes_eq}
+use Rattle.luo_model.specs.declared.program.Part.{Part}
 use Rattle.luo_model.specs.Tree.{Tree, Trees, Atom, Inj, Tup, Coll, none, more}
 use Rattle.luo_model.specs.Program.{Does, Items, no_items, item, Item, no_arms}
 use Rattle.luo_model.specs.Charges.{parts_of, EachCharges, BodyCharges, ItemsCharge, ItemCharges, CaseCharges}
@@ -73,44 +74,44 @@ each_map P Q f (more t ts) q h = (h.0, h.1, f t h.0 h.2, each_map P Q f ts h.1 h
 
 -- what is found in a scope stands among the structures where its name has it
 abbrev pub Agree : List Variable → Environment → List Tree → Type 0
-Agree scope env vars = (name : Name) (v : ℕ × ℕ) → found scope name ≡ Some v → slice_get vars v.0 ≡ structure_of env name.text
+Agree scope env vars = (name : Name) (v : ℕ × Part) → found scope name ≡ Some v → slice_get vars v.0 ≡ structure_of env name.text
 
 -- the same for a list of names from a place on
 -- one step of finding: the variable itself, or one behind it
-found_step : (k : ℕ) (x : ℕ) (more : Option (ℕ × ℕ)) (t : Tree) (ts : List Tree) (other : Option Tree) (v : ℕ × ℕ) (b : Bool)
+found_step : (k : ℕ) (x : Part) (more : Option (ℕ × Part)) (t : Tree) (ts : List Tree) (other : Option Tree) (v : ℕ × Part) (b : Bool)
     → (more ≡ Some v → (j : ℕ) × (v.0 ≡ suc k + j) × (slice_get ts j ≡ other))
     → (if b then Some (k, x) else more) ≡ Some v → (j : ℕ) × (v.0 ≡ k + j) × (slice_get (t ∷ ts) j ≡ (if b then Some t else other))
-found_step k x rest t ts other v true on e = let same : k ≡ v.0 = ap (λ (z : ℕ × ℕ). z.0) (some_same (k, x) v e) in let f : v.0 ≡ k + 0 = omega (arith, same) in (0, f, refl)
+found_step k x rest t ts other v true on e = let same : k ≡ v.0 = ap (λ (z : ℕ × Part). z.0) (some_same (k, x) v e) in let f : v.0 ≡ k + 0 = omega (arith, same) in (0, f, refl)
 found_step k x rest t ts other v false on e = let g = on e in let f : v.0 ≡ k + suc g.0 = omega (arith, g.1) in (suc g.0, f, g.2)
 
 -- where there are no structures none is found by name
-none_step : (k : ℕ) (x : ℕ) (rest : Option (ℕ × ℕ)) (v : ℕ × ℕ) (b : Bool) → (rest ≡ Some v → (j : ℕ) × (v.0 ≡ suc k + j)) → (if b then Some (k, x) else rest) ≡ Some v → (j : ℕ) × (v.0 ≡ k + j)
-none_step k x rest v true on e = let same : k ≡ v.0 = ap (λ (z : ℕ × ℕ). z.0) (some_same (k, x) v e) in let f : v.0 ≡ k + 0 = omega (arith, same) in (0, f)
+none_step : (k : ℕ) (x : Part) (rest : Option (ℕ × Part)) (v : ℕ × Part) (b : Bool) → (rest ≡ Some v → (j : ℕ) × (v.0 ≡ suc k + j)) → (if b then Some (k, x) else rest) ≡ Some v → (j : ℕ) × (v.0 ≡ k + j)
+none_step k x rest v true on e = let same : k ≡ v.0 = ap (λ (z : ℕ × Part). z.0) (some_same (k, x) v e) in let f : v.0 ≡ k + 0 = omega (arith, same) in (0, f)
 none_step k x rest v false on e = let g = on e in let f : v.0 ≡ k + suc g.0 = omega (arith, g.1) in (suc g.0, f)
 
-found_later : (k : ℕ) (names : List Name) (nodes : List ℕ) (text : List ℕ) (v : ℕ × ℕ) → found_from k (variables names nodes) text ≡ Some v → (j : ℕ) × (v.0 ≡ k + j)
+found_later : (k : ℕ) (names : List Name) (parts : List Part) (text : List ℕ) (v : ℕ × Part) → found_from k (variables names parts) text ≡ Some v → (j : ℕ) × (v.0 ≡ k + j)
 found_later k [] [] text v e = absurd (none_some v e)
-found_later k [] (x ∷ nodes) text v e = absurd (none_some v e)
+found_later k [] (x ∷ parts) text v e = absurd (none_some v e)
 found_later k (n ∷ names) [] text v e = absurd (none_some v e)
-found_later k (n ∷ names) (x ∷ nodes) text v e = none_step k x (found_from (suc k) (variables names nodes) text) v (bytes_eq n.text text) (λ g. found_later (suc k) names nodes text v g) e
+found_later k (n ∷ names) (x ∷ parts) text v e = none_step k x (found_from (suc k) (variables names parts) text) v (bytes_eq n.text text) (λ g. found_later (suc k) names parts text v g) e
 
-agree_from : (k : ℕ) (names : List Name) (nodes : List ℕ) (ts : List Tree) (text : List ℕ) (v : ℕ × ℕ) → found_from k (variables names nodes) text ≡ Some v → (j : ℕ) × (v.0 ≡ k + j) × (slice_get ts j ≡ structure_of (paired names ts) text)
+agree_from : (k : ℕ) (names : List Name) (parts : List Part) (ts : List Tree) (text : List ℕ) (v : ℕ × Part) → found_from k (variables names parts) text ≡ Some v → (j : ℕ) × (v.0 ≡ k + j) × (slice_get ts j ≡ structure_of (paired names ts) text)
 agree_from k [] [] ts text v e = absurd (none_some v e)
-agree_from k [] (x ∷ nodes) ts text v e = absurd (none_some v e)
+agree_from k [] (x ∷ parts) ts text v e = absurd (none_some v e)
 agree_from k (n ∷ names) [] ts text v e = absurd (none_some v e)
-agree_from k (n ∷ names) (x ∷ nodes) [] text v e = let g = found_later k (n ∷ names) (x ∷ nodes) text v e in (g.0, g.1, refl)
-agree_from k (n ∷ names) (x ∷ nodes) (t ∷ ts) text v e =
-    found_step k x (found_from (suc k) (variables names nodes) text) t ts (structure_of (paired names ts) text) v (bytes_eq n.text text) (λ g. agree_from (suc k) names nodes ts text v g) e
+agree_from k (n ∷ names) (x ∷ parts) [] text v e = let g = found_later k (n ∷ names) (x ∷ parts) text v e in (g.0, g.1, refl)
+agree_from k (n ∷ names) (x ∷ parts) (t ∷ ts) text v e =
+    found_step k x (found_from (suc k) (variables names parts) text) t ts (structure_of (paired names ts) text) v (bytes_eq n.text text) (λ g. agree_from (suc k) names parts ts text v g) e
 
-pub agree_parts : (names : List Name) (nodes : List ℕ) (ts : List Tree) → Agree (variables names nodes) (paired names ts) ts
-agree_parts names nodes ts name v e = let g = agree_from 0 names nodes ts name.text v e in ap (slice_get ts) (g.1 ∙ omega arith) ∙ g.2
+pub agree_parts : (names : List Name) (parts : List Part) (ts : List Tree) → Agree (variables names parts) (paired names ts) ts
+agree_parts names parts ts name v e = let g = agree_from 0 names parts ts name.text v e in ap (slice_get ts) (g.1 ∙ omega arith) ∙ g.2
 
 pub agree_none : Agree [] [] []
 agree_none name v e = absurd (none_some v e)
 
-pub agree_one : (text : List ℕ) (node : ℕ) (t : Tree) → Agree (record { name = text; node = node } ∷ []) ((text, t) ∷ []) (t ∷ [])
-agree_one text node t name v e =
-    let g = found_step 0 node None t [] None v (bytes_eq text name.text) (λ n. absurd (none_some v n)) e in
+pub agree_one : (text : List ℕ) (part : Part) (t : Tree) → Agree (record { name = text; part = part } ∷ []) ((text, t) ∷ []) (t ∷ [])
+agree_one text part t name v e =
+    let g = found_step 0 part None t [] None v (bytes_eq text name.text) (λ n. absurd (none_some v n)) e in
     ap (slice_get (t ∷ [])) (g.1 ∙ omega arith) ∙ g.2
 
 -- a pattern binds the same by name and by place

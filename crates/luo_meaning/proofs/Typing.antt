@@ -32,18 +32,18 @@ pub record Holds (source : Source) (x : ℕ) (e : TypeExpr) : Type 0 where
 -- what stands for a stand of a case, one after another
 abbrev pub SameStands : Source → List Stand → List TypeExpr → Type 0
 SameStands source [] [] = Unit {0}
-SameStands source (stand ∷ ss) (e ∷ es) = Holds source (stand_node stand) e × SameStands source ss es
+SameStands source (stand ∷ ss) (e ∷ es) = Holds source (stand_part stand).node e × SameStands source ss es
 SameStands source _ _ = ⊥
 
--- a variable that is found: its node, and its type as written
-pub record IsTyped (source : Source) (types : Types) (vars : List ℕ) (text : List ℕ) (place node : ℕ) : Type 0 where
-  pub there : slice_get vars place ≡ Some node
+-- a variable that is found: its part, and its type as written
+pub record IsTyped (source : Source) (types : Types) (vars : List Part) (text : List ℕ) (place : ℕ) (part : Part) : Type 0 where
+  pub there : slice_get vars place ≡ Some part
   pub e : TypeExpr
   pub type : type_of types text ≡ Some e
-  pub holds : Holds source node e
+  pub holds : Holds source part.node e
 
-abbrev pub AgreeTypes : Source → List Variable → Types → List ℕ → Type 0
-AgreeTypes source scope types vars = (name : Name) (v : ℕ × ℕ) → found scope name ≡ Some v → IsTyped source types vars name.text v.0 v.1
+abbrev pub AgreeTypes : Source → List Variable → Types → List Part → Type 0
+AgreeTypes source scope types vars = (name : Name) (v : ℕ × Part) → found scope name ≡ Some v → IsTyped source types vars name.text v.0 v.1
 
 module _ (source : Source) (c : Clean source) where
   -- going on from a name keeps the node
@@ -71,34 +71,34 @@ module _ (source : Source) (c : Clean source) where
   product_shape size parts token x h = shape_of_construct (Product' size parts token) x tt h refl
 
   -- branches stand for themselves
-  branches_same : (owner : ℕ) (at : Spot) {n : _} (row : Row_of-TypeExpr n) → AllSit source owner at row → SameStands source (map (λ (part : Part). inside part.node) (parts_at (names_of source) (definitions source) at row)) (exprs_in row)
+  branches_same : (owner : ℕ) (at : Spot) {n : _} (row : Row_of-TypeExpr n) → AllSit source owner at row → SameStands source (map inside (parts_at (names_of source) (definitions source) at row)) (exprs_in row)
   branches_same owner at end_of-TypeExpr a = tt
   branches_same owner at (more_of-TypeExpr e rest) a = (record { owner = owner; spot = at; sits = head_sits source owner at e rest a; at = refl }, branches_same owner (behind at (own_nodes e)) rest (tail_sits source owner at e rest a))
 
   -- what the arms of a case stand for, from the source to the core form
-  pub stands_down : (x : ℕ) (e : TypeExpr) (es : List TypeExpr) → Holds source x e → AreStands source e es → SameStands source (stands x (shape_at_node source x)) es
+  pub stands_down : (x : Part) (e : TypeExpr) (es : List TypeExpr) → Holds source x.node e → AreStands source e es → SameStands source (stands x (shape_at_node source x.node)) es
   stands_down x e es h (inl (union_of {size} {parts} l)) =
-      let k = down l x h in
-      subst (λ z. SameStands source (stands x z) (exprs_in parts)) (sym (union_shape size parts x k)) (branches_same k.owner (behind k.spot 1) parts (union_sits source k.owner k.spot size parts k.sits))
+      let k = down l x.node h in
+      subst (λ z. SameStands source (stands x z) (exprs_in parts)) (sym (union_shape size parts x.node k)) (branches_same k.owner (behind k.spot 1) parts (union_sits source k.owner k.spot size parts k.sits))
   stands_down x e es h (inr p) = by_product p.0 p.1 p.2
     where
-      by_product : (fs : List TypeExpr) → IsProductOf source e fs → es ≡ e ∷ [] → SameStands source (stands x (shape_at_node source x)) es
+      by_product : (fs : List TypeExpr) → IsProductOf source e fs → es ≡ e ∷ [] → SameStands source (stands x (shape_at_node source x.node)) es
       by_product fs (product_of {size} {parts} {at} l) is =
-          let k = down l x h in
-          subst (λ z. SameStands source (stands x (shape_at_node source x)) z) (sym is) (subst (λ z. SameStands source (stands x z) (e ∷ [])) (sym (product_shape size parts at x k)) (h, tt))
+          let k = down l x.node h in
+          subst (λ z. SameStands source (stands x (shape_at_node source x.node)) z) (sym is) (subst (λ z. SameStands source (stands x z) (e ∷ [])) (sym (product_shape size parts at x.node k)) (h, tt))
 
   -- and back, where there is an arm
-  pub record Stood (x : ℕ) (e : TypeExpr) : Type 0 where
+  pub record Stood (x : Part) (e : TypeExpr) : Type 0 where
     pub es : List TypeExpr
     pub are : AreStands source e es
 
-  by_construct : (x : ℕ) (e k : TypeExpr) → LeadsTo source k e → Holds source x k → IsConstruct k → 1 ≤ length (stands x (shape_at_node source x)) → Stood x e
+  by_construct : (x : Part) (e k : TypeExpr) → LeadsTo source k e → Holds source x.node k → IsConstruct k → 1 ≤ length (stands x (shape_at_node source x.node)) → Stood x e
   by_construct x e (Named name) l h q many = absurd q
-  by_construct x e (Epsilon token) l h q many = let n : 1 ≤ 0 = subst (λ z. 1 ≤ length (stands x z)) (shape_of_construct (Epsilon token) x tt h refl) many in absurd (omega (arith, n))
-  by_construct x e (Atom weight weight_at token) l h q many = let n : 1 ≤ 0 = subst (λ z. 1 ≤ length (stands x z)) (shape_of_construct (Atom weight weight_at token) x tt h refl) many in absurd (omega (arith, n))
+  by_construct x e (Epsilon token) l h q many = let n : 1 ≤ 0 = subst (λ z. 1 ≤ length (stands x z)) (shape_of_construct (Epsilon token) x.node tt h refl) many in absurd (omega (arith, n))
+  by_construct x e (Atom weight weight_at token) l h q many = let n : 1 ≤ 0 = subst (λ z. 1 ≤ length (stands x z)) (shape_of_construct (Atom weight weight_at token) x.node tt h refl) many in absurd (omega (arith, n))
   by_construct x e (Union' size parts) l h q many = record { es = exprs_in parts; are = inl (union_of l) }
   by_construct x e (Product' size parts token) l h q many = record { es = e ∷ []; are = inr (exprs_in parts, product_of l, refl) }
-  by_construct x e (Coll' kind size part bound token) l h q many = let n : 1 ≤ 0 = subst (λ z. 1 ≤ length (stands x z)) (shape_of_construct (Coll' kind size part bound token) x tt h refl) many in absurd (omega (arith, n))
+  by_construct x e (Coll' kind size part bound token) l h q many = let n : 1 ≤ 0 = subst (λ z. 1 ≤ length (stands x z)) (shape_of_construct (Coll' kind size part bound token) x.node tt h refl) many in absurd (omega (arith, n))
 
   -- the construct that a node's expression leads to
   pub record Up (x : ℕ) (e : TypeExpr) : Type 0 where
@@ -112,18 +112,18 @@ module _ (source : Source) (c : Clean source) where
       let l = leads source c h.owner h.spot e h.sits in
       record { k = l.construct; is_construct = l.is_construct; to = l.to; holds = down l.to x h }
 
-  pub stands_up : (x : ℕ) (e : TypeExpr) → Holds source x e → 1 ≤ length (stands x (shape_at_node source x)) → Stood x e
-  stands_up x e h many = let u = up x e h in by_construct x e u.k u.to u.holds u.is_construct many
+  pub stands_up : (x : Part) (e : TypeExpr) → Holds source x.node e → 1 ≤ length (stands x (shape_at_node source x.node)) → Stood x e
+  stands_up x e h many = let u = up x.node e h in by_construct x e u.k u.to u.holds u.is_construct many
 
   -- the component of a collection
-  pub component_down : (x : ℕ) (e f : TypeExpr) → Holds source x e → IsCollectionOf source e f → Holds source (component (shape_at_node source x)) f
+  pub component_down : (x : ℕ) (e f : TypeExpr) → Holds source x e → IsCollectionOf source e f → Holds source (component (shape_at_node source x)).node f
   component_down x e f h (collection_of {kind} {size} {part} {bound} {at} g one l) =
       let k = down l x h in
       let b = coll_sits source k.owner k.spot kind size part bound at k.sits in
       let same : b.e ≡ g = first_same b.e g (sym b.one ∙ one) in
       let form = shape_of_construct (Coll' kind size part bound at) x tt k refl in
-      let node : (part_at (names_of source) (definitions source) (behind k.spot 1) b.e).node ≡ component (shape_at_node source x) = ap (λ (q : Part). q.node) (sym b.part) ∙ sym (ap component form) in
-      subst (Holds source (component (shape_at_node source x))) same (record { owner = k.owner; spot = behind k.spot 1; sits = b.sits; at = node })
+      let node : (part_at (names_of source) (definitions source) (behind k.spot 1) b.e).node ≡ (component (shape_at_node source x)).node = ap (λ (q : Part). q.node) (sym b.part ∙ sym (ap component form)) in
+      subst (Holds source (component (shape_at_node source x)).node) same (record { owner = k.owner; spot = behind k.spot 1; sits = b.sits; at = node })
 
   by_collection : (x : ℕ) (e k : TypeExpr) → LeadsTo source k e → Holds source x k → IsConstruct k → IsCollection (shape_at_node source x) → (f : TypeExpr) × IsCollectionOf source e f
   by_collection x e (Named name) l h q is = absurd q

@@ -1,7 +1,7 @@
 -- A value of the core form has as many sites as the value as written.
 use Rattle.std.proofs.Common.{◌≡◌, ℕ, ◌+◌, List, [], ◌∷◌, length, Option, Some, None, refl, sym, ap, ◌∙◌, arith}
-use Rattle.luo_model.specs.Scopes as scopes
-use Rattle.luo_model.specs.Scopes.Stands.{Stand, stands}
+use Rattle.luo_model.specs.Scopes.ValueBodies as scopes
+use Rattle.luo_model.specs.Scopes.Stands.{Stand}
 use Rattle.luo_source.specs.declared.names.Name.{Name}
 use Rattle.luo_source.specs.declared.values.SourceValue.{SourceValue, Given, Made, Atom, Tuple', Branch', Case', Row_of-SourceValue, end_of-SourceValue, more_of-SourceValue, Row_of-SourceValueArm, end_of-SourceValueArm, more_of-SourceValueArm}
 use Rattle.luo_rules.specs.declared.setting.Setting.{Setting}

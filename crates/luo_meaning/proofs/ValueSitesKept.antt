@@ -1,9 +1,10 @@
 -- Some site of a value's body is some site of the value as written.
 use Rattle.std.proofs.Common.{◌≡◌, ◌↔◌, ℕ, ◌+◌, List, [], ◌∷◌, length, Option, Some, None, sym, ap, ◌∙◌, subst, inl, inr, arith}
+use Rattle.luo_model.specs.declared.program.Part.{Part}
 use Rattle.luo_model.specs.Tree.{Tree}
 use Rattle.luo_model.specs.Program.{Arms}
 use Rattle.luo_model.specs.Charges.{Charges, CaseCharges}
-use Rattle.luo_model.specs.Scopes as scopes
+use Rattle.luo_model.specs.Scopes.ValueBodies as scopes
 use Rattle.luo_model.specs.Scopes.Stands.{Stand, stands, part_at, bound_parts}
 use Rattle.luo_model.specs.Scopes.ValueBodies.{value_items, values_items, value_arm_bodies}
 use Rattle.luo_source.specs.declared.names.Name.{Name}
@@ -33,14 +34,14 @@ use Rattle.luo_meaning.proofs.ValuesKept.{value_arms_kept}
 use Rattle.luo_meaning.proofs.ProceduresKept.{keeps_all}
 use Rattle.luo_meaning.proofs.SiteWorks.{InItems, InArms}
 use Rattle.luo_meaning.proofs.Sits.{shape_at_node}
-use Rattle.luo_meaning.proofs.SitesKept.{InNode, InType, Related, At, at_zero, in_join, place_node, call_some}
+use Rattle.luo_meaning.proofs.SitesKept.{InNode, InType, Related, At, at_zero, in_join, place_part, call_some}
 use Rattle.luo_meaning.proofs.Typing.{SameStands, AgreeTypes, stands_up, stands_down}
 use Rattle.luo_meaning.proofs.ValueSites.{value_same, value_arms_same}
 use Rattle.luo_meaning.proofs.TypedScopes.{bound_typed, types_bound}
 
 module _ (source : Source) (c : Clean source) (none : measures_breaches (names_of source) 0 (measures source) ≡ []) (Q : InNode) (P : InType) (related : Related source Q P) where
   mutual
-    pub value_some : (v : SourceValue) (scope : List Variable) (types : Types) (vars : List ℕ) → AgreeTypes source scope types vars → (first : ℕ) (expected : Option ℕ) → ProperValue v → value_breaches (setting_of source) scope expected v ≡ []
+    pub value_some : (v : SourceValue) (scope : List Variable) (types : Types) (vars : List Part) → AgreeTypes source scope types vars → (first : ℕ) (expected : Option ℕ) → ProperValue v → value_breaches (setting_of source) scope expected v ≡ []
         → InItems (core source) (At source c none Q P related) vars (value_items first (value_core (setting_of source) scope expected v)) ↔ SomeValueSite source P types first v
     value_some (Given name) scope types vars agree first expected p e = (λ h. h, λ h. h)
     value_some (Made callee arg) scope types vars agree first expected p e =
@@ -62,11 +63,11 @@ module _ (source : Source) (c : Clean source) (none : measures_breaches (names_o
         let k = case_fits s o var (count_value_arms arms) (value_arms_breaches s (case_stands s o) expected var arms) e in
         let v = k.variable in
         let t = agree var v k.is in
-        let node = place_node source c none Q P related scope types vars var v k.is t in
-        let x = node_at vars (place_of o) in
+        let part = place_part source c none Q P related scope types vars var v k.is t in
+        let x = part_at vars (place_of o) in
         let cs = case_stands s o in
-        let stood : cs ≡ stands v.1 (shape_at_node source v.1) = ap (case_stands s) k.is in
-        let stood_x : stands x (shape_at_node source x) ≡ cs = ap (λ n. stands n (shape_at_node source n)) node ∙ sym stood in
+        let stood : cs ≡ stands v.1 (shape_at_node source v.1.node) = ap (case_stands s) k.is in
+        let stood_x : stands x (shape_at_node source x.node) ≡ cs = ap (λ (n : Part). stands n (shape_at_node source n.node)) part ∙ sym stood in
         let long : length cs ≡ count_value_arms arms = ap length stood ∙ sym k.many in
         let core_arms : Arms = value_arm_bodies first (value_arms_core s cs expected arms) in
         let C : Tree → ℕ → Type 0 = λ u q. CaseCharges (Charges (core source)) core_arms u q in
@@ -75,15 +76,15 @@ module _ (source : Source) (c : Clean source) (none : measures_breaches (names_o
         let core_site = first + scopes.value_arms_sites (value_arms_core s cs expected arms) in
         let site = first + value_arms_sites arms in
         let numbered : core_site ≡ site = ap (λ n. first + n) (value_arms_same s arms cs var expected long k.none) in
-        let r = related site v.1 t.e C D Z Z t.holds (λ u q. value_arms_kept source (Charges (core source)) (ProcCharges source) s (keeps_all source c none) arms cs var first expected long k.none u q) (at_zero source c none Q P related) in
-        let to_site : Q core_site v.1 C Z → Q site v.1 C Z = λ h. subst (λ n. Q n v.1 C Z) numbered h in
-        let to_core : Q site v.1 C Z → Q core_site v.1 C Z = λ h. subst (λ n. Q n v.1 C Z) (sym numbered) h in
+        let r = related site v.1.node t.e C D Z Z t.holds (λ u q. value_arms_kept source (Charges (core source)) (ProcCharges source) s (keeps_all source c none) arms cs var first expected long k.none u q) (at_zero source c none Q P related) in
+        let to_site : Q core_site v.1.node C Z → Q site v.1.node C Z = λ h. subst (λ n. Q n v.1.node C Z) numbered h in
+        let to_core : Q site v.1.node C Z → Q core_site v.1.node C Z = λ h. subst (λ n. Q n v.1.node C Z) (sym numbered) h in
         let inner : (es : List TypeExpr) → AreStands source t.e es → InArms (core source) (At source c none Q P related) cs core_arms ↔ SomeValueArm source P es first arms =
         λ es are. value_arms_some arms cs es var (subst (λ z. SameStands source z es) (sym stood) (stands_down source c v.1 t.e es t.holds are)) first expected p.1 long k.none in
         let up = stands_up source c v.1 t.e t.holds (omega (arith, k.many, p.0)) in (
           λ h. elim h [
             | inl h ↦ elim h [
-              | inl h ↦ (t.e, up.es, t.type, up.are, inl (r.0 (to_site (subst (λ n. Q core_site n C Z) node h))))
+              | inl h ↦ (t.e, up.es, t.type, up.are, inl (r.0 (to_site (subst (λ (n : Part). Q core_site n.node C Z) part h))))
               | inr h ↦ (t.e, up.es, t.type, up.are, inr ((inner up.es up.are).0 (subst (λ z. InArms (core source) (At source c none Q P related) z core_arms) stood_x h)))
             ]
             | inr h ↦ absurd h
@@ -92,12 +93,12 @@ module _ (source : Source) (c : Clean source) (none : measures_breaches (names_o
               let one : h.0 ≡ t.e = some_same h.0 t.e (sym h.2 ∙ t.type) in
               let are = subst (λ z. AreStands source z h.1) one h.3 in
               elim h.4 [
-                | inl g ↦ inl (inl (subst (λ n. Q core_site n C Z) (sym node) (to_core (r.1 (subst (λ z. P site z D Z) one g)))))
+                | inl g ↦ inl (inl (subst (λ (n : Part). Q core_site n.node C Z) (sym part) (to_core (r.1 (subst (λ z. P site z D Z) one g)))))
                 | inr g ↦ inl (inr (subst (λ z. InArms (core source) (At source c none Q P related) z core_arms) (sym stood_x) ((inner h.1 are).1 g)))
               ],
         )
 
-    values_some : {n : _} (row : Row_of-SourceValue n) (scope : List Variable) (types : Types) (vars : List ℕ) → AgreeTypes source scope types vars → (first : ℕ) (nodes : List ℕ) → ProperValues row → values_breaches (setting_of source) scope nodes row ≡ []
+    values_some : {n : _} (row : Row_of-SourceValue n) (scope : List Variable) (types : Types) (vars : List Part) → AgreeTypes source scope types vars → (first : ℕ) (nodes : List ℕ) → ProperValues row → values_breaches (setting_of source) scope nodes row ≡ []
         → InItems (core source) (At source c none Q P related) vars (values_items first (values_core (setting_of source) scope nodes row)) ↔ SomePartSite source P types first row
     values_some end_of-SourceValue scope types vars agree first nodes p e = (λ h. h, λ h. h)
     values_some (more_of-SourceValue v rest) scope types vars agree first [] p e =
@@ -123,7 +124,7 @@ module _ (source : Source) (c : Clean source) (none : measures_breaches (names_o
           λ h. elim h [ inl h ↦ join.1 (inl (one.1 h)) | inr h ↦ join.1 (inr (subst At' same (more.1 h))) ],
         )
 
-    boxed_some : {n : _} (row : Row_of-SourceValue n) (scope : List Variable) (types : Types) (vars : List ℕ) → AgreeTypes source scope types vars → (first : ℕ) (expected : Option ℕ) → ProperValues row → boxed_value_breaches (setting_of source) scope expected row ≡ []
+    boxed_some : {n : _} (row : Row_of-SourceValue n) (scope : List Variable) (types : Types) (vars : List Part) → AgreeTypes source scope types vars → (first : ℕ) (expected : Option ℕ) → ProperValues row → boxed_value_breaches (setting_of source) scope expected row ≡ []
         → InItems (core source) (At source c none Q P related) vars (value_items first (boxed_value_core (setting_of source) scope expected row)) ↔ SomeInnerSite source P types first row
     boxed_some end_of-SourceValue scope types vars agree first expected p e = (λ h. h, λ h. h)
     boxed_some (more_of-SourceValue v rest) scope types vars agree first expected p e = value_some v scope types vars agree first expected p.0 e
@@ -140,8 +141,8 @@ module _ (source : Source) (c : Clean source) (none : measures_breaches (names_o
         let inner = value_breaches s (patterns.bound s t pattern) expected v in
         let a = arm_fits s t var pattern inner (nil_left (arm_breaches s t var pattern inner) (value_arms_breaches s ss expected var rest) e) in
         let core_value = value_core s (patterns.bound s t pattern) expected v in
-        let body_some : (types : Types) → BindsTypes source pattern f types → InItems (core source) (At source c none Q P related) (bound_nodes (core source) t (bind_of pattern)) (value_items first core_value) ↔ SomeValueSite source P types first v =
-        λ types b. value_some v (patterns.bound s t pattern) types (bound_nodes (core source) t (bind_of pattern)) (bound_typed source c t pattern f types stand.0 b) first expected p.0 a.1 in
+        let body_some : (types : Types) → BindsTypes source pattern f types → InItems (core source) (At source c none Q P related) (bound_parts (core source) t (bind_of pattern)) (value_items first core_value) ↔ SomeValueSite source P types first v =
+        λ types b. value_some v (patterns.bound s t pattern) types (bound_parts (core source) t (bind_of pattern)) (bound_typed source c t pattern f types stand.0 b) first expected p.0 a.1 in
         let up = types_bound source c t pattern f stand.0 a.0 in
         let same : value_sites v ≡ scopes.value_sites core_value = sym (value_same s v (patterns.bound s t pattern) expected a.1) in
         let At' : ℕ → Type 0 = λ n. InArms (core source) (At source c none Q P related) ss (value_arm_bodies (first + n) (value_arms_core s ss expected rest)) in

@@ -1,7 +1,9 @@
 -- What values make: their core form, where a node is expected, against the forms as written, where a type expression is wanted.
-use Rattle.std.proofs.Common.{◌≡◌, ℕ, zero, suc, ◌↔◌, ◌≤◌, List, [], ◌∷◌, length, Option, Some, None, slice_get, refl, sym, ap, ◌∙◌, subst, arith}
+use Rattle.std.proofs.Common.{◌≡◌, ℕ, zero, suc, ◌↔◌, ◌≤◌, List, [], ◌∷◌, map, length, Option, Some, None, slice_get, refl, sym, ap, ◌∙◌, subst, arith}
 use Rattle.std.specs.Prelude.{Bool, true, false, if◌then◌else◌, codes, decimal}
+use Rattle.std.proofs.lemmas.List.{length-map}
 use Rattle.luo_model.specs.declared.body.Bind.{Bind}
+use Rattle.luo_model.specs.declared.program.Part.{Part}
 use Rattle.luo_model.specs.declared.program.Shape.{Shape}
 use Rattle.luo_model.specs.declared.program.Shape.TheVariants as shape
 use Rattle.luo_model.specs.declared.program.Universe.{Universe}
@@ -47,7 +49,7 @@ use Rattle.luo_meaning.proofs.Typing.{Holds}
 use Rattle.luo_meaning.proofs.TypedScopes.{factors_up}
 use Rattle.luo_meaning.proofs.Held.{AllHold, some_is, held, factors_held, branch_held, union_up}
 
-given_found : (o : Option (ℕ × ℕ)) (expected : Option ℕ) (name : Name) → given_breaches o expected name ≡ [] → (v : ℕ × ℕ) × (o ≡ Some v)
+given_found : (o : Option (ℕ × Part)) (expected : Option ℕ) (name : Name) → given_breaches o expected name ≡ [] → (v : ℕ × Part) × (o ≡ Some v)
 given_found None expected name e = absurd (cc)
 given_found (Some v) expected name e = (v, refl)
 
@@ -156,8 +158,9 @@ module _ (source : Source) (R : ℕ → Tree → Tree → Type 0) (S : List ℕ 
           let front = misplaced (has_factors n form) at (codes "product") in
           let inner = values_breaches s scope (part_nodes s (Some x) n) parts in
           let t = well_placed (has_factors n form) at (codes "product") (nil_left front inner clear) in
-          let nodes : part_nodes s (Some x) n ≡ factors form = ap (λ (b : Bool). if b then factors form else []) t in
-          let many : length (part_nodes s (Some x) n) ≡ n = ap length nodes ∙ factors_length n form (product_of n form t) in
+          let standing : List ℕ = map (λ (part : Part). part.node) (factors form) in
+          let nodes : part_nodes s (Some x) n ≡ standing = ap (λ (b : Bool). if b then standing else []) t in
+          let many : length (part_nodes s (Some x) n) ≡ n = ap length nodes ∙ (length-map (factors form) (λ (part : Part). part.node) ∙ factors_length n form (product_of n form t)) in
           let kept : (es : List TypeExpr) → IsProductOf source e es → (ts : Trees) → makes.ValuesMake R (values_core s scope (part_nodes s (Some x) n) parts) vars ts ↔ ValuesMake source S es env parts ts =
           λ es p ts. values_made parts scope env vars agree (part_nodes s (Some x) n) es (subst (λ l. AllHold source l es) (sym nodes) (factors_held source c x e es h p)) many proper (nil_right front inner clear) ts in
           let u = factors_up source c x n e h t in (

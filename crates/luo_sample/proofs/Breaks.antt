@@ -83,43 +83,43 @@ kind_clean Labelled (suc (suc k)) at = refl
 same_number : (n : ℕ) → nat_eq n n ≡ true
 same_number n = eq-eqb n n refl
 
-equal_nodes : (v : ℕ × ℕ) (n : ℕ) (arg callee : Name) → v.1 ≡ n → argument_breaches (Some v) (Some n) arg callee ≡ []
-equal_nodes v n arg callee e = chosen (nat_eq v.1 n) [] (record { rule = Y9; token = arg.at; names = arg.text ∷ callee.text ∷ [] } ∷ []) (eq-eqb v.1 n e) refl
+equal_nodes : (v : ℕ × Part) (n : ℕ) (arg callee : Name) → v.1.node ≡ n → argument_breaches (Some v) (Some n) arg callee ≡ []
+equal_nodes v n arg callee e = chosen (nat_eq v.1.node n) [] (record { rule = Y9; token = arg.at; names = arg.text ∷ callee.text ∷ [] } ∷ []) (eq-eqb v.1.node n e) refl
 
 -- statements
 
 module _ (st : Setting) where
-  call_clean : (scope : List Variable) (callee arg : Name) (v : ℕ × ℕ) (j n : ℕ) → found scope arg ≡ Some v → meant st callee ≡ Some (mean.Procedure j) → (signature_meant st (meant st callee)).on ≡ Some n → v.1 ≡ n
+  call_clean : (scope : List Variable) (callee arg : Name) (v : ℕ × Part) (j n : ℕ) → found scope arg ≡ Some v → meant st callee ≡ Some (mean.Procedure j) → (signature_meant st (meant st callee)).on ≡ Some n → v.1.node ≡ n
       → stmt_breaches st scope (Call callee arg) ≡ []
   call_clean scope callee arg v j n f m g e =
       both _ _ (proc_clean (meant st callee) j callee m)
       (ap (λ o. argument_breaches o (signature_meant st (meant st callee)).on arg callee) f ∙ (ap (λ o. argument_breaches (Some v) o arg callee) g ∙ equal_nodes v n arg callee e))
 
-  walk_clean : (scope : List Variable) (var source : Name) (body : Stmt) (v : ℕ × ℕ) (kind : Kind) (part : Part) (low : ℕ) (high : Option ℕ) → found scope source ≡ Some v → shape_at st v.1 ≡ shape.Coll kind part low high
-      → stmt_breaches st (record { name = var.text; node = part.node } ∷ []) body ≡ [] → stmt_breaches st scope (Forall var source body) ≡ []
+  walk_clean : (scope : List Variable) (var source : Name) (body : Stmt) (v : ℕ × Part) (kind : Kind) (part : Part) (low : ℕ) (high : Option ℕ) → found scope source ≡ Some v → shape_at st v.1.node ≡ shape.Coll kind part low high
+      → stmt_breaches st (record { name = var.text; part = part } ∷ []) body ≡ [] → stmt_breaches st scope (Forall var source body) ≡ []
   walk_clean scope var source body v kind part low high f h b =
       walk-breaches st scope var source body
-      ∙ (ap (λ o. walk_breaches st o source (stmt_breaches st (record { name = var.text; node = walked st o } ∷ []) body)) f
-      ∙ (ap (λ S. walk_into S source (stmt_breaches st (record { name = var.text; node = component S } ∷ []) body)) h ∙ b))
+      ∙ (ap (λ o. walk_breaches st o source (stmt_breaches st (record { name = var.text; part = walked st o } ∷ []) body)) f
+      ∙ (ap (λ S. walk_into S source (stmt_breaches st (record { name = var.text; part = component S } ∷ []) body)) h ∙ b))
 
-  case_clean : (scope : List Variable) (var : Name) (arms : List SourceArm) (v : ℕ × ℕ) (all : List Stand) → found scope var ≡ Some v → stands v.1 (shape_at st v.1) ≡ all → length arms ≡ length all
+  case_clean : (scope : List Variable) (var : Name) (arms : List SourceArm) (v : ℕ × Part) (all : List Stand) → found scope var ≡ Some v → stands v.1 (shape_at st v.1.node) ≡ all → length arms ≡ length all
       → arm_list_breaches st all var arms ≡ [] → stmt_breaches st scope (Case var arms) ≡ []
   case_clean scope var arms v all f e l b =
       case-breaches st scope var arms
       ∙ (ap (λ o. case_breaches st o var (length arms) (arm_list_breaches st (settings.case_stands st o) var arms)) f
-      ∙ chosen (nat_eq (length arms) (length (stands v.1 (shape_at st v.1)))) (arm_list_breaches st (stands v.1 (shape_at st v.1)) var arms) (broken_at Y10 var) (eq-eqb _ _ (l ∙ sym (ap length e)))
+      ∙ chosen (nat_eq (length arms) (length (stands v.1 (shape_at st v.1.node)))) (arm_list_breaches st (stands v.1 (shape_at st v.1.node)) var arms) (broken_at Y10 var) (eq-eqb _ _ (l ∙ sym (ap length e)))
       (ap (λ L. arm_list_breaches st L var arms) e ∙ b))
 
-  parts_clean : (y : ℕ) (parts : List Part) (var : Name) (names : List Name) (k : ℕ) (body : Stmt) → shape_at st y ≡ shape.Product parts → length parts ≡ length names → repeated [] names ≡ []
-      → stmt_breaches st (variables names (map (λ (part : Part). part.node) parts)) body ≡ [] → one_arm_breaches st (inside y) var (record { pattern = pattern.Parts names k; body = body }) ≡ []
+  parts_clean : (y : Part) (parts : List Part) (var : Name) (names : List Name) (k : ℕ) (body : Stmt) → shape_at st y.node ≡ shape.Product parts → length parts ≡ length names → repeated [] names ≡ []
+      → stmt_breaches st (variables names parts) body ≡ [] → one_arm_breaches st (inside y) var (record { pattern = pattern.Parts names k; body = body }) ≡ []
   parts_clean y parts var names k body e l r b =
-      let fit : has_factors (length names) (shape_at st y) ≡ true = ap (has_factors (length names)) e ∙ eq-eqb (length parts) (length names) l in
+      let fit : has_factors (length names) (shape_at st y.node) ≡ true = ap (has_factors (length names)) e ∙ eq-eqb (length parts) (length names) l in
       both _ _ (both _ _ (ap (λ z. misfit z (pattern.Parts names k) var) fit) r)
-      (chosen (has_factors (length names) (shape_at st y)) (stmt_breaches st (variables names (factors (shape_at st y))) body) [] fit (ap (λ S. stmt_breaches st (variables names (factors S)) body) e ∙ b))
+      (chosen (has_factors (length names) (shape_at st y.node)) (stmt_breaches st (variables names (factors (shape_at st y.node))) body) [] fit (ap (λ S. stmt_breaches st (variables names (factors S)) body) e ∙ b))
 
-  skip_clean : (y i : ℕ) (var type : Name) → meant st type ≡ Some (mean.Definition i) → settings.type_node st type ≡ Some y → one_arm_breaches st (inside y) var (record { pattern = pattern.Named type; body = Skip }) ≡ []
+  skip_clean : (y : Part) (i : ℕ) (var type : Name) → meant st type ≡ Some (mean.Definition i) → settings.type_node st type ≡ Some y.node → one_arm_breaches st (inside y) var (record { pattern = pattern.Named type; body = Skip }) ≡ []
   skip_clean y i var type m e =
-      let fit : fits st (inside y) (pattern.Named type) ≡ true = ap (λ o. is_node o y) e ∙ same_number y in
+      let fit : fits st (inside y) (pattern.Named type) ≡ true = ap (λ o. is_node o y.node) e ∙ same_number y.node in
       both _ _ (both _ [] (either _ _ (type_clean (meant st type) i type m) (ap (λ z. misfit z (pattern.Named type) var) fit)) refl) (ap (λ b. if b then [] else []) fit)
 
 module _ (u : Universe) (choices : ℕ → Choice) (small : (i : ℕ) → IsSmallChoice (choices i)) (s : Source) (q : IsSource u choices s) where
@@ -203,6 +203,9 @@ module _ (u : Universe) (choices : ℕ → Choice) (small : (i : ℕ) → IsSmal
   type_is : (i k : ℕ) → i < 20 → settings.type_node st (at (type_name i) k) ≡ Some (1 + 4 * i)
   type_is i k l = ap (node_meant st) (type_meant i l) ∙ ap Some (node_is (suc i) (1 + 4 * i) (type_at s.types q.types i l))
 
+  part_is : (i : ℕ) → i < 20 → (settings.part_meant st (meaning names (type_name i))).node ≡ 1 + 4 * i
+  part_is i l = ap (λ m. (settings.part_meant st m).node) (type_meant i l) ∙ node_is (suc i) (1 + 4 * i) (type_at s.types q.types i l)
+
   z_is : (k : ℕ) → settings.type_node st (at (codes "z") k) ≡ Some 0
   z_is k = ap (node_meant st) z_meant ∙ ap Some (node_is 0 0 (z_at s.types q.types))
 
@@ -224,27 +227,28 @@ module _ (u : Universe) (choices : ℕ → Choice) (small : (i : ℕ) → IsSmal
       let c = small i in
       let ch : Choice = choices i in
       let y : ℕ = 1 + 4 * i in
+      let x : Part = settings.part_meant st (meaning names (type_name i)) in
       let z : Part = facts.part u choices small s q (codes "z") in
       let first : Part = facts.part u choices small s q (type_name ch.first) in
       let second : Part = facts.part u choices small s q (type_name ch.second) in
       let inner : Part = facts.part u choices small s q (type_name ch.inner) in
       let var : Name = at (codes "x") (token ks 4) in
-      let call = λ (scope : List Variable) (j k : ℕ) (h : j < 20) (arg : Name) (v : ℕ × ℕ) (f : found scope arg ≡ Some v) (e : v.1 ≡ 1 + 4 * j). call_clean st scope (at (proc_name j) k) arg v j (1 + 4 * j) f (proc_meant j h) (signature_is j k h) e in
-      let scope3 : List Variable = record { name = codes "a"; node = z.node } ∷ record { name = codes "b"; node = first.node } ∷ record { name = codes "c"; node = second.node } ∷ [] in
-      let scope2 : List Variable = record { name = codes "a"; node = z.node } ∷ record { name = codes "b"; node = y + 3 } ∷ [] in
-      let scope1 : List Variable = record { name = codes "u"; node = inner.node } ∷ [] in
+      let call = λ (scope : List Variable) (j k : ℕ) (h : j < 20) (arg : Name) (v : ℕ × Part) (f : found scope arg ≡ Some v) (e : v.1.node ≡ 1 + 4 * j). call_clean st scope (at (proc_name j) k) arg v j (1 + 4 * j) f (proc_meant j h) (signature_is j k h) e in
+      let scope3 : List Variable = record { name = codes "a"; part = z } ∷ record { name = codes "b"; part = first } ∷ record { name = codes "c"; part = second } ∷ [] in
+      let scope2 : List Variable = record { name = codes "a"; part = z } ∷ record { name = codes "b"; part = bare (y + 3) } ∷ [] in
+      let scope1 : List Variable = record { name = codes "u"; part = inner } ∷ [] in
       let two_calls : Stmt = Block (Call (at (proc_name ch.first) (token ks 10)) (at (codes "b") (token ks 11)) ∷ Call (at (proc_name ch.second) (token ks 12)) (at (codes "c") (token ks 13)) ∷ []) in
       let one_walk : Stmt = Block (Forall (at (codes "u") (token ks 17)) (at (codes "b") (token ks 18)) (Call (at (proc_name ch.inner) (token ks 19)) (at (codes "u") (token ks 20))) ∷ []) in
       let calls = block-breaches st scope3 (Call (at (proc_name ch.first) (token ks 10)) (at (codes "b") (token ks 11)) ∷ Call (at (proc_name ch.second) (token ks 12)) (at (codes "c") (token ks 13)) ∷ [])
-      ∙ both _ _ (call scope3 ch.first (token ks 10) c.first (at (codes "b") (token ks 11)) (1, first.node) refl (facts.type_part u choices small s q ch.first c.first))
-      (both _ [] (call scope3 ch.second (token ks 12) c.second (at (codes "c") (token ks 13)) (2, second.node) refl (facts.type_part u choices small s q ch.second c.second)) refl) in
+      ∙ both _ _ (call scope3 ch.first (token ks 10) c.first (at (codes "b") (token ks 11)) (1, first) refl (facts.type_part u choices small s q ch.first c.first))
+      (both _ [] (call scope3 ch.second (token ks 12) c.second (at (codes "c") (token ks 13)) (2, second) refl (facts.type_part u choices small s q ch.second c.second)) refl) in
       let walk = block-breaches st scope2 (Forall (at (codes "u") (token ks 17)) (at (codes "b") (token ks 18)) (Call (at (proc_name ch.inner) (token ks 19)) (at (codes "u") (token ks 20))) ∷ [])
-      ∙ both _ [] (walk_clean st scope2 (at (codes "u") (token ks 17)) (at (codes "b") (token ks 18)) (Call (at (proc_name ch.inner) (token ks 19)) (at (codes "u") (token ks 20))) (1, y + 3) _ inner _ _ refl (facts.many_shape u choices small s q i l)
-      (call scope1 ch.inner (token ks 19) c.inner (at (codes "u") (token ks 20)) (0, inner.node) refl (facts.type_part u choices small s q ch.inner c.inner))) refl in
-      let skips = subst (λ n. one_arm_breaches st (inside n) var (record { pattern = pattern.Named (at (codes "z") (token ks 5)); body = Skip }) ≡ []) (sym (facts.z_part u choices small s q)) (skip_clean st 0 0 var (at (codes "z") (token ks 5)) z_meant (z_is (token ks 5))) in
-      let inside_pair = parts_clean st (y + 1) (z ∷ first ∷ second ∷ []) var (at (codes "a") (token ks 6) ∷ at (codes "b") (token ks 7) ∷ at (codes "c") (token ks 8) ∷ []) (token ks 9) two_calls (facts.pair_shape u choices small s q i l) refl refl calls in
-      let inside_holder = parts_clean st (y + 2) (z ∷ bare (y + 3) ∷ []) var (at (codes "a") (token ks 14) ∷ at (codes "b") (token ks 15) ∷ []) (token ks 16) one_walk (facts.holder_shape u choices small s q i l) refl refl walk in
-      let cases = case_clean st (parameter (at (codes "x") (token ks 1)) y) var _ (0, y) (inside z.node ∷ inside (y + 1) ∷ inside (y + 2) ∷ []) refl (ap (stands y) (facts.whole_shape u choices small s q i l)) refl
+      ∙ both _ [] (walk_clean st scope2 (at (codes "u") (token ks 17)) (at (codes "b") (token ks 18)) (Call (at (proc_name ch.inner) (token ks 19)) (at (codes "u") (token ks 20))) (1, bare (y + 3)) _ inner _ _ refl (facts.many_shape u choices small s q i l)
+      (call scope1 ch.inner (token ks 19) c.inner (at (codes "u") (token ks 20)) (0, inner) refl (facts.type_part u choices small s q ch.inner c.inner))) refl in
+      let skips = skip_clean st z 0 var (at (codes "z") (token ks 5)) z_meant (z_is (token ks 5) ∙ ap Some (sym (facts.z_part u choices small s q))) in
+      let inside_pair = parts_clean st (bare (y + 1)) (z ∷ first ∷ second ∷ []) var (at (codes "a") (token ks 6) ∷ at (codes "b") (token ks 7) ∷ at (codes "c") (token ks 8) ∷ []) (token ks 9) two_calls (facts.pair_shape u choices small s q i l) refl refl calls in
+      let inside_holder = parts_clean st (bare (y + 2)) (z ∷ bare (y + 3) ∷ []) var (at (codes "a") (token ks 14) ∷ at (codes "b") (token ks 15) ∷ []) (token ks 16) one_walk (facts.holder_shape u choices small s q i l) refl refl walk in
+      let cases = case_clean st (parameter st (proc_def_of i ch ks)) var _ (0, x) (inside z ∷ inside (bare (y + 1)) ∷ inside (bare (y + 2)) ∷ []) refl (ap (stands x) (ap (shape_at st) (part_is i l) ∙ facts.whole_shape u choices small s q i l)) refl
       (both _ _ skips (both _ _ inside_pair (both _ [] inside_holder refl))) in
       both _ _
       (both _ _ (new_clean names (at (proc_name i) (token ks 0)) (mean.Procedure i) (proc_meant i l) (same_number i)) (type_clean (meaning names (type_name i)) (suc i) (at (type_name i) (token ks 2)) (type_meant i l)))

@@ -1,9 +1,10 @@
 -- A sample walks over at most 20 multisets and powersets.
-use Rattle.std.proofs.Common.{◌≡◌, ◌≤◌, ◌+◌, ℕ, zero, suc, List, [], ◌∷◌, refl, arith, sum_by, codes}
+use Rattle.std.proofs.Common.{◌≡◌, ◌≤◌, ◌+◌, ℕ, zero, suc, List, [], ◌∷◌, refl, arith, sum_by}
 use Rattle.std.proofs.lemmas.List.Sums.{sum_by-cons}
 use denote.Hole.Carrier.{hidden}
 use Rattle.luo_model.specs.declared.program.Universe.{Universe}
 use Rattle.luo_model.specs.declared.program.Kind.TheVariants.{Sequence, Set, Cycle, Multiset, Powerset}
+use Rattle.luo_model.specs.declared.program.Part.{Part}
 use Rattle.luo_model.specs.declared.program.Shape.{Shape}
 use Rattle.luo_model.specs.declared.program.Shape.TheVariants as shape
 use Rattle.luo_model.specs.Program as plain
@@ -20,11 +21,9 @@ use Rattle.luo_rules.specs.declared.setting.Setting.{Setting}
 use Rattle.luo_rules.specs.declared.setting.Variable.{Variable}
 use Rattle.luo_rules.specs.StatementCore.{stmt_sites, stmt_items, stmts_items, arms_core}
 use Rattle.luo_rules.specs.Nodes.{setting_of}
-use Rattle.luo_rules.specs.Whole.{parameter, node_or, core, sites_of, proc_core, items_of, procs_core, walk_count}
-use Rattle.luo_rules.specs.Settings.{type_node}
+use Rattle.luo_rules.specs.Whole.{parameter, core, sites_of, proc_core, items_of, procs_core, walk_count}
 use Rattle.luo_sample.specs.declared.choice.Choice.{Choice}
-use Rattle.luo_sample.specs.Text.{type_name}
-use Rattle.luo_sample.proofs.Form.{at, token, IsSource, AreProcs, proc_of, proc_def_of}
+use Rattle.luo_sample.proofs.Form.{IsSource, AreProcs, proc_of, proc_def_of}
 
 abbrev mutual
   -- the walks that are written in a statement
@@ -46,7 +45,7 @@ abbrev stmts_in : ProcBody → List Stmt
 stmts_in (Statements stmts) = stmts
 stmts_in (Value colon result value) = []
 
-at_most_one : (s : Shape) → walk_of s ≤ 1
+at_most_one : (s : Shape) → multiset_of s ≤ 1
 at_most_one (shape.Atom w) = omega arith
 at_most_one (shape.Union parts) = omega arith
 at_most_one (shape.Product parts) = omega arith
@@ -65,13 +64,13 @@ one_more l m = omega (arith, l, m)
 added : {a b c d : ℕ} → a ≤ c → b ≤ d → a + b ≤ c + d
 added l m = omega (arith, l, m)
 
-joined : (p : Program) (vars : List ℕ) (is js : plain.Items) → items_walks p vars (join_items is js) ≡ items_walks p vars is + items_walks p vars js
+joined : (p : Program) (vars : List Part) (is js : plain.Items) → items_walks p vars (join_items is js) ≡ items_walks p vars is + items_walks p vars js
 joined p vars plain.no_items js = omega arith
 joined p vars (plain.item i is) js = omega (arith, joined p vars is js)
 
 module _ (p : Program) (s : Setting) where
   mutual
-    walks_of : (stmt : Stmt) (vars : List ℕ) (scope : List Variable) (first : ℕ) → items_walks p vars (stmt_items s scope first stmt) ≤ foralls stmt
+    walks_of : (stmt : Stmt) (vars : List Part) (scope : List Variable) (first : ℕ) → items_walks p vars (stmt_items s scope first stmt) ≤ foralls stmt
     walks_of Skip vars scope first = omega arith
     walks_of (Charge measure) vars scope first = omega arith
     walks_of (Call callee arg) vars scope first = omega arith
@@ -79,7 +78,7 @@ module _ (p : Program) (s : Setting) where
     walks_of (Case' var size arms) vars scope first = add_none (arms_walks_of arms _ _ first)
     walks_of (Forall' var source size body) vars scope first = add_none (one_more (at_most_one _) (all_walks_of body _ _ first))
 
-    all_walks_of : {n : _} (row : Row_of-Stmt n) (vars : List ℕ) (scope : List Variable) (first : ℕ) → items_walks p vars (stmts_items s scope first row) ≤ all_foralls row
+    all_walks_of : {n : _} (row : Row_of-Stmt n) (vars : List Part) (scope : List Variable) (first : ℕ) → items_walks p vars (stmts_items s scope first row) ≤ all_foralls row
     all_walks_of end_of-Stmt vars scope first = omega arith
     all_walks_of (more_of-Stmt stmt rest) vars scope first = omega (arith, joined p vars (stmt_items s scope first stmt) (stmts_items s scope (first + stmt_sites stmt) rest), walks_of stmt vars scope first, all_walks_of rest vars scope (first + stmt_sites stmt))
 
@@ -95,7 +94,7 @@ module _ (p : Program) (s : Setting) where
   list_foralls [] = 0
   list_foralls (stmt ∷ stmts) = foralls stmt + list_foralls stmts
 
-  list_walks_of : (stmts : List Stmt) (vars : List ℕ) (scope : List Variable) (first : ℕ) → items_walks p vars (items_of s scope first stmts) ≤ list_foralls stmts
+  list_walks_of : (stmts : List Stmt) (vars : List Part) (scope : List Variable) (first : ℕ) → items_walks p vars (items_of s scope first stmts) ≤ list_foralls stmts
   list_walks_of [] vars scope first = omega arith
   list_walks_of (stmt ∷ stmts) vars scope first =
       omega (arith, joined p vars (stmt_items s scope first stmt) (items_of s scope (first + stmt_sites stmt) stmts), walks_of stmt vars scope first, list_walks_of stmts vars scope (first + stmt_sites stmt))
@@ -104,15 +103,15 @@ module _ (p : Program) (s : Setting) where
   unfolding Rattle.luo_source.specs.declared.statements.Stmt.TheBlock.hidden-the_row-Stmt-0 Rattle.luo_source.specs.declared.statements.Stmt.TheBlock.hidden-the_row-SourceArm-1 Rattle.luo_source.specs.declared.statements.Stmt.TheBlock.hidden-the_row-Stmt-2 hidden
   one_forall i c ks = refl
 
-  procs_walks : (choices : ℕ → Choice) (i n : ℕ) (ps : List ProcDef) → AreProcs choices i n ps → (first : ℕ) → sum_by (λ (P : Procedure). body_walks p (P.on.node ∷ []) P.body) (procs_core s first ps) ≤ n
+  procs_walks : (choices : ℕ → Choice) (i n : ℕ) (ps : List ProcDef) → AreProcs choices i n ps → (first : ℕ) → sum_by (λ (P : Procedure). body_walks p (P.on ∷ []) P.body) (procs_core s first ps) ≤ n
   procs_walks choices i zero [] e first = omega arith
   procs_walks choices i zero (x ∷ ps) e first = absurd e
   procs_walks choices i (suc n) [] e first = absurd e
   procs_walks choices i (suc n) (_ ∷ ps) (proc_of ks, e) first =
       let P : Procedure = proc_core s first (proc_def_of i (choices i) ks) in
       let rest : List Procedure = procs_core s (first + sites_of s (proc_def_of i (choices i) ks) (proc_def_of i (choices i) ks).body + 1) ps in
-      let few : body_walks p (P.on.node ∷ []) P.body ≤ list_foralls (stmts_in (proc_def_of i (choices i) ks).body) = list_walks_of (stmts_in (proc_def_of i (choices i) ks).body) (P.on.node ∷ []) (parameter (at (codes "x") (token ks 1)) (node_or (type_node s (at (type_name i) (token ks 2))))) first in
-      omega (arith, sum_by-cons (λ (P : Procedure). body_walks p (P.on.node ∷ []) P.body) P rest, few, one_forall i (choices i) ks, procs_walks choices (suc i) n ps e (first + sites_of s (proc_def_of i (choices i) ks) (proc_def_of i (choices i) ks).body + 1))
+      let few : body_walks p (P.on ∷ []) P.body ≤ list_foralls (stmts_in (proc_def_of i (choices i) ks).body) = list_walks_of (stmts_in (proc_def_of i (choices i) ks).body) (P.on ∷ []) (parameter s (proc_def_of i (choices i) ks)) first in
+      omega (arith, sum_by-cons (λ (P : Procedure). body_walks p (P.on ∷ []) P.body) P rest, few, one_forall i (choices i) ks, procs_walks choices (suc i) n ps e (first + sites_of s (proc_def_of i (choices i) ks) (proc_def_of i (choices i) ks).body + 1))
 
 -- the walks are within their limit
 pub few_walks : (u : Universe) (choices : ℕ → Choice) (s : Source) → IsSource u choices s → walk_count (core s) ≤ 32
