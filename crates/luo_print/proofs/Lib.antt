@@ -2,6 +2,7 @@ pub mod Joins
 pub mod TypeTexts
 pub mod StatementTexts
 pub mod ValueTexts
+pub mod SameViews
 pub mod Cuts
 pub mod Numerals
 pub mod Literals

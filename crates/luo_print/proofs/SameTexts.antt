@@ -5,33 +5,24 @@ use Rattle.luo_scan.specs.declared.token.Token.{Token}
 use Rattle.luo_scan.specs.Tokens.{Tokens}
 use Rattle.luo_source.specs.declared.names.Name.{Name}
 use Rattle.luo_source.specs.declared.types.Bound.{Bound}
-use Rattle.luo_source.specs.declared.types.TypeExpr.{TypeExpr}
-use Rattle.luo_source.specs.declared.types.TypeDef.{TypeDef}
 use Rattle.luo_source.specs.declared.types.MeasureDef.{MeasureDef}
 use Rattle.luo_source.specs.declared.statements.Pattern.{Pattern}
 use Rattle.luo_source.specs.declared.statements.Pattern.TheVariants as pattern
-use Rattle.luo_source.specs.declared.statements.SourceArm.{SourceArm}
-use Rattle.luo_source.specs.declared.statements.Stmt.{Stmt}
-use Rattle.luo_source.specs.declared.values.SourceValue.{SourceValue}
-use Rattle.luo_source.specs.declared.values.SourceValueArm.{SourceValueArm}
-use Rattle.luo_source.specs.declared.source.ProcBody.{ProcBody}
-use Rattle.luo_source.specs.declared.source.ProcBody.TheVariants.{Statements, Value}
-use Rattle.luo_source.specs.declared.source.ProcDef.{ProcDef}
-use Rattle.luo_source.specs.declared.source.Source.{Source}
+use Rattle.luo_source.specs.declared.source.Source as declared
+use Rattle.luo_source.specs.Plain.Types.{TypeExpr, TypeExprs, TypeDef}
+use Rattle.luo_source.specs.Plain.Statements.{Stmt, Stmts, SourceArms}
+use Rattle.luo_source.specs.Plain.Values.{SourceValue, SourceValues, SourceValueArms}
+use Rattle.luo_source.specs.Plain.Source.{ProcBody, Statements, Value, ProcDef}
+use Rattle.luo_source.specs.View.{plain_source}
 use Rattle.luo_source.specs.Grammar.{Derives}
 use Rattle.luo_print.specs.Layout.{joined, lines, name_list, new_line}
-use Rattle.luo_print.specs.CanonicalTypes.{kind_text, range_text, bound_text, expr_text, type_def_line, measure_line}
-use Rattle.luo_print.specs.CanonicalStatements.{pattern_text, call_text, block_of, case_of, stmt_text, arm_text}
-use Rattle.luo_print.specs.CanonicalValues.{charge_text, opening, closing, value_text, value_arm_text}
+use Rattle.luo_print.specs.CanonicalTypes.{kind_text, range_text, bound_text, expr_text, expr_texts, type_def_line, measure_line}
+use Rattle.luo_print.specs.CanonicalStatements.{pattern_text, call_text, block_of, case_of, stmt_text, stmt_texts, arm_texts}
+use Rattle.luo_print.specs.CanonicalValues.{charge_text, opening, closing, value_text, value_texts, value_arm_texts}
 use Rattle.luo_print.specs.Canonical.{universe_line, body_text, proc_text, analyze_line, canonical}
 use Rattle.luo_print.specs.Same.{SameName, SameNames, SameBound, SameExpr, SameExprs, same_named, same_epsilon, same_atom, same_union, same_product, same_collection, no_exprs, more_exprs, SameTypeDef, SameMeasure, SamePattern, SameStmt, SameStmts, SameArms, same_skip, same_charge, same_call, same_block, same_case, same_forall, no_stmts, more_stmts, no_arms, more_arms, SameCharge, SameValue, SameValues, SameValueArms, same_given, same_made, same_atom_value, same_tuple, same_branch, same_chosen, no_values, more_values, no_value_arms, more_value_arms, SameBody, SameProc, SameSource}
 use Rattle.luo_print.specs.Laws.{SameText, FormatsOnce}
 use Rattle.luo_print.proofs.Joins.{joined_map}
-use Rattle.luo_print.proofs.TypeTexts.{union_text, product_text, coll_text}
-use Rattle.luo_print.proofs.StatementTexts.{block_text, forall_text}
-use Rattle.luo_print.proofs.StatementTexts as statement
-use Rattle.luo_print.proofs.ValueTexts.{tuple_text, branch_text}
-use Rattle.luo_print.proofs.ValueTexts as value
 use Rattle.luo_print.proofs.SourceBack.{reads_back}
 
 -- lists
@@ -67,18 +58,15 @@ mutual
   expr_same (same_named s) = s
   expr_same same_epsilon = refl
   expr_same same_atom = refl
-  expr_same (same_union {ts = ts} {us = us} s) = union_text ts ∙ join_same expr_text (codes " | ") ts us (exprs_same s) ∙ sym (union_text us)
-  expr_same (same_product {ts = ts} {us = us} {k = k} {l = l} s) =
-      product_text ts k ∙ ap (λ z. codes "product(" ++ z ++ codes ")") (join_same expr_text (codes ", ") ts us (exprs_same s)) ∙ sym (product_text us l)
-  expr_same (same_collection {kind = kind} {t = t} {u = u} {b = b} {c = c} {k = k} {l = l} s e) =
-      coll_text kind t b k
-      ∙ ap (λ z. kind_text kind ++ codes "(" ++ z ++ bound_text b ++ codes ")") (expr_same s)
+  expr_same (same_union s) = ap (joined (codes " | ")) (exprs_same s)
+  expr_same (same_product s) = ap (λ z. codes "product(" ++ joined (codes ", ") z ++ codes ")") (exprs_same s)
+  expr_same (same_collection {kind = kind} {t = t} {u = u} {b = b} {c = c} s e) =
+      ap (λ z. kind_text kind ++ codes "(" ++ z ++ bound_text b ++ codes ")") (expr_same s)
       ∙ ap (λ z. kind_text kind ++ codes "(" ++ expr_text u ++ z ++ codes ")") (bound_same b c e)
-      ∙ sym (coll_text kind u c l)
 
-  exprs_same : {ts us : List TypeExpr} → SameExprs ts us → map expr_text ts ≡ map expr_text us
+  exprs_same : {ts us : TypeExprs} → SameExprs ts us → expr_texts ts ≡ expr_texts us
   exprs_same no_exprs = refl
-  exprs_same (more_exprs {t = t} {u = u} {ts = ts} {us = us} s ss) = ap (λ z. z ∷ map expr_text ts) (expr_same s) ∙ ap (λ z. expr_text u ∷ z) (exprs_same ss)
+  exprs_same (more_exprs {t = t} {u = u} {ts = ts} {us = us} s ss) = ap (λ z. z ∷ expr_texts ts) (expr_same s) ∙ ap (λ z. expr_text u ∷ z) (exprs_same ss)
 
 type_def_same : (d e : TypeDef) → SameTypeDef d e → type_def_line d ≡ type_def_line e
 type_def_same d e s =
@@ -115,24 +103,21 @@ mutual
   stmt_same n same_skip = refl
   stmt_same n (same_charge e) = e
   stmt_same n (same_call {f = f} {g = g} {a = a} {b = b} e h) = call_same f g a b e h
-  stmt_same n (same_block {ss = ss} {ts = ts} s) = block_text n ss ∙ ap (block_of n) (stmts_same (n + 2) s) ∙ sym (block_text n ts)
-  stmt_same n (same_case {x = x} {y = y} {arms = arms} {others = others} e s) =
-      statement.case_text n x arms ∙ case_same n x y (map (arm_text (n + 2)) arms) (map (arm_text (n + 2)) others) e (arms_same (n + 2) s) ∙ sym (statement.case_text n y others)
+  stmt_same n (same_block s) = ap (block_of n) (stmts_same (n + 2) s)
+  stmt_same n (same_case {x = x} {y = y} {arms = arms} {others = others} e s) = case_same n x y (arm_texts (n + 2) arms) (arm_texts (n + 2) others) e (arms_same (n + 2) s)
   stmt_same n (same_forall {x = x} {y = y} {c = c} {d = d} {s = s} {t = t} e h r) =
-      forall_text n x c s
-      ∙ ap (λ z. codes "forall " ++ z ++ codes " in " ++ c.text ++ codes " do " ++ stmt_text n s) e
+      ap (λ z. codes "forall " ++ z ++ codes " in " ++ c.text ++ codes " do " ++ stmt_text n s) e
       ∙ ap (λ z. codes "forall " ++ y.text ++ codes " in " ++ z ++ codes " do " ++ stmt_text n s) h
       ∙ ap (λ z. codes "forall " ++ y.text ++ codes " in " ++ d.text ++ codes " do " ++ z) (stmt_same n r)
-      ∙ sym (forall_text n y d t)
 
-  stmts_same : (n : ℕ) {ss ts : List Stmt} → SameStmts ss ts → map (stmt_text n) ss ≡ map (stmt_text n) ts
+  stmts_same : (n : ℕ) {ss ts : Stmts} → SameStmts ss ts → stmt_texts n ss ≡ stmt_texts n ts
   stmts_same n no_stmts = refl
-  stmts_same n (more_stmts {s = s} {t = t} {ss = ss} {ts = ts} e es) = ap (λ z. z ∷ map (stmt_text n) ss) (stmt_same n e) ∙ ap (λ z. stmt_text n t ∷ z) (stmts_same n es)
+  stmts_same n (more_stmts {s = s} {t = t} {ss = ss} {ts = ts} e es) = ap (λ z. z ∷ stmt_texts n ss) (stmt_same n e) ∙ ap (λ z. stmt_text n t ∷ z) (stmts_same n es)
 
-  arms_same : (n : ℕ) {arms others : List SourceArm} → SameArms arms others → map (arm_text n) arms ≡ map (arm_text n) others
+  arms_same : (n : ℕ) {arms others : SourceArms} → SameArms arms others → arm_texts n arms ≡ arm_texts n others
   arms_same n no_arms = refl
   arms_same n (more_arms {p = p} {q = q} {s = s} {t = t} {arms = arms} {others = others} e h r) =
-      ap (λ z. z ∷ map (arm_text n) arms) (arm_same p q (stmt_text n s) (stmt_text n t) e (stmt_same n h))
+      ap (λ z. z ∷ arm_texts n arms) (arm_same p q (stmt_text n s) (stmt_text n t) e (stmt_same n h))
       ∙ ap (λ z. (pattern_text q ++ codes " : " ++ stmt_text n t) ∷ z) (arms_same n r)
 
 -- values
@@ -164,25 +149,21 @@ mutual
   value_same n (same_given e) = e
   value_same n (same_made {f = f} {g = g} {a = a} {b = b} e h) = call_same f g a b e h
   value_same n (same_atom_value {m = m} {n = o} e) = ap (λ z. z ++ codes "atom") (charge_same m o e)
-  value_same n (same_tuple {vs = vs} {ws = ws} {k = k} {l = l} s) =
-      tuple_text n vs k ∙ ap (λ z. codes "product(" ++ z ++ codes ")") (join_same (value_text n) (codes ", ") vs ws (values_same n s)) ∙ sym (tuple_text n ws l)
-  value_same n (same_branch {number = number} {k = k} {l = l} {v = v} {w = w} s) =
-      branch_text n number k v
-      ∙ ap (λ z. decimal number ++ codes " : " ++ (z ++ value_text n v ++ closing v)) (opening_same s)
+  value_same n (same_tuple s) = ap (λ z. codes "product(" ++ joined (codes ", ") z ++ codes ")") (values_same n s)
+  value_same n (same_branch {number = number} {v = v} {w = w} s) =
+      ap (λ z. decimal number ++ codes " : " ++ (z ++ value_text n v ++ closing v)) (opening_same s)
       ∙ ap (λ z. decimal number ++ codes " : " ++ (opening w ++ z ++ closing v)) (value_same n s)
       ∙ ap (λ z. decimal number ++ codes " : " ++ (opening w ++ value_text n w ++ z)) (closing_same s)
-      ∙ sym (branch_text n number l w)
-  value_same n (same_chosen {x = x} {y = y} {arms = arms} {others = others} e s) =
-      value.case_text n x arms ∙ case_same n x y (map (value_arm_text (n + 2)) arms) (map (value_arm_text (n + 2)) others) e (value_arms_same (n + 2) s) ∙ sym (value.case_text n y others)
+  value_same n (same_chosen {x = x} {y = y} {arms = arms} {others = others} e s) = case_same n x y (value_arm_texts (n + 2) arms) (value_arm_texts (n + 2) others) e (value_arms_same (n + 2) s)
 
-  values_same : (n : ℕ) {vs ws : List SourceValue} → SameValues vs ws → map (value_text n) vs ≡ map (value_text n) ws
+  values_same : (n : ℕ) {vs ws : SourceValues} → SameValues vs ws → value_texts n vs ≡ value_texts n ws
   values_same n no_values = refl
-  values_same n (more_values {v = v} {w = w} {vs = vs} {ws = ws} s ss) = ap (λ z. z ∷ map (value_text n) vs) (value_same n s) ∙ ap (λ z. value_text n w ∷ z) (values_same n ss)
+  values_same n (more_values {v = v} {w = w} {vs = vs} {ws = ws} s ss) = ap (λ z. z ∷ value_texts n vs) (value_same n s) ∙ ap (λ z. value_text n w ∷ z) (values_same n ss)
 
-  value_arms_same : (n : ℕ) {arms others : List SourceValueArm} → SameValueArms arms others → map (value_arm_text n) arms ≡ map (value_arm_text n) others
+  value_arms_same : (n : ℕ) {arms others : SourceValueArms} → SameValueArms arms others → value_arm_texts n arms ≡ value_arm_texts n others
   value_arms_same n no_value_arms = refl
   value_arms_same n (more_value_arms {p = p} {q = q} {v = v} {w = w} {arms = arms} {others = others} e h r) =
-      ap (λ z. z ∷ map (value_arm_text n) arms) (arm_same p q (value_text n v) (value_text n w) e (value_same n h))
+      ap (λ z. z ∷ value_arm_texts n arms) (arm_same p q (value_text n v) (value_text n w) e (value_same n h))
       ∙ ap (λ z. (pattern_text q ++ codes " : " ++ value_text n w) ∷ z) (value_arms_same n r)
 
 -- sources
@@ -211,9 +192,10 @@ same_text s t (universe, types, measures, procs, analyses) =
     ∙ ap (λ z. universe_line t.universe ++ flat_map type_def_line t.types ++ flat_map measure_line t.measures ++ z ++ flat_map analyze_line s.analyses) (flat_same proc_text SameProc proc_same s.procs t.procs procs)
     ∙ ap (λ z. universe_line t.universe ++ flat_map type_def_line t.types ++ flat_map measure_line t.measures ++ flat_map proc_text t.procs ++ z) (flat_same analyze_line SameName analyze_same s.analyses t.analyses analyses)
 
-formats_step : (source : Source) → (again : List Token) × (read : Source) × Tokens (canonical source) again × Derives (canonical source) again read × SameSource source read
-    → (again : List Token) × (read : Source) × Tokens (canonical source) again × Derives (canonical source) again read × (canonical read ≡ canonical source)
-formats_step source (again, read, t, d, s) = (again, read, t, d, sym (same_text source read s))
+formats_step : (source : declared.Source)
+    → (again : List Token) × (read : declared.Source) × Tokens (canonical (plain_source source)) again × Derives (canonical (plain_source source)) again read × SameSource (plain_source source) (plain_source read)
+    → (again : List Token) × (read : declared.Source) × Tokens (canonical (plain_source source)) again × Derives (canonical (plain_source source)) again read × (canonical (plain_source read) ≡ canonical (plain_source source))
+formats_step source (again, read, t, d, s) = (again, read, t, d, sym (same_text (plain_source source) (plain_source read) s))
 
 pub formats_once : FormatsOnce
 formats_once text tokens source t d = formats_step source (reads_back text tokens source t d)

@@ -1,5 +1,5 @@
 -- The texts of procedures and whole sources read back.
-use Rattle.std.proofs.Common.{◌≡◌, ℕ, List, [], ◌∷◌, ◌++◌, refl, sym, ◌∙◌, subst, append_assoc, flat_map}
+use Rattle.std.proofs.Common.{◌≡◌, ℕ, List, [], ◌∷◌, ◌++◌, refl, sym, ◌∙◌, subst, append_assoc, map, flat_map}
 use Rattle.std.specs.List.{AllZip}
 use Rattle.std.proofs.lemmas.List.{append-nil}
 use Rattle.luo_scan.specs.declared.token.Token.{Token}
@@ -19,6 +19,7 @@ use Rattle.luo_source.specs.declared.source.ProcBody.{ProcBody}
 use Rattle.luo_source.specs.declared.source.ProcBody.TheVariants.{Statements, Value}
 use Rattle.luo_source.specs.declared.source.ProcDef.{ProcDef}
 use Rattle.luo_source.specs.declared.source.Source.{Source}
+use Rattle.luo_source.specs.View.{type_def_of, proc_body_of, proc_def_of, plain_source}
 use Rattle.luo_source.specs.Grammar.{IsProcBody, statements_body, value_body, IsProc, proc, IsAnalyze, analyze, AreAnalyses, last_analysis, more_analyses, FromProcs, no_procs, more_procs, FromMeasures, no_measures, more_measures, FromTypes, no_types, more_types, IsProgram, labelled, unlabelled, unlabelled_unsaid, Derives}
 use Rattle.luo_print.specs.CanonicalTypes.{type_def_line, measure_line}
 use Rattle.luo_print.specs.Canonical.{universe_line, body_text, proc_text, analyze_line, canonical}
@@ -27,16 +28,15 @@ use Rattle.luo_print.specs.Laws.{ReadsBack}
 use Rattle.luo_print.proofs.Cuts.{Quiet, Any, Cut, cut_end, Reads, Then, Takes, takes, seq, next, read_as, read_text, name_reads, quiet_space}
 use Rattle.luo_print.proofs.Literals as lit
 use Rattle.luo_print.proofs.Literals.{TakesWord, TakesMark}
-use Rattle.luo_print.proofs.StatementTexts.{block_lines}
 use Rattle.luo_print.proofs.TypesBack.{AllFit, quiet_close, quiet_semicolon, TypeDefAs, type_def_back, MeasureAs, measure_back}
 use Rattle.luo_print.proofs.StatementsBack.{BlockAs, block_back}
 use Rattle.luo_print.proofs.ValuesBack.{ValueAs, value_back}
 
 abbrev BodyAs : ProcBody → List Lexeme → List Lexeme → Type 0
-BodyAs body from to = (other : ProcBody) × IsProcBody from to other × SameBody body other
+BodyAs body from to = (other : ProcBody) × IsProcBody from to other × SameBody (proc_body_of body) (proc_body_of other)
 
 abbrev ProcAs : ProcDef → List Lexeme → List Lexeme → Type 0
-ProcAs p from to = (other : ProcDef) × IsProc from to other × SameProc p other
+ProcAs p from to = (other : ProcDef) × IsProc from to other × SameProc (proc_def_of p) (proc_def_of other)
 
 abbrev AnalyzeAs : Name → List Lexeme → List Lexeme → Type 0
 AnalyzeAs name from to = (other : Name) × IsAnalyze from to other × SameName name other
@@ -45,18 +45,18 @@ abbrev AnalysesAs : List Name → List Lexeme → List Lexeme → Type 0
 AnalysesAs names from to = (others : List Name) × AreAnalyses from to others × SameNames names others
 
 abbrev ProcsAs : List ProcDef → List Name → List Lexeme → List Lexeme → Type 0
-ProcsAs procs names from to = (ps : List ProcDef) × (ns : List Name) × FromProcs from to ps ns × AllZip SameProc procs ps × SameNames names ns
+ProcsAs procs names from to = (ps : List ProcDef) × (ns : List Name) × FromProcs from to ps ns × AllZip SameProc (map proc_def_of procs) (map proc_def_of ps) × SameNames names ns
 
 abbrev MeasuresAs : List MeasureDef → List ProcDef → List Name → List Lexeme → List Lexeme → Type 0
 MeasuresAs measures procs names from to =
-    (ms : List MeasureDef) × (ps : List ProcDef) × (ns : List Name) × FromMeasures from to ms ps ns × AllZip SameMeasure measures ms × AllZip SameProc procs ps × SameNames names ns
+    (ms : List MeasureDef) × (ps : List ProcDef) × (ns : List Name) × FromMeasures from to ms ps ns × AllZip SameMeasure measures ms × AllZip SameProc (map proc_def_of procs) (map proc_def_of ps) × SameNames names ns
 
 abbrev TypesAs : List TypeDef → List MeasureDef → List ProcDef → List Name → List Lexeme → List Lexeme → Type 0
 TypesAs types measures procs names from to =
-    (ts : List TypeDef) × (ms : List MeasureDef) × (ps : List ProcDef) × (ns : List Name) × FromTypes from to ts ms ps ns × AllZip SameTypeDef types ts × AllZip SameMeasure measures ms × AllZip SameProc procs ps × SameNames names ns
+    (ts : List TypeDef) × (ms : List MeasureDef) × (ps : List ProcDef) × (ns : List Name) × FromTypes from to ts ms ps ns × AllZip SameTypeDef (map type_def_of types) (map type_def_of ts) × AllZip SameMeasure measures ms × AllZip SameProc (map proc_def_of procs) (map proc_def_of ps) × SameNames names ns
 
 abbrev ProgramAs : Source → List Lexeme → List Lexeme → Type 0
-ProgramAs source from to = (other : Source) × IsProgram from to other × SameSource source other
+ProgramAs source from to = (other : Source) × IsProgram from to other × SameSource (plain_source source) (plain_source other)
 
 -- procedures
 
@@ -66,10 +66,10 @@ statements_step ss from to (one, takes, (ts, d, s)) = (Statements ts, statements
 value_step : (text : List ℕ) (colon at : ℕ) (v : SourceValue) (from to : List Lexeme) → Then (Then (Then (TakesMark Colon) (Takes kind.Name text)) (TakesMark Semicolon)) (ValueAs v) from to → BodyAs (Value colon (record { text = text; at = at }) v) from to
 value_step text colon at v from to (three, (two, (one, takes {at = i}, takes {at = j}), takes), (w, d, s)) = (Value i (record { text = text; at = j }) w, value_body d, (refl, s))
 
-body_back : {from to : List Lexeme} {body : ProcBody} → IsProcBody from to body → AllFit from → AllFit to × Reads Quiet (body_text body) (BodyAs body)
+body_back : {from to : List Lexeme} {body : ProcBody} → IsProcBody from to body → AllFit from → AllFit to × Reads Quiet (body_text (proc_body_of body)) (BodyAs body)
 body_back (statements_body {stmts = ss} d) f =
     let r = block_back 0 d f.1 in
-    (r.0, read_as (next lit.semicolon_line (read_text (sym (block_lines 0 ss)) r.1)) (statements_step ss))
+    (r.0, read_as (next lit.semicolon_line r.1) (statements_step ss))
 body_back (value_body {text = text} {colon = colon} {at = at} {v = v} d) f =
     let r = value_back 0 d f.1.1.1 in
     (r.0, read_as (next (seq (next lit.colon (name_reads text at f.1.0)) lit.semicolon_line (λ rest d. quiet_semicolon [])) r.1) (value_step text colon at v))
@@ -82,7 +82,7 @@ proc_step : (name param on : List ℕ) (i j k : ℕ) (body : ProcBody) (from to 
 proc_step name param on i j k body from to (eight, (seven, (six, (five, (four, (three, (two, (one, takes, takes {at = x}), takes), takes {at = y}), takes), takes {at = z}), takes), (other, d, s)), takes) =
     (record { name = record { text = name; at = x }; param = record { text = param; at = y }; on = record { text = on; at = z }; body = other }, proc d, (refl, refl, refl, s))
 
-proc_back : {from to : List Lexeme} {p : ProcDef} → IsProc from to p → AllFit from → AllFit to × Reads Any (proc_text p) (ProcAs p)
+proc_back : {from to : List Lexeme} {p : ProcDef} → IsProc from to p → AllFit from → AllFit to × Reads Any (proc_text (proc_def_of p)) (ProcAs p)
 proc_back (proc {text = name} {param = param} {type = on} {at = i} {param_at = j} {type_at = k} {body = body} d) f =
     let r = body_back d f.1.1.1.1.1.1.1 in
     let named = seq (next lit.procedure_word (name_reads name i f.1.0)) lit.opening_round (λ rest d. lit.quiet_round []) in
@@ -114,13 +114,13 @@ analyses_back (more_analyses {name = name} {names = names} p ps) f =
 -- the parts of a program
 
 abbrev procs_text : List ProcDef → List Name → List ℕ
-procs_text procs names = flat_map proc_text procs ++ flat_map analyze_line names
+procs_text procs names = flat_map proc_text (map proc_def_of procs) ++ flat_map analyze_line names
 
 abbrev measures_text : List MeasureDef → List ProcDef → List Name → List ℕ
 measures_text measures procs names = flat_map measure_line measures ++ procs_text procs names
 
 abbrev types_text : List TypeDef → List MeasureDef → List ProcDef → List Name → List ℕ
-types_text types measures procs names = flat_map type_def_line types ++ measures_text measures procs names
+types_text types measures procs names = flat_map type_def_line (map type_def_of types) ++ measures_text measures procs names
 
 no_procs_step : (names : List Name) (from to : List Lexeme) → AnalysesAs names from to → ProcsAs [] names from to
 no_procs_step names from to (ns, d, s) = ([], ns, no_procs d, tt, s)
@@ -133,7 +133,7 @@ procs_back (no_procs {names = names} d) f = let r = analyses_back d f in (r.0, r
 procs_back (more_procs {p = p} {procs = procs} {names = names} d ds) f =
     let r = proc_back d f in
     let s = procs_back ds r.0 in
-    (s.0, read_text (sym (append_assoc (proc_text p) (flat_map proc_text procs) (flat_map analyze_line names))) (read_as (next r.1 s.1) (more_procs_step p procs names)))
+    (s.0, read_text (sym (append_assoc (proc_text (proc_def_of p)) (flat_map proc_text (map proc_def_of procs)) (flat_map analyze_line names))) (read_as (next r.1 s.1) (more_procs_step p procs names)))
 
 no_measures_step : (procs : List ProcDef) (names : List Name) (from to : List Lexeme) → ProcsAs procs names from to → MeasuresAs [] procs names from to
 no_measures_step procs names from to (ps, ns, d, s, e) = ([], ps, ns, no_measures d, tt, s, e)
@@ -161,7 +161,7 @@ types_back (no_types {measures = measures} {procs = procs} {names = names} d) f 
 types_back (more_types {t = t} {types = types} {measures = measures} {procs = procs} {names = names} d ds) f =
     let r = type_def_back d f in
     let s = types_back ds r.0 in
-    (s.0, read_text (sym (append_assoc (type_def_line t) (flat_map type_def_line types) (measures_text measures procs names))) (read_as (next r.1 s.1) (more_types_step t types measures procs names)))
+    (s.0, read_text (sym (append_assoc (type_def_line (type_def_of t)) (flat_map type_def_line (map type_def_of types)) (measures_text measures procs names))) (read_as (next r.1 s.1) (more_types_step t types measures procs names)))
 
 -- whole sources
 
@@ -178,10 +178,10 @@ unlabelled_step types measures procs names from to (two, (one, takes, takes), (t
 nested : (a b c d e : List ℕ) → a ++ (b ++ (c ++ (d ++ e))) ≡ a ++ b ++ c ++ d ++ e
 nested a b c d e = sym (append_assoc (a ++ b ++ c) d e ∙ append_assoc (a ++ b) c (d ++ e) ∙ append_assoc a b (c ++ (d ++ e)))
 
-in_order : (source : Source) → universe_line source.universe ++ types_text source.types source.measures source.procs source.analyses ≡ canonical source
-in_order source = nested (universe_line source.universe) (flat_map type_def_line source.types) (flat_map measure_line source.measures) (flat_map proc_text source.procs) (flat_map analyze_line source.analyses)
+in_order : (source : Source) → universe_line source.universe ++ types_text source.types source.measures source.procs source.analyses ≡ canonical (plain_source source)
+in_order source = nested (universe_line source.universe) (flat_map type_def_line (map type_def_of source.types)) (flat_map measure_line source.measures) (flat_map proc_text (map proc_def_of source.procs)) (flat_map analyze_line source.analyses)
 
-program_back : {from to : List Lexeme} {source : Source} → IsProgram from to source → AllFit from → Reads Any (canonical source) (ProgramAs source)
+program_back : {from to : List Lexeme} {source : Source} → IsProgram from to source → AllFit from → Reads Any (canonical (plain_source source)) (ProgramAs source)
 program_back (labelled {types = types} {measures = measures} {procs = procs} {names = names} d) f =
     read_text (in_order (record { universe = Labelled; types = types; measures = measures; procs = procs; analyses = names })) (read_as (next lit.labelled_line (types_back d f.1.1).1) (labelled_step types measures procs names))
 program_back (unlabelled {types = types} {measures = measures} {procs = procs} {names = names} d) f =
@@ -189,12 +189,12 @@ program_back (unlabelled {types = types} {measures = measures} {procs = procs} {
 program_back (unlabelled_unsaid {types = types} {measures = measures} {procs = procs} {names = names} d) f =
     read_text (in_order (record { universe = Unlabelled; types = types; measures = measures; procs = procs; analyses = names })) (read_as (next lit.unlabelled_line (types_back d f).1) (unlabelled_step types measures procs names))
 
-read_whole : (source : Source) → Reads Any (canonical source) (ProgramAs source) → (again : List Token) × (read : Source) × Tokens (canonical source) again × Derives (canonical source) again read × SameSource source read
+read_whole : (source : Source) → Reads Any (canonical (plain_source source)) (ProgramAs source) → (again : List Token) × (read : Source) × Tokens (canonical (plain_source source)) again × Derives (canonical (plain_source source)) again read × SameSource (plain_source source) (plain_source read)
 read_whole source r =
     let x = r.read [] (λ k. []) tt cut_end in
-    let c : Cut (canonical source) x.0 = subst (λ t. Cut t x.0) (append-nil (canonical source)) x.1 in
+    let c : Cut (canonical (plain_source source)) x.0 = subst (λ t. Cut t x.0) (append-nil (canonical (plain_source source))) x.1 in
     let y = c.cut 0 in
-    let e : lexemes_from 0 (canonical source) y.0 ≡ x.0 0 = y.2 (canonical source) 0 refl in
+    let e : lexemes_from 0 (canonical (plain_source source)) y.0 ≡ x.0 0 = y.2 (canonical (plain_source source)) 0 refl in
     let p = x.2 0 in
     (y.0, p.1.0, y.1, subst (λ ls. IsProgram ls [] p.1.0) (sym e) p.1.1, p.1.2)
 

@@ -1,6 +1,5 @@
 -- The texts of patterns and statements read back.
 use Rattle.std.proofs.Common.{◌≡◌, ℕ, ◌+◌, List, [], ◌∷◌, ◌++◌, refl, ap, sym, ◌∙◌, append_assoc, flat_map, codes}
-use Rattle.std.specs.List.{join_by}
 use Rattle.std.proofs.lemmas.List.{append-nil}
 use Rattle.luo_scan.specs.declared.token.Word.TheVariants.{KwBegin, KwEnd, KwCase, KwOf, KwForall, KwIn, KwDo, KwSkip, KwAs}
 use Rattle.luo_scan.specs.declared.token.Mark.TheVariants.{Semicolon, LeftRound, RightRound, Colon, Underscore}
@@ -13,15 +12,17 @@ use Rattle.luo_source.specs.declared.statements.Pattern.TheVariants as pattern
 use Rattle.luo_source.specs.declared.statements.SourceArm.{SourceArm}
 use Rattle.luo_source.specs.declared.statements.Stmt.{Stmt}
 use Rattle.luo_source.specs.declared.statements.Stmt.TheVariants.{Skip, Charge, Call, Block, Case, Forall}
+use Rattle.luo_source.specs.View.{stmt_of, stmt_list, source_arm_list}
 use Rattle.luo_source.specs.GrammarStatements.{IsPattern, pattern_named, pattern_whole, pattern_named_parts, pattern_parts, pattern_any, pattern_any_whole, IsBlock, empty_block, full_block, AreStmts, last_stmt, more_stmts, IsStmt, simple_stmt, case_stmt, forall_stmt, IsSimple, block_stmt, skip_stmt, charge_stmt, call_stmt, AreArms, last_arm, more_arms, IsArm, one_arm}
-use Rattle.luo_print.specs.Layout.{name_list, new_line}
-use Rattle.luo_print.specs.CanonicalStatements.{pattern_text, call_text, stmt_text, stmt_line, arm_line}
-use Rattle.luo_print.specs.Same.{SameNames, SamePattern, SameStmt, SameStmts, SameArms, same_skip, same_charge, same_call, same_block, same_case, same_forall, no_stmts, no_arms}
+use Rattle.luo_print.specs.Layout.{lines, name_list, new_line}
+use Rattle.luo_print.specs.CanonicalStatements.{pattern_text, call_text, block_of, stmt_text, stmt_texts, arm_texts}
+use Rattle.luo_print.specs.Same.{SameNames, SamePattern, SameStmt, SameStmts, SameArms, same_skip, same_charge, same_call, no_stmts, no_arms}
 use Rattle.luo_print.specs.Same as same
 use Rattle.luo_print.proofs.Cuts.{Quiet, Reads, Then, Takes, takes, seq, next, read_as, read_text, quietly, name_reads, line_before, quiet_space, quiet_line}
 use Rattle.luo_print.proofs.Literals as lit
 use Rattle.luo_print.proofs.Literals.{TakesWord, TakesMark}
-use Rattle.luo_print.proofs.StatementTexts.{block_text, block_lines, case_text, case_lines, forall_text}
+use Rattle.luo_print.proofs.StatementTexts.{stmt_line, arm_line, block_text, case_text, forall_text}
+use Rattle.luo_print.proofs.SameViews.{blocks, cases, walks}
 use Rattle.luo_print.proofs.TypesBack.{AllFit, NamesAs, names_back, quiet_close, quiet_semicolon}
 
 abbrev pub PatternAs : Pattern → List Lexeme → List Lexeme → Type 0
@@ -72,22 +73,22 @@ pub case_head : (var : List ℕ) (at : ℕ) → IsFit (lexeme kind.Name var at) 
 case_head var at f = seq (next lit.case_word (name_reads var at f)) lit.of_word (λ rest d. quiet_space [])
 
 abbrev StmtAs : Stmt → List Lexeme → List Lexeme → Type 0
-StmtAs s from to = (t : Stmt) × IsStmt from to t × SameStmt s t
+StmtAs s from to = (t : Stmt) × IsStmt from to t × SameStmt (stmt_of s) (stmt_of t)
 
 abbrev SimpleAs : Stmt → List Lexeme → List Lexeme → Type 0
-SimpleAs s from to = (t : Stmt) × IsSimple from to t × SameStmt s t
+SimpleAs s from to = (t : Stmt) × IsSimple from to t × SameStmt (stmt_of s) (stmt_of t)
 
 abbrev pub BlockAs : List Stmt → List Lexeme → List Lexeme → Type 0
-BlockAs ss from to = (ts : List Stmt) × IsBlock from to ts × SameStmts ss ts
+BlockAs ss from to = (ts : List Stmt) × IsBlock from to ts × SameStmts (stmt_list ss) (stmt_list ts)
 
 abbrev StmtsAs : List Stmt → List Lexeme → List Lexeme → Type 0
-StmtsAs ss from to = (ts : List Stmt) × AreStmts from to ts × SameStmts ss ts
+StmtsAs ss from to = (ts : List Stmt) × AreStmts from to ts × SameStmts (stmt_list ss) (stmt_list ts)
 
 abbrev ArmsAs : List SourceArm → List Lexeme → List Lexeme → Type 0
-ArmsAs arms from to = (others : List SourceArm) × AreArms from to others × SameArms arms others
+ArmsAs arms from to = (others : List SourceArm) × AreArms from to others × SameArms (source_arm_list arms) (source_arm_list others)
 
 abbrev ArmAs : SourceArm → List Lexeme → List Lexeme → Type 0
-ArmAs arm from to = (other : SourceArm) × IsArm from to other × SamePattern arm.pattern other.pattern × SameStmt arm.body other.body
+ArmAs arm from to = (other : SourceArm) × IsArm from to other × SamePattern arm.pattern other.pattern × SameStmt (stmt_of arm.body) (stmt_of other.body)
 
 empty_step : (from to : List Lexeme) → Then (TakesWord KwBegin) (TakesWord KwEnd) from to → BlockAs [] from to
 empty_step from to (one, takes, takes) = ([], empty_block, no_stmts)
@@ -105,15 +106,15 @@ simple_step : (s : Stmt) (from to : List Lexeme) → SimpleAs s from to → Stmt
 simple_step s from to (t, p, e) = (t, simple_stmt p, e)
 
 case_step : (var : List ℕ) (at : ℕ) (arms : List SourceArm) (from to : List Lexeme) → Then (Then (Then (TakesWord KwCase) (Takes kind.Name var)) (TakesWord KwOf)) (ArmsAs arms) from to → StmtAs (Case (record { text = var; at = at }) arms) from to
-case_step var at arms from to (three, (two, (one, takes, takes {at = k}), takes), (others, d, s)) = (Case (record { text = var; at = k }) others, case_stmt d, same_case refl s)
+case_step var at arms from to (three, (two, (one, takes, takes {at = k}), takes), (others, d, s)) = (Case (record { text = var; at = k }) others, case_stmt d, cases (record { text = var; at = at }) (record { text = var; at = k }) arms others refl s)
 
 forall_step : (var source : List ℕ) (at k : ℕ) (s : Stmt) (from to : List Lexeme) → Then (Then (Then (Then (Then (TakesWord KwForall) (Takes kind.Name var)) (TakesWord KwIn)) (Takes kind.Name source)) (TakesWord KwDo)) (SimpleAs s) from to
     → StmtAs (Forall (record { text = var; at = at }) (record { text = source; at = k }) s) from to
 forall_step var source at k s from to (five, (four, (three, (two, (one, takes, takes {at = i}), takes), takes {at = j}), takes), (t, p, e)) =
-    (Forall (record { text = var; at = i }) (record { text = source; at = j }) t, forall_stmt p, same_forall refl refl e)
+    (Forall (record { text = var; at = i }) (record { text = source; at = j }) t, forall_stmt p, walks (record { text = var; at = at }) (record { text = var; at = i }) (record { text = source; at = k }) (record { text = source; at = j }) s t refl refl e)
 
 block_step : (ss : List Stmt) (from to : List Lexeme) → BlockAs ss from to → SimpleAs (Block ss) from to
-block_step ss from to (ts, d, s) = (Block ts, block_stmt d, same_block s)
+block_step ss from to (ts, d, s) = (Block ts, block_stmt d, blocks ss ts s)
 
 skip_step : (from to : List Lexeme) → TakesWord KwSkip from to → SimpleAs Skip from to
 skip_step from to takes = (Skip, skip_stmt, same_skip)
@@ -133,34 +134,34 @@ more_arms_step a arms from to (one, (b, p, e, g), (two, takes, (others, ps, es))
 arm_step : (p : Pattern) (s : Stmt) (from to : List Lexeme) → Then (Then (PatternAs p) (TakesMark Colon)) (SimpleAs s) from to → ArmAs (record { pattern = p; body = s }) from to
 arm_step p s from to (two, (one, (q, d, e), takes), (t, i, g)) = (record { pattern = q; body = t }, one_arm d i, e, g)
 
-stmts_tail : (m : ℕ) {from to : List Lexeme} {ss : List Stmt} → AreStmts from to ss → flat_map (λ s. codes ";" ++ stmt_line m s) ss ≡ codes ";" ++ join_by (stmt_line m) (codes ";") ss
+stmts_tail : (m : ℕ) {from to : List Lexeme} {ss : List Stmt} → AreStmts from to ss → flat_map (λ t. codes ";" ++ (new_line m ++ t)) (stmt_texts m (stmt_list ss)) ≡ codes ";" ++ lines m (stmt_texts m (stmt_list ss))
 stmts_tail m (last_stmt p) = refl
 stmts_tail m (more_stmts p ps) = refl
 
-arms_tail : (m : ℕ) {from to : List Lexeme} {arms : List SourceArm} → AreArms from to arms → flat_map (λ a. codes ";" ++ arm_line m a) arms ≡ codes ";" ++ join_by (arm_line m) (codes ";") arms
+arms_tail : (m : ℕ) {from to : List Lexeme} {arms : List SourceArm} → AreArms from to arms → flat_map (λ t. codes ";" ++ (new_line m ++ t)) (arm_texts m (source_arm_list arms)) ≡ codes ";" ++ lines m (arm_texts m (source_arm_list arms))
 arms_tail m (last_arm p) = refl
 arms_tail m (more_arms p ps) = refl
 
-quiet_stmts : (m : ℕ) {from to : List Lexeme} {ss : List Stmt} → AreStmts from to ss → (end rest : List ℕ) → Quiet ((join_by (stmt_line m) (codes ";") ss ++ end) ++ rest)
+quiet_stmts : (m : ℕ) {from to : List Lexeme} {ss : List Stmt} → AreStmts from to ss → (end rest : List ℕ) → Quiet ((lines m (stmt_texts m (stmt_list ss)) ++ end) ++ rest)
 quiet_stmts m (last_stmt p) end rest = quiet_line []
 quiet_stmts m (more_stmts p ps) end rest = quiet_line []
 
-quiet_arms : (m : ℕ) {from to : List Lexeme} {arms : List SourceArm} → AreArms from to arms → (end rest : List ℕ) → Quiet ((join_by (arm_line m) (codes ";") arms ++ end) ++ rest)
+quiet_arms : (m : ℕ) {from to : List Lexeme} {arms : List SourceArm} → AreArms from to arms → (end rest : List ℕ) → Quiet ((lines m (arm_texts m (source_arm_list arms)) ++ end) ++ rest)
 quiet_arms m (last_arm p) end rest = quiet_line []
 quiet_arms m (more_arms p ps) end rest = quiet_line []
 
 mutual
   pub block_back : (n : ℕ) {from to : List Lexeme} {ss : List Stmt} → IsBlock from to ss → AllFit from
-      → AllFit to × Reads Quiet (codes "begin" ++ join_by (stmt_line (n + 2)) (codes ";") ss ++ new_line n ++ codes "end") (BlockAs ss)
+      → AllFit to × Reads Quiet (block_of n (stmt_texts (n + 2) (stmt_list ss))) (BlockAs ss)
   block_back n empty_block f = (f.1.1, read_as (seq lit.begin_word (end_reads n) (λ rest d. quiet_line [])) empty_step)
   block_back n (full_block {stmts = ss} d) f =
       let r = stmts_back (n + 2) n d f.1 in (
         r.0,
-        read_text (ap (λ z. codes "begin" ++ z) (sym (append_assoc (join_by (stmt_line (n + 2)) (codes ";") ss) (new_line n) (codes "end"))))
+        read_text (ap (λ z. codes "begin" ++ z) (sym (append_assoc (lines (n + 2) (stmt_texts (n + 2) (stmt_list ss))) (new_line n) (codes "end"))))
             (read_as (seq lit.begin_word r.1 (λ rest e. quiet_stmts (n + 2) d (new_line n ++ codes "end") rest)) (full_step ss)),
       )
 
-  stmts_back : (m n : ℕ) {from to : List Lexeme} {ss : List Stmt} → AreStmts from to ss → AllFit from → AllFit to × Reads Quiet (join_by (stmt_line m) (codes ";") ss ++ (new_line n ++ codes "end")) (StmtsAs ss)
+  stmts_back : (m n : ℕ) {from to : List Lexeme} {ss : List Stmt} → AreStmts from to ss → AllFit from → AllFit to × Reads Quiet (lines m (stmt_texts m (stmt_list ss)) ++ (new_line n ++ codes "end")) (StmtsAs ss)
   stmts_back m n (last_stmt {stmt = s} p) f =
       let r = stmt_back m p f in
       (r.0.1, read_text (ap (λ z. z ++ (new_line n ++ codes "end")) (sym (append-nil (stmt_line m s)))) (read_as (seq (line_before m r.1) (end_reads n) (λ rest d. quiet_line [])) (last_step s)))
@@ -168,17 +169,17 @@ mutual
       let r = stmt_back m p f in
       let t = stmts_back m n ps r.0.1 in (
         t.0,
-        read_text (sym (append_assoc (stmt_line m s) (flat_map (λ s. codes ";" ++ stmt_line m s) ss) (new_line n ++ codes "end") ∙ ap (λ z. stmt_line m s ++ (z ++ (new_line n ++ codes "end"))) (stmts_tail m ps)))
+        read_text (sym (append_assoc (stmt_line m s) (flat_map (λ t. codes ";" ++ (new_line m ++ t)) (stmt_texts m (stmt_list ss))) (new_line n ++ codes "end") ∙ ap (λ z. stmt_line m s ++ (z ++ (new_line n ++ codes "end"))) (stmts_tail m ps)))
             (read_as (seq (line_before m r.1) (next lit.semicolon t.1) (λ rest d. quiet_semicolon [])) (more_step s ss)),
       )
 
-  stmt_back : (n : ℕ) {from to : List Lexeme} {s : Stmt} → IsStmt from to s → AllFit from → AllFit to × Reads Quiet (stmt_text n s) (StmtAs s)
+  stmt_back : (n : ℕ) {from to : List Lexeme} {s : Stmt} → IsStmt from to s → AllFit from → AllFit to × Reads Quiet (stmt_text n (stmt_of s)) (StmtAs s)
   stmt_back n (simple_stmt {stmt = s} p) f = let r = simple_back n p f in (r.0, read_as r.1 (simple_step s))
   stmt_back n (case_stmt {text = var} {at = at} {arms = arms} d) f =
       let r = arms_back (n + 2) n d f.1.1.1 in
       let head = codes "case " ++ var ++ codes " of" in (
         r.0,
-        read_text (sym (case_text n (record { text = var; at = at }) arms ∙ case_lines n (record { text = var; at = at }) arms ∙ append_assoc (head ++ join_by (arm_line (n + 2)) (codes ";") arms) (new_line n) (codes "end") ∙ append_assoc head (join_by (arm_line (n + 2)) (codes ";") arms) (new_line n ++ codes "end")))
+        read_text (sym (case_text n (record { text = var; at = at }) arms ∙ append_assoc (head ++ lines (n + 2) (arm_texts (n + 2) (source_arm_list arms))) (new_line n) (codes "end") ∙ append_assoc head (lines (n + 2) (arm_texts (n + 2) (source_arm_list arms))) (new_line n ++ codes "end")))
             (read_as (seq (case_head var at f.1.0) r.1 (λ rest e. quiet_arms (n + 2) d (new_line n ++ codes "end") rest)) (case_step var at arms)),
       )
   stmt_back n (forall_stmt {text = var} {source = source} {at = at} {source_at = k} {body = s} p) f =
@@ -188,13 +189,13 @@ mutual
             (read_as (next (seq (next (seq (next lit.forall_word (name_reads var at f.1.0)) lit.in_between (λ rest d. quiet_space [])) (name_reads source k f.1.1.1.0)) lit.do_word (λ rest d. quiet_space [])) r.1) (forall_step var source at k s)),
       )
 
-  simple_back : (n : ℕ) {from to : List Lexeme} {s : Stmt} → IsSimple from to s → AllFit from → AllFit to × Reads Quiet (stmt_text n s) (SimpleAs s)
-  simple_back n (block_stmt {stmts = ss} d) f = let r = block_back n d f in (r.0, read_text (sym (block_text n ss ∙ block_lines n ss)) (read_as r.1 (block_step ss)))
+  simple_back : (n : ℕ) {from to : List Lexeme} {s : Stmt} → IsSimple from to s → AllFit from → AllFit to × Reads Quiet (stmt_text n (stmt_of s)) (SimpleAs s)
+  simple_back n (block_stmt {stmts = ss} d) f = let r = block_back n d f in (r.0, read_text (sym (block_text n ss)) (read_as r.1 (block_step ss)))
   simple_back n skip_stmt f = (f.1, read_as lit.skip_word skip_step)
   simple_back n (charge_stmt {text = text} {at = at}) f = (f.1, read_as (name_reads text at f.0) (charge_step text at))
   simple_back n (call_stmt {text = callee} {arg = arg} {at = at} {arg_at = k}) f = (f.1.1.1.1, read_as (call_reads callee arg at k f.0 f.1.1.0) (call_step callee arg at k))
 
-  arms_back : (m n : ℕ) {from to : List Lexeme} {arms : List SourceArm} → AreArms from to arms → AllFit from → AllFit to × Reads Quiet (join_by (arm_line m) (codes ";") arms ++ (new_line n ++ codes "end")) (ArmsAs arms)
+  arms_back : (m n : ℕ) {from to : List Lexeme} {arms : List SourceArm} → AreArms from to arms → AllFit from → AllFit to × Reads Quiet (lines m (arm_texts m (source_arm_list arms)) ++ (new_line n ++ codes "end")) (ArmsAs arms)
   arms_back m n (last_arm {arm = a} p) f =
       let r = arm_back m p f in
       (r.0.1, read_text (ap (λ z. z ++ (new_line n ++ codes "end")) (sym (append-nil (arm_line m a)))) (read_as (seq r.1 (end_reads n) (λ rest d. quiet_line [])) (last_arm_step a)))
@@ -202,7 +203,7 @@ mutual
       let r = arm_back m p f in
       let t = arms_back m n ps r.0.1 in (
         t.0,
-        read_text (sym (append_assoc (arm_line m a) (flat_map (λ a. codes ";" ++ arm_line m a) arms) (new_line n ++ codes "end") ∙ ap (λ z. arm_line m a ++ (z ++ (new_line n ++ codes "end"))) (arms_tail m ps)))
+        read_text (sym (append_assoc (arm_line m a) (flat_map (λ t. codes ";" ++ (new_line m ++ t)) (arm_texts m (source_arm_list arms))) (new_line n ++ codes "end") ∙ ap (λ z. arm_line m a ++ (z ++ (new_line n ++ codes "end"))) (arms_tail m ps)))
             (read_as (seq r.1 (next lit.semicolon t.1) (λ rest d. quiet_semicolon [])) (more_arms_step a arms)),
       )
 

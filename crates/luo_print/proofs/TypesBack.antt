@@ -1,6 +1,6 @@
 -- The texts of names, bounds, type expressions, definitions and measures read back.
 use Rattle.std.proofs.Common.{◌≡◌, ℕ, List, [], ◌∷◌, ◌++◌, refl, ap, sym, ◌∙◌, arith, append_assoc, flat_map, Option, None, Some, codes, decimal}
-use Rattle.std.specs.List.{AllByRecursion, join_by}
+use Rattle.std.specs.List.{AllByRecursion}
 use Rattle.std.proofs.lemmas.List.{append-nil}
 use Rattle.luo_scan.specs.declared.token.Word.{Word}
 use Rattle.luo_scan.specs.declared.token.Word.TheVariants.{KwSequence, KwSet, KwCycle, KwMultiset, KwPowerset, KwIn, KwCard, KwEpsilon, KwAtom, KwProduct, KwType, KwMeasure}
@@ -18,15 +18,17 @@ use Rattle.luo_source.specs.declared.types.TypeExpr.{TypeExpr}
 use Rattle.luo_source.specs.declared.types.TypeExpr.TheVariants.{Named, Epsilon, Atom, Union, Product, Coll}
 use Rattle.luo_source.specs.declared.types.TypeDef.{TypeDef}
 use Rattle.luo_source.specs.declared.types.MeasureDef.{MeasureDef}
+use Rattle.luo_source.specs.View.{expr_of, expr_list, type_def_of}
 use Rattle.luo_source.specs.GrammarTypes.{AreNames, last_name, more_names, IsRange, exactly, at_most, at_least, between, IsCollection, sequence, set, cycle, multiset, powerset, EndsCollection, unbounded, bounded, IsExpr, one_term, union, AreTerms, last_term, more_terms, IsTerm, named, epsilon, atom, product, collection, AreFactors, last_factor, more_factors, IsTypeDef, type_def, IsMeasure, measure_def}
-use Rattle.luo_print.specs.Layout.{name_list}
-use Rattle.luo_print.specs.CanonicalTypes.{kind_text, range_text, bound_text, expr_text, type_def_line, measure_line}
-use Rattle.luo_print.specs.Same.{SameNames, SameBound, SameExpr, SameExprs, same_named, same_epsilon, same_atom, same_union, same_product, same_collection, no_exprs, more_exprs, SameTypeDef, SameMeasure}
+use Rattle.luo_print.specs.Layout.{joined, name_list}
+use Rattle.luo_print.specs.CanonicalTypes.{kind_text, range_text, bound_text, expr_text, expr_texts, type_def_line, measure_line}
+use Rattle.luo_print.specs.Same.{SameNames, SameBound, SameExpr, SameExprs, same_named, same_epsilon, same_atom, no_exprs, more_exprs, SameTypeDef, SameMeasure}
 use Rattle.luo_print.proofs.Cuts.{Quiet, Any, Reads, Then, Takes, takes, seq, next, read_as, read_text, quietly, word_reads, name_reads, quiet_space}
 use Rattle.luo_print.proofs.Numerals.{number_reads}
 use Rattle.luo_print.proofs.Literals as lit
 use Rattle.luo_print.proofs.Literals.{TakesWord, TakesMark}
 use Rattle.luo_print.proofs.TypeTexts.{union_text, product_text, coll_text}
+use Rattle.luo_print.proofs.SameViews.{unions, products, collections}
 
 abbrev pub AllFit : List Lexeme → Type 0
 AllFit ls = AllByRecursion IsFit ls
@@ -119,22 +121,22 @@ kind_reads powerset = seq (word_reads KwPowerset 112 (codes "owerset") refl) lit
 -- type expressions
 
 abbrev pub ExprAs : TypeExpr → List Lexeme → List Lexeme → Type 0
-ExprAs e from to = (other : TypeExpr) × IsExpr from to other × SameExpr e other
+ExprAs e from to = (other : TypeExpr) × IsExpr from to other × SameExpr (expr_of e) (expr_of other)
 
 abbrev TermAs : TypeExpr → List Lexeme → List Lexeme → Type 0
-TermAs e from to = (other : TypeExpr) × IsTerm from to other × SameExpr e other
+TermAs e from to = (other : TypeExpr) × IsTerm from to other × SameExpr (expr_of e) (expr_of other)
 
 abbrev TermsAs : List TypeExpr → List Lexeme → List Lexeme → Type 0
-TermsAs es from to = (others : List TypeExpr) × AreTerms from to others × SameExprs es others
+TermsAs es from to = (others : List TypeExpr) × AreTerms from to others × SameExprs (expr_list es) (expr_list others)
 
 abbrev FactorsAs : List TypeExpr → List Lexeme → List Lexeme → Type 0
-FactorsAs es from to = (others : List TypeExpr) × AreFactors from to others × SameExprs es others
+FactorsAs es from to = (others : List TypeExpr) × AreFactors from to others × SameExprs (expr_list es) (expr_list others)
 
-terms_tail : {from to : List Lexeme} {ts : List TypeExpr} → AreTerms from to ts → flat_map (λ e. codes " | " ++ expr_text e) ts ≡ codes " | " ++ join_by expr_text (codes " | ") ts
+terms_tail : {from to : List Lexeme} {ts : List TypeExpr} → AreTerms from to ts → flat_map (λ t. codes " | " ++ t) (expr_texts (expr_list ts)) ≡ codes " | " ++ joined (codes " | ") (expr_texts (expr_list ts))
 terms_tail (last_term p) = refl
 terms_tail (more_terms p ps) = refl
 
-factors_tail : {from to : List Lexeme} {ts : List TypeExpr} → AreFactors from to ts → flat_map (λ e. codes ", " ++ expr_text e) ts ≡ codes ", " ++ join_by expr_text (codes ", ") ts
+factors_tail : {from to : List Lexeme} {ts : List TypeExpr} → AreFactors from to ts → flat_map (λ t. codes ", " ++ t) (expr_texts (expr_list ts)) ≡ codes ", " ++ joined (codes ", ") (expr_texts (expr_list ts))
 factors_tail (last_factor p) = refl
 factors_tail (more_factors p ps) = refl
 
@@ -142,7 +144,7 @@ one_step : (t : TypeExpr) (from to : List Lexeme) → TermAs t from to → ExprA
 one_step t from to (u, p, s) = (u, one_term p, s)
 
 union_step : (t : TypeExpr) (ts : List TypeExpr) (from to : List Lexeme) → Then (TermAs t) (Then (TakesMark Bar) (TermsAs ts)) from to → ExprAs (Union (t ∷ ts)) from to
-union_step t ts from to (mid, (u, p, s), (next, takes, (us, ps, ss))) = (Union (u ∷ us), union p ps, same_union (more_exprs s ss))
+union_step t ts from to (mid, (u, p, s), (next, takes, (us, ps, ss))) = (Union (u ∷ us), union p ps, unions (t ∷ ts) (u ∷ us) (more_exprs s ss))
 
 last_term_step : (t : TypeExpr) (from to : List Lexeme) → TermAs t from to → TermsAs (t ∷ []) from to
 last_term_step t from to (u, p, s) = (u ∷ [], last_term p, more_exprs s no_exprs)
@@ -166,27 +168,27 @@ atom_step : (w weight_at at : ℕ) (from to : List Lexeme) → Then (Then (Then 
 atom_step w weight_at at from to (three, (two, (one, takes {at = k}, takes), takes {at = l}), takes) = (Atom w l k, atom, same_atom)
 
 product_step : (t : TypeExpr) (ts : List TypeExpr) (at : ℕ) (from to : List Lexeme) → Then (Then (TakesWord KwProduct) (TakesMark LeftRound)) (Then (ExprAs t) (Then (TakesMark Comma) (FactorsAs ts))) from to → TermAs (Product (t ∷ ts) at) from to
-product_step t ts at from to (two, (one, takes {at = k}, takes), (three, (u, p, s), (next, takes, (us, ps, ss)))) = (Product (u ∷ us) k, product p ps, same_product (more_exprs s ss))
+product_step t ts at from to (two, (one, takes {at = k}, takes), (three, (u, p, s), (next, takes, (us, ps, ss)))) = (Product (u ∷ us) k, product p ps, products (t ∷ ts) (u ∷ us) at k (more_exprs s ss))
 
 collection_step : {word : Word} {of : Kind} (t : TypeExpr) (bound : Option Bound) (at : ℕ) → IsCollection word of → (from to : List Lexeme) → Then (Then (Then (TakesWord word) (TakesMark LeftRound)) (ExprAs t)) (EndsAs bound) from to → TermAs (Coll of t bound at) from to
-collection_step {of = of} t bound at c from to (three, (two, (one, takes {at = k}, takes), (u, p, s)), (other, e, b)) = (Coll of u other k, collection c p e, same_collection s b)
+collection_step {of = of} t bound at c from to (three, (two, (one, takes {at = k}, takes), (u, p, s)), (other, e, b)) = (Coll of u other k, collection c p e, collections of t u bound other at k s b)
 
 mutual
-  pub expr_back : {from to : List Lexeme} {e : TypeExpr} → IsExpr from to e → AllFit from → AllFit to × Reads Quiet (expr_text e) (ExprAs e)
+  pub expr_back : {from to : List Lexeme} {e : TypeExpr} → IsExpr from to e → AllFit from → AllFit to × Reads Quiet (expr_text (expr_of e)) (ExprAs e)
   expr_back (one_term {t = t} p) f = let r = term_back p f in (r.0, read_as r.1 (one_step t))
   expr_back (union {t = t} {ts = ts} p ps) f =
       let r = term_back p f in
       let s = terms_back ps r.0.1 in
-      (s.0, read_text (sym (union_text (t ∷ ts) ∙ ap (λ z. expr_text t ++ z) (terms_tail ps))) (read_as (seq r.1 (next lit.bar s.1) (λ rest d. quiet_space [])) (union_step t ts)))
+      (s.0, read_text (sym (union_text (t ∷ ts) ∙ ap (λ z. expr_text (expr_of t) ++ z) (terms_tail ps))) (read_as (seq r.1 (next lit.bar s.1) (λ rest d. quiet_space [])) (union_step t ts)))
 
-  terms_back : {from to : List Lexeme} {ts : List TypeExpr} → AreTerms from to ts → AllFit from → AllFit to × Reads Quiet (join_by expr_text (codes " | ") ts) (TermsAs ts)
-  terms_back (last_term {t = t} p) f = let r = term_back p f in (r.0, read_text (sym (append-nil (expr_text t))) (read_as r.1 (last_term_step t)))
+  terms_back : {from to : List Lexeme} {ts : List TypeExpr} → AreTerms from to ts → AllFit from → AllFit to × Reads Quiet (joined (codes " | ") (expr_texts (expr_list ts))) (TermsAs ts)
+  terms_back (last_term {t = t} p) f = let r = term_back p f in (r.0, read_text (sym (append-nil (expr_text (expr_of t)))) (read_as r.1 (last_term_step t)))
   terms_back (more_terms {t = t} {ts = ts} p ps) f =
       let r = term_back p f in
       let s = terms_back ps r.0.1 in
-      (s.0, read_text (ap (λ z. expr_text t ++ z) (sym (terms_tail ps))) (read_as (seq r.1 (next lit.bar s.1) (λ rest d. quiet_space [])) (more_terms_step t ts)))
+      (s.0, read_text (ap (λ z. expr_text (expr_of t) ++ z) (sym (terms_tail ps))) (read_as (seq r.1 (next lit.bar s.1) (λ rest d. quiet_space [])) (more_terms_step t ts)))
 
-  term_back : {from to : List Lexeme} {e : TypeExpr} → IsTerm from to e → AllFit from → AllFit to × Reads Quiet (expr_text e) (TermAs e)
+  term_back : {from to : List Lexeme} {e : TypeExpr} → IsTerm from to e → AllFit from → AllFit to × Reads Quiet (expr_text (expr_of e)) (TermAs e)
   term_back (named {text = text} {at = at}) f = (f.1, read_as (name_reads text at f.0) (named_step text at))
   term_back (epsilon {at = at}) f = (f.1, read_as lit.epsilon (epsilon_step at))
   term_back (atom {at = at} {weight_at = weight_at} {weight = w}) f =
@@ -196,33 +198,33 @@ mutual
       let s = factors_back ps r.0.1 in (
         s.0,
         quietly (read_text
-            (sym (product_text (t ∷ ts) at ∙ ap (λ z. codes "product(" ++ z) (append_assoc (expr_text t) (flat_map (λ e. codes ", " ++ expr_text e) ts) (codes ")") ∙ ap (λ z. expr_text t ++ (z ++ codes ")")) (factors_tail ps))))
+            (sym (product_text (t ∷ ts) at ∙ ap (λ z. codes "product(" ++ z) (append_assoc (expr_text (expr_of t)) (flat_map (λ t. codes ", " ++ t) (expr_texts (expr_list ts))) (codes ")") ∙ ap (λ z. expr_text (expr_of t) ++ (z ++ codes ")")) (factors_tail ps))))
             (read_as (next lit.product_round (seq r.1 (next lit.comma s.1) (λ rest d. quiet_comma []))) (product_step t ts at))),
       )
   term_back (collection {of = of} {at = at} {t = t} {bound = bound} c p e) f =
       let r = expr_back p f.1.1 in
       let s = ends_back e r.0 in (
         s.0,
-        quietly (read_text (sym (coll_text of t bound at ∙ append_assoc (kind_text of ++ codes "(" ++ expr_text t) (bound_text bound) (codes ")")))
+        quietly (read_text (sym (coll_text of t bound at ∙ append_assoc (kind_text of ++ codes "(" ++ expr_text (expr_of t)) (bound_text bound) (codes ")")))
             (read_as (seq (next (kind_reads c) r.1) s.1 (λ rest d. quiet_bound bound rest)) (collection_step t bound at c))),
       )
 
-  factors_back : {from to : List Lexeme} {ts : List TypeExpr} → AreFactors from to ts → AllFit from → AllFit to × Reads Any (join_by expr_text (codes ", ") ts ++ codes ")") (FactorsAs ts)
+  factors_back : {from to : List Lexeme} {ts : List TypeExpr} → AreFactors from to ts → AllFit from → AllFit to × Reads Any (joined (codes ", ") (expr_texts (expr_list ts)) ++ codes ")") (FactorsAs ts)
   factors_back (last_factor {t = t} p) f =
       let r = expr_back p f in
-      (r.0.1, read_text (ap (λ z. z ++ codes ")") (sym (append-nil (expr_text t)))) (read_as (seq r.1 lit.closing_round (λ rest d. quiet_close [])) (last_factor_step t)))
+      (r.0.1, read_text (ap (λ z. z ++ codes ")") (sym (append-nil (expr_text (expr_of t))))) (read_as (seq r.1 lit.closing_round (λ rest d. quiet_close [])) (last_factor_step t)))
   factors_back (more_factors {t = t} {ts = ts} p ps) f =
       let r = expr_back p f in
       let s = factors_back ps r.0.1 in (
         s.0,
-        read_text (sym (append_assoc (expr_text t) (flat_map (λ e. codes ", " ++ expr_text e) ts) (codes ")") ∙ ap (λ z. expr_text t ++ (z ++ codes ")")) (factors_tail ps)))
+        read_text (sym (append_assoc (expr_text (expr_of t)) (flat_map (λ t. codes ", " ++ t) (expr_texts (expr_list ts))) (codes ")") ∙ ap (λ z. expr_text (expr_of t) ++ (z ++ codes ")")) (factors_tail ps)))
             (read_as (seq r.1 (next lit.comma s.1) (λ rest d. quiet_comma [])) (more_factors_step t ts)),
       )
 
 -- definitions and measures
 
 abbrev pub TypeDefAs : TypeDef → List Lexeme → List Lexeme → Type 0
-TypeDefAs d from to = (e : TypeDef) × IsTypeDef from to e × SameTypeDef d e
+TypeDefAs d from to = (e : TypeDef) × IsTypeDef from to e × SameTypeDef (type_def_of d) (type_def_of e)
 
 abbrev pub MeasureAs : MeasureDef → List Lexeme → List Lexeme → Type 0
 MeasureAs d from to = (e : MeasureDef) × IsMeasure from to e × SameMeasure d e
@@ -230,7 +232,7 @@ MeasureAs d from to = (e : MeasureDef) × IsMeasure from to e × SameMeasure d e
 type_def_step : (names : List Name) (body : TypeExpr) (from to : List Lexeme) → Then (Then (Then (TakesWord KwType) (NamesAs Equals names)) (ExprAs body)) (TakesMark Semicolon) from to → TypeDefAs (record { names = names; body = body }) from to
 type_def_step names body from to (three, (two, (one, takes, (ms, d, s)), (u, p, t)), takes) = (record { names = ms; body = u }, type_def d p, (s, t))
 
-pub type_def_back : {from to : List Lexeme} {d : TypeDef} → IsTypeDef from to d → AllFit from → AllFit to × Reads Any (type_def_line d) (TypeDefAs d)
+pub type_def_back : {from to : List Lexeme} {d : TypeDef} → IsTypeDef from to d → AllFit from → AllFit to × Reads Any (type_def_line (type_def_of d)) (TypeDefAs d)
 type_def_back (type_def {names = names} {body = body} d p) f =
     let r = names_back d (codes " = ") _ lit.equals (λ rest. quiet_space []) f.1 in
     let s = expr_back p r.0 in

@@ -1,14 +1,11 @@
 -- The canonical text of a source.
-use Rattle.std.specs.Prelude.{ℕ, List, ◌++◌, codes, flat_map, map}
+use Rattle.std.specs.Prelude.{ℕ, List, ◌++◌, codes, flat_map}
 use Rattle.luo_model.specs.declared.program.Universe.{Universe}
 use Rattle.luo_model.specs.declared.program.Universe.TheVariants.{Unlabelled, Labelled}
 use Rattle.luo_source.specs.declared.names.Name.{Name}
-use Rattle.luo_source.specs.declared.source.ProcBody.{ProcBody}
-use Rattle.luo_source.specs.declared.source.ProcBody.TheVariants.{Statements, Value}
-use Rattle.luo_source.specs.declared.source.ProcDef.{ProcDef}
-use Rattle.luo_source.specs.declared.source.Source.{Source}
+use Rattle.luo_source.specs.Plain.Source.{ProcBody, Statements, Value, ProcDef, Source}
 use Rattle.luo_print.specs.CanonicalTypes.{type_def_line, measure_line}
-use Rattle.luo_print.specs.CanonicalStatements.{block_of, stmt_text}
+use Rattle.luo_print.specs.CanonicalStatements.{block_of, stmt_texts}
 use Rattle.luo_print.specs.CanonicalValues.{value_text}
 
 -- the first line
@@ -18,7 +15,7 @@ universe_line Unlabelled = codes "unlabelled;\n"
 
 -- what stands behind the `)` of a procedure: the rest of that line, and its block or value
 abbrev pub body_text : ProcBody → List ℕ
-body_text (Statements stmts) = codes ";\n" ++ block_of 0 (map (stmt_text 2) stmts)
+body_text (Statements stmts) = codes ";\n" ++ block_of 0 (stmt_texts 2 stmts)
 body_text (Value colon result value) =
     codes " : " ++ result.text ++ codes ";\n" ++ value_text 0 value
 

@@ -3,8 +3,7 @@ use Rattle.std.specs.Prelude.{ℕ, ◌+◌, List, [], ◌∷◌, ◌++◌, codes
 use Rattle.luo_source.specs.declared.names.Name.{Name}
 use Rattle.luo_source.specs.declared.statements.Pattern.{Pattern}
 use Rattle.luo_source.specs.declared.statements.Pattern.TheVariants.{Named, NamedWhole, NamedParts, Parts, Any, AnyWhole}
-use Rattle.luo_source.specs.declared.statements.SourceArm.{SourceArm}
-use Rattle.luo_source.specs.declared.statements.Stmt.{Stmt, Skip, Charge, Call, Block', Case', Forall', Row_of-Stmt, end_of-Stmt, more_of-Stmt, Row_of-SourceArm, end_of-SourceArm, more_of-SourceArm}
+use Rattle.luo_source.specs.Plain.Statements.{Stmt, Skip, Charge, Call, Block, Case, Forall, Stmts, no_stmts, a_stmt, SourceArms, no_source_arms, a_source_arm}
 use Rattle.luo_print.specs.Layout.{name_list, lines, new_line}
 
 abbrev pub pattern_text : Pattern → List ℕ
@@ -34,36 +33,19 @@ abbrev mutual
   stmt_text n Skip = codes "skip"
   stmt_text n (Charge measure) = measure.text
   stmt_text n (Call callee arg) = call_text callee arg
-  stmt_text n (Block' shape stmts) = block_of n (stmt_texts (n + 2) stmts)
-  stmt_text n (Case' var shape arms) = case_of n var (arm_texts (n + 2) arms)
-  stmt_text n (Forall' var source shape body) =
+  stmt_text n (Block stmts) = block_of n (stmt_texts (n + 2) stmts)
+  stmt_text n (Case var arms) = case_of n var (arm_texts (n + 2) arms)
+  stmt_text n (Forall var source body) =
       codes "forall " ++ var.text ++ codes " in " ++ source.text ++ codes " do "
-      ++ boxed_stmt_text n body
+      ++ stmt_text n body
 
   -- the texts of a list
-  pub stmt_texts : ℕ → {n : _} → Row_of-Stmt n → List (List ℕ)
-  stmt_texts n end_of-Stmt = []
-  stmt_texts n (more_of-Stmt s rest) = stmt_text n s ∷ stmt_texts n rest
-
-  -- the text of what a box holds
-  pub boxed_stmt_text : ℕ → {n : _} → Row_of-Stmt n → List ℕ
-  boxed_stmt_text n end_of-Stmt = []
-  boxed_stmt_text n (more_of-Stmt s rest) = stmt_text n s
+  pub stmt_texts : ℕ → Stmts → List (List ℕ)
+  stmt_texts n no_stmts = []
+  stmt_texts n (a_stmt s rest) = stmt_text n s ∷ stmt_texts n rest
 
   -- the texts of arms
-  pub arm_texts : ℕ → {n : _} → Row_of-SourceArm n → List (List ℕ)
-  arm_texts n end_of-SourceArm = []
-  arm_texts n (more_of-SourceArm pattern body rest) =
+  pub arm_texts : ℕ → SourceArms → List (List ℕ)
+  arm_texts n no_source_arms = []
+  arm_texts n (a_source_arm pattern body rest) =
       (pattern_text pattern ++ codes " : " ++ stmt_text n body) ∷ arm_texts n rest
-
--- an arm in a line of this indentation
-abbrev pub arm_text : ℕ → SourceArm → List ℕ
-arm_text n arm = pattern_text arm.pattern ++ codes " : " ++ stmt_text n arm.body
-
--- a statement on a new line of this indentation
-abbrev pub stmt_line : ℕ → Stmt → List ℕ
-stmt_line n s = new_line n ++ stmt_text n s
-
--- an arm on a new line of this indentation
-abbrev pub arm_line : ℕ → SourceArm → List ℕ
-arm_line n arm = new_line n ++ arm_text n arm

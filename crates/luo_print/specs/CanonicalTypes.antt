@@ -5,9 +5,8 @@ use Rattle.luo_model.specs.declared.program.Kind.TheVariants.{Sequence, Set, Cyc
 use Rattle.luo_source.specs.declared.types.Range.{Range}
 use Rattle.luo_source.specs.declared.types.Range.TheVariants.{Exactly, AtMost, AtLeast, Between}
 use Rattle.luo_source.specs.declared.types.Bound.{Bound}
-use Rattle.luo_source.specs.declared.types.TypeExpr.{TypeExpr, Named, Epsilon, Atom, Union', Product', Coll', Row_of-TypeExpr, end_of-TypeExpr, more_of-TypeExpr}
-use Rattle.luo_source.specs.declared.types.TypeDef.{TypeDef}
 use Rattle.luo_source.specs.declared.types.MeasureDef.{MeasureDef}
+use Rattle.luo_source.specs.Plain.Types.{TypeExpr, Named, Epsilon, Atom, Union, Product, Coll, TypeExprs, no_exprs, an_expr, TypeDef}
 use Rattle.luo_print.specs.Layout.{joined, name_list}
 
 abbrev pub kind_text : Kind → List ℕ
@@ -33,21 +32,16 @@ abbrev mutual
   expr_text (Named name) = name.text
   expr_text (Epsilon at) = codes "epsilon"
   expr_text (Atom weight weight_at at) = codes "atom(" ++ decimal weight ++ codes ")"
-  expr_text (Union' shape parts) = joined (codes " | ") (expr_texts parts)
-  expr_text (Product' shape parts at) =
+  expr_text (Union parts) = joined (codes " | ") (expr_texts parts)
+  expr_text (Product parts at) =
       codes "product(" ++ joined (codes ", ") (expr_texts parts) ++ codes ")"
-  expr_text (Coll' kind shape part bound at) =
-      kind_text kind ++ codes "(" ++ boxed_expr_text part ++ bound_text bound ++ codes ")"
+  expr_text (Coll kind part bound at) =
+      kind_text kind ++ codes "(" ++ expr_text part ++ bound_text bound ++ codes ")"
 
   -- the texts of a list
-  pub expr_texts : {n : _} → Row_of-TypeExpr n → List (List ℕ)
-  expr_texts end_of-TypeExpr = []
-  expr_texts (more_of-TypeExpr e rest) = expr_text e ∷ expr_texts rest
-
-  -- the text of what a box holds
-  pub boxed_expr_text : {n : _} → Row_of-TypeExpr n → List ℕ
-  boxed_expr_text end_of-TypeExpr = []
-  boxed_expr_text (more_of-TypeExpr e rest) = expr_text e
+  pub expr_texts : TypeExprs → List (List ℕ)
+  expr_texts no_exprs = []
+  expr_texts (an_expr e rest) = expr_text e ∷ expr_texts rest
 
 -- the line of a definition
 abbrev pub type_def_line : TypeDef → List ℕ

@@ -1,7 +1,8 @@
 // The text of procedures and whole sources.
 ghost use Rattle.std.specs.Prelude.{◌≡◌, ◌++◌, map, flat_map, IfOk, OnOk};
+ghost use Rattle.luo_source.specs.View.{stmt_list, type_def_of, proc_body_of, proc_def_of, plain_source};
 ghost use Rattle.luo_print.specs.CanonicalTypes.{type_def_line, measure_line};
-ghost use Rattle.luo_print.specs.CanonicalStatements.{block_of, stmt_text};
+ghost use Rattle.luo_print.specs.CanonicalStatements.{block_of, stmt_texts};
 ghost use Rattle.luo_print.specs.Canonical.{universe_line, body_text, proc_text, analyze_line, canonical};
 
 use crate::patterns::put_name;
@@ -24,7 +25,8 @@ fn first_line(universe: Universe) -> &'static [u8]
 
 // Puts the lines of definitions behind the text.
 fn put_type_defs(text: &mut Vec<u8>, defs: &[TypeDef]) -> Result<(), NoMemory>
-    ensures { OnOk result (text.new.items ≡ text.old.items ++ flat_map type_def_line defs.now) }
+    ensures { OnOk result (text.new.items ≡ text.old.items ++ flat_map type_def_line
+        (map type_def_of defs.now)) }
 {
     for def in defs {
         put_type_def(text, def)?;
@@ -45,7 +47,7 @@ fn put_measures(text: &mut Vec<u8>, defs: &[MeasureDef]) -> Result<(), NoMemory>
 // Puts the block of a procedure behind the text.
 fn put_statements(text: &mut Vec<u8>, stmts: &[Stmt]) -> Result<(), NoMemory>
     ensures { OnOk result (text.new.items ≡ text.old.items ++ block_of 0
-        (map (stmt_text 2) stmts.now)) }
+        (stmt_texts 2 (stmt_list stmts.now))) }
 {
     put_block(text, 0, stmts)?;
     Ok(())
@@ -53,7 +55,7 @@ fn put_statements(text: &mut Vec<u8>, stmts: &[Stmt]) -> Result<(), NoMemory>
 
 // Puts what stands behind the `)` of a procedure behind the text.
 fn put_body(text: &mut Vec<u8>, body: &ProcBody) -> Result<(), NoMemory>
-    ensures { OnOk result (text.new.items ≡ text.old.items ++ body_text body.now) }
+    ensures { OnOk result (text.new.items ≡ text.old.items ++ body_text (proc_body_of body.now)) }
 {
     match body {
         ProcBody::Statements(stmts) => {
@@ -72,7 +74,7 @@ fn put_body(text: &mut Vec<u8>, body: &ProcBody) -> Result<(), NoMemory>
 
 // Puts a procedure behind the text.
 fn put_proc(text: &mut Vec<u8>, def: &ProcDef) -> Result<(), NoMemory>
-    ensures { OnOk result (text.new.items ≡ text.old.items ++ proc_text def.now) }
+    ensures { OnOk result (text.new.items ≡ text.old.items ++ proc_text (proc_def_of def.now)) }
 {
     text.extend_from_slice(b"procedure ")?;
     put_name(text, &def.name)?;
@@ -88,7 +90,8 @@ fn put_proc(text: &mut Vec<u8>, def: &ProcDef) -> Result<(), NoMemory>
 
 // Puts procedures behind the text.
 fn put_procs(text: &mut Vec<u8>, defs: &[ProcDef]) -> Result<(), NoMemory>
-    ensures { OnOk result (text.new.items ≡ text.old.items ++ flat_map proc_text defs.now) }
+    ensures { OnOk result (text.new.items ≡ text.old.items ++ flat_map proc_text
+        (map proc_def_of defs.now)) }
 {
     for def in defs {
         put_proc(text, def)?;
@@ -120,7 +123,7 @@ fn put_analyses(text: &mut Vec<u8>, names: &[Name]) -> Result<(), NoMemory>
 ///
 /// `NoMemory` says that there was no memory for the text.
 pub fn print_source(alloc: Global, source: &Source) -> Result<Vec<u8>, NoMemory>
-    ensures { IfOk result (λ text. text.items ≡ canonical source.now) }
+    ensures { IfOk result (λ text. text.items ≡ canonical (plain_source source.now)) }
 {
     let mut text = Vec::new(alloc);
     text.extend_from_slice(first_line(source.universe))?;

@@ -1,8 +1,8 @@
 // The text of statements.
 ghost use Rattle.std.specs.Prelude.{◌≡◌, ◌+◌, ◌++◌, codes, OnOk};
-ghost use Rattle.std.specs.List.{join_by};
-ghost use Rattle.luo_print.specs.Layout.{new_line};
-ghost use Rattle.luo_print.specs.CanonicalStatements.{stmt_text, stmt_line, arm_line};
+ghost use Rattle.luo_source.specs.View.{stmt_of, stmt_list, source_arm_list};
+ghost use Rattle.luo_print.specs.Layout.{lines, new_line};
+ghost use Rattle.luo_print.specs.CanonicalStatements.{pattern_text, block_of, case_of, stmt_text, stmt_texts, arm_texts};
 
 use crate::patterns::{put_arm_head, put_call, put_case_head, put_name};
 use crate::pieces::{deeper, put_end, put_new_line};
@@ -12,7 +12,7 @@ use luo_source::{Name, SourceArm, Stmt};
 // Puts a statement behind the text, in a line of this indentation.
 #[cycle(statements)]
 fn put_stmt(text: &mut Vec<u8>, indent: usize, stmt: &Stmt) -> Result<(), NoMemory>
-    ensures { OnOk result (text.new.items ≡ text.old.items ++ stmt_text indent stmt.now) }
+    ensures { OnOk result (text.new.items ≡ text.old.items ++ stmt_text indent (stmt_of stmt.now)) }
 {
     match stmt {
         Stmt::Skip => text.extend_from_slice(b"skip")?,
@@ -49,7 +49,7 @@ fn put_forall(
 ) -> Result<(), NoMemory>
     ensures { OnOk result (text.new.items ≡ text.old.items
         ++ (codes "forall " ++ var.now.text ++ codes " in " ++ source.now.text ++ codes " do "
-        ++ stmt_text indent body.now)) }
+        ++ stmt_text indent (stmt_of body.now))) }
 {
     put_forall_head(text, var, source)?;
     put_stmt(text, indent, body)?;
@@ -59,9 +59,8 @@ fn put_forall(
 // Puts a block behind the text, in a line of this indentation.
 #[cycle(statements)]
 pub(crate) fn put_block(text: &mut Vec<u8>, indent: usize, stmts: &[Stmt]) -> Result<(), NoMemory>
-    ensures { OnOk result (text.new.items ≡ text.old.items
-        ++ (codes "begin" ++ join_by (stmt_line (indent + 2)) (codes ";") stmts.now
-        ++ new_line indent ++ codes "end")) }
+    ensures { OnOk result (text.new.items ≡ text.old.items ++ block_of indent
+        (stmt_texts (indent + 2) (stmt_list stmts.now))) }
 {
     text.extend_from_slice(b"begin")?;
     let inner = deeper(indent)?;
@@ -78,10 +77,8 @@ fn put_case(
     var: &Name,
     arms: &[SourceArm],
 ) -> Result<(), NoMemory>
-    ensures { OnOk result (text.new.items ≡ text.old.items
-        ++ (codes "case " ++ var.now.text ++ codes " of"
-        ++ join_by (arm_line (indent + 2)) (codes ";") arms.now ++ new_line indent
-        ++ codes "end")) }
+    ensures { OnOk result (text.new.items ≡ text.old.items ++ case_of indent var.now
+        (arm_texts (indent + 2) (source_arm_list arms.now))) }
 {
     put_case_head(text, var)?;
     let inner = deeper(indent)?;
@@ -93,8 +90,8 @@ fn put_case(
 // Puts statements behind the text, each on a new line of this indentation.
 #[cycle(statements)]
 fn put_stmts(text: &mut Vec<u8>, indent: usize, stmts: &[Stmt]) -> Result<(), NoMemory>
-    ensures { OnOk result (text.new.items ≡ text.old.items ++ join_by (stmt_line indent)
-        (codes ";") stmts.now) }
+    ensures { OnOk result (text.new.items ≡ text.old.items ++ lines indent
+        (stmt_texts indent (stmt_list stmts.now))) }
 {
     let [first, rest @ ..] = stmts else {
         return Ok(());
@@ -110,7 +107,8 @@ fn put_stmts(text: &mut Vec<u8>, indent: usize, stmts: &[Stmt]) -> Result<(), No
 // Puts a statement behind the text, on a new line of this indentation.
 #[cycle(statements)]
 fn put_line(text: &mut Vec<u8>, indent: usize, stmt: &Stmt) -> Result<(), NoMemory>
-    ensures { OnOk result (text.new.items ≡ text.old.items ++ stmt_line indent stmt.now) }
+    ensures { OnOk result (text.new.items ≡ text.old.items ++ (new_line indent
+        ++ stmt_text indent (stmt_of stmt.now))) }
 {
     put_new_line(text, indent)?;
     put_stmt(text, indent, stmt)?;
@@ -120,8 +118,8 @@ fn put_line(text: &mut Vec<u8>, indent: usize, stmt: &Stmt) -> Result<(), NoMemo
 // Puts arms behind the text, each on a new line of this indentation.
 #[cycle(statements)]
 fn put_arms(text: &mut Vec<u8>, indent: usize, arms: &[SourceArm]) -> Result<(), NoMemory>
-    ensures { OnOk result (text.new.items ≡ text.old.items ++ join_by (arm_line indent)
-        (codes ";") arms.now) }
+    ensures { OnOk result (text.new.items ≡ text.old.items ++ lines indent
+        (arm_texts indent (source_arm_list arms.now))) }
 {
     let [first, rest @ ..] = arms else {
         return Ok(());
@@ -137,7 +135,9 @@ fn put_arms(text: &mut Vec<u8>, indent: usize, arms: &[SourceArm]) -> Result<(),
 // Puts an arm behind the text, on a new line of this indentation.
 #[cycle(statements)]
 fn put_arm(text: &mut Vec<u8>, indent: usize, arm: &SourceArm) -> Result<(), NoMemory>
-    ensures { OnOk result (text.new.items ≡ text.old.items ++ arm_line indent arm.now) }
+    ensures { OnOk result (text.new.items ≡ text.old.items ++ (new_line indent
+        ++ (pattern_text arm.now.pattern ++ codes " : "
+        ++ stmt_text indent (stmt_of arm.now.body)))) }
 {
     put_new_line(text, indent)?;
     put_arm_head(text, &arm.pattern)?;

@@ -1,7 +1,8 @@
 // The text of type expressions.
 ghost use Rattle.std.specs.Prelude.{◌≡◌, ◌++◌, codes, decimal, OnOk};
-ghost use Rattle.std.specs.List.{join_by};
-ghost use Rattle.luo_print.specs.CanonicalTypes.{kind_text, range_text, bound_text, expr_text, type_def_line, measure_line};
+ghost use Rattle.luo_source.specs.View.{expr_of, expr_list, type_def_of};
+ghost use Rattle.luo_print.specs.Layout.{joined};
+ghost use Rattle.luo_print.specs.CanonicalTypes.{kind_text, range_text, bound_text, expr_text, expr_texts, type_def_line, measure_line};
 
 use crate::pieces::{put_names, put_number};
 use luo_model::Kind;
@@ -71,7 +72,7 @@ fn put_atom(text: &mut Vec<u8>, weight: u128) -> Result<(), NoMemory>
 // Puts a type expression behind the text.
 #[cycle(types)]
 fn put_expr(text: &mut Vec<u8>, expr: &TypeExpr) -> Result<(), NoMemory>
-    ensures { OnOk result (text.new.items ≡ text.old.items ++ expr_text expr.now) }
+    ensures { OnOk result (text.new.items ≡ text.old.items ++ expr_text (expr_of expr.now)) }
 {
     match expr {
         TypeExpr::Named(name) => {
@@ -97,7 +98,8 @@ fn put_expr(text: &mut Vec<u8>, expr: &TypeExpr) -> Result<(), NoMemory>
 #[cycle(types)]
 fn put_product(text: &mut Vec<u8>, parts: &[TypeExpr]) -> Result<(), NoMemory>
     ensures { OnOk result (text.new.items ≡ text.old.items
-        ++ (codes "product(" ++ join_by expr_text (codes ", ") parts.now ++ codes ")")) }
+        ++ (codes "product(" ++ joined (codes ", ") (expr_texts (expr_list parts.now))
+        ++ codes ")")) }
 {
     text.extend_from_slice(b"product(")?;
     put_exprs(text, b", ", parts)?;
@@ -114,7 +116,8 @@ fn put_collection(
     bound: Option<Bound>,
 ) -> Result<(), NoMemory>
     ensures { OnOk result (text.new.items ≡ text.old.items
-        ++ (kind_text kind ++ codes "(" ++ expr_text part.now ++ bound_text bound ++ codes ")")) }
+        ++ (kind_text kind ++ codes "(" ++ expr_text (expr_of part.now) ++ bound_text bound
+        ++ codes ")")) }
 {
     text.extend_from_slice(word_of(kind))?;
     text.push(b'(')?;
@@ -128,7 +131,7 @@ fn put_collection(
 #[cycle(types)]
 fn put_exprs(text: &mut Vec<u8>, between: &[u8], exprs: &[TypeExpr]) -> Result<(), NoMemory>
     ensures { OnOk result (text.new.items ≡ text.old.items
-        ++ join_by expr_text between.now exprs.now) }
+        ++ joined between.now (expr_texts (expr_list exprs.now))) }
 {
     let [first, rest @ ..] = exprs else {
         return Ok(());
@@ -143,7 +146,8 @@ fn put_exprs(text: &mut Vec<u8>, between: &[u8], exprs: &[TypeExpr]) -> Result<(
 
 // Puts the line of a definition behind the text.
 pub(crate) fn put_type_def(text: &mut Vec<u8>, def: &TypeDef) -> Result<(), NoMemory>
-    ensures { OnOk result (text.new.items ≡ text.old.items ++ type_def_line def.now) }
+    ensures { OnOk result (text.new.items ≡ text.old.items ++ type_def_line
+        (type_def_of def.now)) }
 {
     text.extend_from_slice(b"type ")?;
     put_names(text, def.names.as_slice())?;

@@ -1,8 +1,9 @@
 // The text of values.
 ghost use Rattle.std.specs.Prelude.{◌≡◌, ◌+◌, ◌++◌, codes, decimal, OnOk};
-ghost use Rattle.std.specs.List.{join_by};
-ghost use Rattle.luo_print.specs.Layout.{new_line};
-ghost use Rattle.luo_print.specs.CanonicalValues.{charge_text, opening, closing, value_text, value_arm_line};
+ghost use Rattle.luo_source.specs.View.{source_value_of, source_value_list, source_value_arm_list};
+ghost use Rattle.luo_print.specs.Layout.{joined, lines, new_line};
+ghost use Rattle.luo_print.specs.CanonicalStatements.{pattern_text, case_of};
+ghost use Rattle.luo_print.specs.CanonicalValues.{charge_text, opening, closing, value_text, value_texts, value_arm_texts};
 
 use crate::patterns::{put_arm_head, put_call, put_case_head, put_name};
 use crate::pieces::{deeper, put_end, put_new_line, put_number};
@@ -25,7 +26,7 @@ fn put_atom(text: &mut Vec<u8>, charge: &Option<Name>) -> Result<(), NoMemory>
 
 // What stands before a value directly inside a branch.
 fn open_bracket(value: &SourceValue) -> &'static [u8]
-    ensures { result.now ≡ opening value.now }
+    ensures { result.now ≡ opening (source_value_of value.now) }
 {
     match value {
         SourceValue::Branch { .. } => b"(",
@@ -35,7 +36,7 @@ fn open_bracket(value: &SourceValue) -> &'static [u8]
 
 // What stands behind a value directly inside a branch.
 fn close_bracket(value: &SourceValue) -> &'static [u8]
-    ensures { result.now ≡ closing value.now }
+    ensures { result.now ≡ closing (source_value_of value.now) }
 {
     match value {
         SourceValue::Branch { .. } => b")",
@@ -50,7 +51,8 @@ pub(crate) fn put_value(
     indent: usize,
     value: &SourceValue,
 ) -> Result<(), NoMemory>
-    ensures { OnOk result (text.new.items ≡ text.old.items ++ value_text indent value.now) }
+    ensures { OnOk result (text.new.items ≡ text.old.items ++ value_text indent
+        (source_value_of value.now)) }
 {
     match value {
         SourceValue::Given(name) => put_name(text, name)?,
@@ -69,7 +71,8 @@ pub(crate) fn put_value(
 #[cycle(values)]
 fn put_tuple(text: &mut Vec<u8>, indent: usize, parts: &[SourceValue]) -> Result<(), NoMemory>
     ensures { OnOk result (text.new.items ≡ text.old.items
-        ++ (codes "product(" ++ join_by (value_text indent) (codes ", ") parts.now ++ codes ")")) }
+        ++ (codes "product("
+        ++ joined (codes ", ") (value_texts indent (source_value_list parts.now)) ++ codes ")")) }
 {
     text.extend_from_slice(b"product(")?;
     put_parts(text, indent, parts)?;
@@ -80,8 +83,8 @@ fn put_tuple(text: &mut Vec<u8>, indent: usize, parts: &[SourceValue]) -> Result
 // Puts values behind the text, with commas between them.
 #[cycle(values)]
 fn put_parts(text: &mut Vec<u8>, indent: usize, parts: &[SourceValue]) -> Result<(), NoMemory>
-    ensures { OnOk result (text.new.items ≡ text.old.items ++ join_by (value_text indent)
-        (codes ", ") parts.now) }
+    ensures { OnOk result (text.new.items ≡ text.old.items ++ joined (codes ", ")
+        (value_texts indent (source_value_list parts.now))) }
 {
     let [first, rest @ ..] = parts else {
         return Ok(());
@@ -102,9 +105,9 @@ fn put_branch(
     number: u128,
     inner: &SourceValue,
 ) -> Result<(), NoMemory>
-    ensures { OnOk result (text.new.items ≡ text.old.items
-        ++ (decimal number ++ codes " : "
-        ++ (opening inner.now ++ value_text indent inner.now ++ closing inner.now))) }
+    ensures { let value = source_value_of inner.now in OnOk result (text.new.items
+        ≡ text.old.items ++ (decimal number ++ codes " : "
+        ++ (opening value ++ value_text indent value ++ closing value))) }
 {
     put_number(text, number)?;
     text.extend_from_slice(b" : ")?;
@@ -122,10 +125,8 @@ fn put_value_case(
     var: &Name,
     arms: &[SourceValueArm],
 ) -> Result<(), NoMemory>
-    ensures { OnOk result (text.new.items ≡ text.old.items
-        ++ (codes "case " ++ var.now.text ++ codes " of"
-        ++ join_by (value_arm_line (indent + 2)) (codes ";") arms.now ++ new_line indent
-        ++ codes "end")) }
+    ensures { OnOk result (text.new.items ≡ text.old.items ++ case_of indent var.now
+        (value_arm_texts (indent + 2) (source_value_arm_list arms.now))) }
 {
     put_case_head(text, var)?;
     let inner = deeper(indent)?;
@@ -141,8 +142,8 @@ fn put_value_arms(
     indent: usize,
     arms: &[SourceValueArm],
 ) -> Result<(), NoMemory>
-    ensures { OnOk result (text.new.items ≡ text.old.items ++ join_by (value_arm_line indent)
-        (codes ";") arms.now) }
+    ensures { OnOk result (text.new.items ≡ text.old.items ++ lines indent
+        (value_arm_texts indent (source_value_arm_list arms.now))) }
 {
     let [first, rest @ ..] = arms else {
         return Ok(());
@@ -158,7 +159,9 @@ fn put_value_arms(
 // Puts an arm behind the text, on a new line of this indentation.
 #[cycle(values)]
 fn put_value_arm(text: &mut Vec<u8>, indent: usize, arm: &SourceValueArm) -> Result<(), NoMemory>
-    ensures { OnOk result (text.new.items ≡ text.old.items ++ value_arm_line indent arm.now) }
+    ensures { OnOk result (text.new.items ≡ text.old.items ++ (new_line indent
+        ++ (pattern_text arm.now.pattern ++ codes " : "
+        ++ value_text indent (source_value_of arm.now.body)))) }
 {
     put_new_line(text, indent)?;
     put_arm_head(text, &arm.pattern)?;

@@ -1,5 +1,5 @@
 use Rattle.std.proofs.Common.{◌≡◌, ◌++◌, codes, take, flat_map}
-use Rattle.luo_print.specs.CanonicalStatements.{stmt_line, arm_line}
+use Rattle.luo_print.proofs.StatementTexts.{stmt_line, arm_line}
 use Rattle.luo_print.proofs.statements.+statements.Given as goal
 
 abbrev pub invariant-put_stmts-loop-stmt : goal.invariant-put_stmts-loop-stmt
