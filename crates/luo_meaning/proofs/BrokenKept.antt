@@ -1,12 +1,10 @@
 -- What a source breaks by the nodes of its core form, and by its types as they are written.
 use Rattle.std.proofs.Common.{◌≡◌, ◌↔◌, ℕ, suc, ◌≤◌, List, [], ◌∷◌, map, Option, Some, None, refl, sym, ap, ◌∙◌, subst, inl, inr, arith}
-use Rattle.std.specs.Prelude.{flat_map}
 use Rattle.luo_finite.specs.Listing.{In}
 use Rattle.luo_source.specs.declared.names.Name.{Name}
 use Rattle.luo_source.specs.Plain.Source.{ProcBody, Statements, Value, ProcDef, Source}
 use Rattle.luo_rules.specs.declared.names.Meaning.TheVariants as mean
 use Rattle.luo_rules.specs.declared.rule.Breach.{Breach}
-use Rattle.luo_rules.specs.declared.setting.Variable.{Variable}
 use Rattle.luo_rules.specs.Breaches.{◌or_if_none◌}
 use Rattle.luo_rules.specs.Settings.{meant, node_meant, type_node, part_meant}
 use Rattle.luo_rules.specs.Definitions.{definitions, measures, names_of}
@@ -23,7 +21,7 @@ use Rattle.luo_rules.proofs.DefinitionFacts.{SoundAll}
 use Rattle.luo_rules.proofs.ProperSource.{source_proper}
 use Rattle.luo_rules.proofs.RiseSource.{first_breach_is_least, breaches_are_single}
 use Rattle.luo_meaning.specs.Places.{Placed, of_name}
-use Rattle.luo_meaning.specs.Scopes.{Scope, one_variable}
+use Rattle.luo_meaning.specs.Scopes.{one_variable}
 use Rattle.luo_meaning.specs.Broken.{WantedResult, the_type, no_type, ValueBreaks, BodyBreaks, ProcBreaks, ProcsBreak, DefinitionsBreak, ProceduresBreak, IsBrokenIn, IsFirstBrokenIn}
 use Rattle.luo_meaning.proofs.PlacedTypes.{name_holds}
 use Rattle.luo_meaning.proofs.BrokenNames.{or_iff, then_iff, Asks, asks_nil, asks_cons, asks_append, of_names, some_of_names, first_names, line_names}

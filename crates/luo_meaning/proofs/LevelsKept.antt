@@ -1,6 +1,6 @@
 -- The levels of bodies and procedures in the core form are those of the source as written.
 use Rattle.std.proofs.Common.{◌≡◌, ◌↔◌, ℕ, zero, suc, ◌+◌, List, [], ◌∷◌, ◌++◌, Option, Some, None, slice_get, refl, sym, ap, ◌∙◌, subst, arith}
-use Rattle.std.specs.Prelude.{flat_map, max, sum_by}
+use Rattle.std.specs.Prelude.{max}
 use Rattle.luo_model.specs.Program as plain
 use Rattle.luo_model.specs.Program.{Procedure, Body, Does, Items, no_items, item, Item, Arms}
 use Rattle.luo_model.specs.Levels as model

@@ -1,5 +1,5 @@
 -- Nodes and constructs of a source go together, with the same structures.
-use Rattle.std.proofs.Common.{◌≡◌, ℕ, zero, suc, ◌+◌, ◌<◌, ◌↔◌, List, [], ◌∷◌, length, Some, slice_get, refl, sym, ap, ◌∙◌, subst, inl, inr, arith}
+use Rattle.std.proofs.Common.{◌≡◌, ℕ, zero, suc, ◌+◌, ◌<◌, ◌↔◌, length, Some, slice_get, refl, sym, ◌∙◌, subst, inl, inr, arith}
 use Rattle.luo_model.specs.declared.program.Node.{Node}
 use Rattle.luo_model.specs.Tree.{Tree}
 use Rattle.luo_model.specs.Member.{Member}
@@ -9,7 +9,7 @@ use Rattle.luo_rules.specs.Counted.{own_nodes}
 use Rattle.luo_rules.specs.Definitions.{definitions, names_of, first_node}
 use Rattle.luo_rules.specs.Nodes.{Spot, behind, part_at, nodes_at, all_nodes_at, start}
 use Rattle.luo_rules.specs.Whole.{core}
-use Rattle.luo_rules.proofs.Lists.{some_same, none_some, get_cases, below_get}
+use Rattle.luo_rules.proofs.Lists.{none_some, get_cases, below_get}
 use Rattle.luo_rules.proofs.NodeLists.{nodes_length}
 use Rattle.luo_rules.proofs.CoreNodes.{at_node}
 use Rattle.luo_rules.proofs.CleanSource.{Clean}

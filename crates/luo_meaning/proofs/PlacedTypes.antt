@@ -11,7 +11,7 @@ use Rattle.luo_source.specs.Plain.Types.{TypeExpr, Named, Epsilon, Union, Produc
 use Rattle.luo_source.specs.Plain.Source.{Source}
 use Rattle.luo_rules.specs.declared.names.Meaning.{Meaning}
 use Rattle.luo_rules.specs.declared.names.Meaning.TheVariants as mean
-use Rattle.luo_rules.specs.Counted.{own_nodes, count_exprs}
+use Rattle.luo_rules.specs.Counted.{own_nodes}
 use Rattle.luo_rules.specs.Meanings.{meaning, type_use}
 use Rattle.luo_rules.specs.Definitions.{Definition, definitions, names_of, definition_meant, named_by, named_at, next, first_node}
 use Rattle.luo_rules.specs.inner.Naming.{node_of}

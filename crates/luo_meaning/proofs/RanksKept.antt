@@ -1,5 +1,5 @@
 -- The rank of a node is that of the type expression that it stands for.
-use Rattle.std.proofs.Common.{◌≡◌, ◌↔◌, ℕ, zero, suc, List, [], ◌∷◌, Option, Some, None, refl, sym, ap, ◌∙◌, subst, inl, inr, arith}
+use Rattle.std.proofs.Common.{◌≡◌, ◌↔◌, ℕ, zero, suc, List, [], ◌∷◌, Option, Some, None, refl, sym, ap, subst, inl, inr, arith}
 use Rattle.luo_finite.specs.Listing.{In}
 use Rattle.luo_finite.specs.Walk.{Walk}
 use Rattle.luo_founded.proofs.MadeLemmas.{zero_of_member}

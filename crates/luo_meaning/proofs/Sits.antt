@@ -10,7 +10,7 @@ use Rattle.luo_model.specs.declared.program.Kind.{Kind}
 use Rattle.luo_source.specs.declared.types.Bound.{Bound}
 use Rattle.luo_source.specs.Plain.Types.{TypeExpr, Named, Epsilon, Atom, Union, Product, Coll, TypeExprs, no_exprs, an_expr}
 use Rattle.luo_source.specs.Plain.Source.{Source}
-use Rattle.luo_rules.specs.Counted.{own_nodes, count_exprs}
+use Rattle.luo_rules.specs.Counted.{own_nodes}
 use Rattle.luo_rules.specs.Definitions.{Definition, definitions, names_of, first_node}
 use Rattle.luo_rules.specs.TypeBreaches.{expr_breaches, exprs_breaches, kind_breaches, bound_breaches, low_of, high_of}
 use Rattle.luo_rules.specs.Nodes.{Spot, behind, part_at, parts_at, nodes_at, all_nodes_at, start, nodes_from}

@@ -1,7 +1,5 @@
 -- What statements charge: the body of their core form against the forms as written.
-use Rattle.std.proofs.Common.{◌≡◌, ℕ, zero, suc, ◌+◌, ◌↔◌, List, [], ◌∷◌, length, sum_by, Option, Some, None, slice_get, refl, sym, ap, ◌∙◌, subst, arith}
-use Rattle.std.specs.Prelude.{flat_map}
-use Rattle.std.proofs.lemmas.List.Sums.{sum_by-cons}
+use Rattle.std.proofs.Common.{◌≡◌, ℕ, zero, suc, ◌+◌, ◌↔◌, List, [], ◌∷◌, length, Option, Some, None, slice_get, refl, sym, ap, ◌∙◌, subst, arith}
 use Rattle.luo_model.specs.declared.body.Bind.{Bind}
 use Rattle.luo_model.specs.declared.program.Part.{Part}
 use Rattle.luo_model.specs.declared.program.Shape.{Shape}
@@ -12,7 +10,6 @@ use Rattle.luo_model.specs.Program.{Body, Does, Items, no_items, Arms, no_arms, 
 use Rattle.luo_model.specs.Charges as model
 use Rattle.luo_model.specs.Charges.{EachCharges, ItemCharges, CaseCharges}
 use Rattle.luo_model.specs.Scopes.Stands.{Stand}
-use Rattle.luo_model.specs.Scopes.ValueBodies.{join_items}
 use Rattle.luo_source.specs.declared.names.Name.{Name}
 use Rattle.luo_source.specs.declared.statements.Pattern.{Pattern}
 use Rattle.luo_source.specs.Plain.Statements.{Stmt, Skip, Charge, Call, Block, Case, Forall, Stmts, no_stmts, a_stmt, SourceArms, no_source_arms, a_source_arm}

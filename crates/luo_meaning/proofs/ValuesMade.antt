@@ -1,5 +1,5 @@
 -- What values make: their core form, where a node is expected, against the forms as written, where a type expression is wanted.
-use Rattle.std.proofs.Common.{◌≡◌, ℕ, zero, suc, ◌↔◌, ◌≤◌, List, [], ◌∷◌, map, length, Option, Some, None, slice_get, refl, sym, ap, ◌∙◌, subst, arith}
+use Rattle.std.proofs.Common.{◌≡◌, ℕ, zero, suc, ◌↔◌, List, [], ◌∷◌, map, length, Option, Some, None, slice_get, refl, sym, ap, ◌∙◌, subst, arith}
 use Rattle.std.specs.Prelude.{Bool, true, false, if◌then◌else◌, codes, decimal}
 use Rattle.std.proofs.lemmas.List.{length-map}
 use Rattle.luo_model.specs.declared.body.Bind.{Bind}

@@ -209,8 +209,8 @@ module _ (source : Source) where
     ValuesBreak scope (e ∷ es) (a_source_value v rest) b =
         ValueBreaks scope (Some e) v b ⊎ ValuesBreak scope es rest b
 
-    pub ValueArmsBreak : List Look → Option Placed → Name → SourceValueArms
-        → Breach → Type 0
+    pub ValueArmsBreak : List Look → Option Placed → Name → SourceValueArms → Breach
+        → Type 0
     ValueArmsBreak (look ∷ looks) wanted var (a_source_value_arm pattern v rest) b =
         PatternBreaks look var pattern b
         ⊎ (Fits source look pattern

@@ -1,5 +1,5 @@
 -- The constructs of a source: what stands in a right side, but for names.
-use Rattle.std.specs.Prelude.{◌≡◌, ℕ, List, [], ◌∷◌, Option, Some, slice_get}
+use Rattle.std.specs.Prelude.{◌≡◌, ℕ, List, Option, Some, slice_get}
 use Rattle.luo_model.specs.declared.program.Kind.{Kind}
 use Rattle.luo_source.specs.declared.types.Bound.{Bound}
 use Rattle.luo_source.specs.Plain.Types.{TypeExpr, Named, Union, Product, Coll}

@@ -18,7 +18,8 @@ choices = record {
       record { names = name (codes "a") 1 ∷ name (codes "b") 3 ∷ []; body = Atom 1 7 5 }
       ∷ record {
         names = name (codes "z") 11 ∷ [];
-        body = Union (an_expr (Named (name (codes "a") 13))
+        body =
+            Union (an_expr (Named (name (codes "a") 13))
             (an_expr (Named (name (codes "b") 15)) no_exprs));
       }
       ∷ record {
@@ -41,7 +42,10 @@ choices = record {
         param = name (codes "s") 49;
         on = name (codes "u") 51;
         body =
-            Statements (a_stmt (Forall (name (codes "y") 56) (name (codes "s") 58) (Charge (name (codes "m") 60))) no_stmts);
+            Statements
+            (a_stmt
+            (Forall (name (codes "y") 56) (name (codes "s") 58)
+            (Charge (name (codes "m") 60))) no_stmts);
       }
       ∷ [];
   analyses = name (codes "p") 64 ∷ [];
@@ -57,13 +61,18 @@ spines = record binary_source {
         param = name (codes "t") 35;
         on = name (codes "tree") 37;
         body =
-            Statements (a_stmt (Case (name (codes "t") 42) (a_source_arm (pattern.Named (name (codes "leaf") 44)) Skip
+            Statements
+            (a_stmt
+            (Case (name (codes "t") 42)
+            (a_source_arm (pattern.Named (name (codes "leaf") 44)) Skip
             (a_source_arm
             (pattern.Parts
             (name (codes "n") 49 ∷ name (codes "l") 51 ∷ name (codes "r") 53 ∷ []) 48)
-            (Block (a_stmt (Charge (name (codes "step") 57))
+            (Block
+            (a_stmt (Charge (name (codes "step") 57))
             (a_stmt
-            (Call (name (codes "spine") 59) (name (codes "l") 61)) no_stmts))) no_source_arms))) no_stmts);
+            (Call (name (codes "spine") 59) (name (codes "l") 61)) no_stmts)))
+            no_source_arms))) no_stmts);
       }
       ∷ [];
   analyses = name (codes "spine") 68 ∷ [];

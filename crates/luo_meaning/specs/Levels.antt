@@ -1,5 +1,5 @@
 -- How deep calls of a variable's own structure go.
-use Rattle.std.specs.Prelude.{◌≡◌, ℕ, zero, suc, List, [], ◌∷◌, max}
+use Rattle.std.specs.Prelude.{◌≡◌, ℕ, zero, suc, List, max}
 use Rattle.luo_source.specs.Plain.Statements.{Stmt, Call, Block, Case, Forall, Stmts, no_stmts, a_stmt}
 use Rattle.luo_source.specs.Plain.Values as value
 use Rattle.luo_source.specs.Plain.Values.{SourceValue, Made, Tuple, Branch, SourceValues, no_source_values, a_source_value}

@@ -16,8 +16,7 @@ abbrev mutual
   constructs_in (type.Atom weight weight_at at) = type.Atom weight weight_at at ∷ []
   constructs_in (Union parts) = Union parts ∷ constructs_among parts
   constructs_in (Product parts at) = Product parts at ∷ constructs_among parts
-  constructs_in (Coll kind part bound at) =
-      Coll kind part bound at ∷ constructs_in part
+  constructs_in (Coll kind part bound at) = Coll kind part bound at ∷ constructs_in part
 
   pub constructs_among : TypeExprs → List TypeExpr
   constructs_among no_exprs = []
@@ -38,7 +37,7 @@ of_name name = record { name = []; place = 0; form = Named name }
 abbrev pub right_of : Definition → Placed
 right_of d = record { name = d.name.text; place = 0; form = d.right }
 
--- type expressions of a row, the first behind so many constructs
+-- type expressions in their places, the first behind so many constructs
 abbrev pub parts_from : List ℕ → ℕ → TypeExprs → List Placed
 parts_from text place no_exprs = []
 parts_from text place (an_expr e rest) =

@@ -1,5 +1,5 @@
 -- How far the structures of a type expression go down without getting smaller.
-use Rattle.std.specs.Prelude.{◌≡◌, ℕ, zero, suc, ◌≤◌, [], ◌∷◌, Option, Some, slice_get}
+use Rattle.std.specs.Prelude.{◌≡◌, ℕ, zero, suc, ◌≤◌, Option, Some, slice_get}
 use Rattle.luo_model.specs.declared.program.Kind.{Kind}
 use Rattle.luo_model.specs.Tree.{Tree, size_of}
 use Rattle.luo_source.specs.declared.types.Bound.{Bound}

@@ -7,7 +7,6 @@ use Rattle.luo_source.specs.Plain.Types as type
 use Rattle.luo_source.specs.Plain.Statements.{Stmt, Block, Case, Forall, Stmts, no_stmts, a_stmt, SourceArms, no_source_arms, a_source_arm}
 use Rattle.luo_source.specs.Plain.Source.{ProcBody, Statements, Value, ProcDef, Source}
 use Rattle.luo_rules.specs.Counted.{multiset_of}
-use Rattle.luo_meaning.specs.Structures.{exprs_in}
 use Rattle.luo_meaning.specs.Types.{LeadsTo, Types, type_of, BindsTypes, AreStands}
 
 -- a walk over e has components of f, and counts 1 where e leads to a multiset or a powerset, and
