@@ -1,7 +1,7 @@
 -- Which types of a small source are the same, and what a call breaks.
 use Rattle.std.proofs.Common.{◌≡◌, ℕ, List, Some, true, false, slice_get, codes, refl, sym, ap, ◌∙◌, subst, inl, inr, arith}
 use Rattle.luo_source.specs.declared.names.Name.{Name}
-use Rattle.luo_source.specs.declared.source.ProcDef.{ProcDef}
+use Rattle.luo_source.specs.Plain.Source.{ProcDef}
 use Rattle.luo_rules.specs.declared.names.Meaning.{Meaning}
 use Rattle.luo_rules.specs.declared.names.Meaning.TheVariants as mean
 use Rattle.luo_rules.specs.declared.rule.Breach.{Breach}

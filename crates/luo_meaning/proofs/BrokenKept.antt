@@ -1,16 +1,10 @@
 -- What a source breaks by the nodes of its core form, and by its types as they are written.
 use Rattle.std.proofs.Common.{◌≡◌, ◌↔◌, ℕ, suc, ◌≤◌, List, [], ◌∷◌, map, Option, Some, None, refl, sym, ap, ◌∙◌, subst, inl, inr, arith}
-use Rattle.std.specs.Prelude.{flat_map}
 use Rattle.luo_finite.specs.Listing.{In}
 use Rattle.luo_source.specs.declared.names.Name.{Name}
-use Rattle.luo_source.specs.declared.statements.Stmt.{Stmt}
-use Rattle.luo_source.specs.declared.source.ProcBody.{ProcBody}
-use Rattle.luo_source.specs.declared.source.ProcBody.TheVariants.{Statements, Value}
-use Rattle.luo_source.specs.declared.source.ProcDef.{ProcDef}
-use Rattle.luo_source.specs.declared.source.Source.{Source}
+use Rattle.luo_source.specs.Plain.Source.{ProcBody, Statements, Value, ProcDef, Source}
 use Rattle.luo_rules.specs.declared.names.Meaning.TheVariants as mean
 use Rattle.luo_rules.specs.declared.rule.Breach.{Breach}
-use Rattle.luo_rules.specs.declared.setting.Variable.{Variable}
 use Rattle.luo_rules.specs.Breaches.{◌or_if_none◌}
 use Rattle.luo_rules.specs.Settings.{meant, node_meant, type_node, part_meant}
 use Rattle.luo_rules.specs.Definitions.{definitions, measures, names_of}
@@ -18,7 +12,7 @@ use Rattle.luo_rules.specs.TypeBreaches.{types_breaches, measures_breaches}
 use Rattle.luo_rules.specs.Nodes.{setting_of}
 use Rattle.luo_rules.specs.Whole.{parameter, breaches}
 use Rattle.luo_rules.specs.Checks.{IsSource, BreaksFirst}
-use Rattle.luo_rules.specs.Asked.{Asked, a_type, a_procedure, defines, uses, results, stmt_asked, value_asked, body_asked, procs_asked, first_asked, later_asked}
+use Rattle.luo_rules.specs.Asked.{Asked, a_type, a_procedure, defines, uses, results, value_asked, body_asked, procs_asked, first_asked, later_asked}
 use Rattle.luo_rules.proofs.Lists.{none_some, nil_left}
 use Rattle.luo_rules.proofs.AskedBreaches.{own, all, first_of, later_of, first_all, later_all}
 use Rattle.luo_rules.proofs.BrokenLemmas.{In_flat, flat_In, own_breaks, breaks_own}
@@ -27,21 +21,15 @@ use Rattle.luo_rules.proofs.DefinitionFacts.{SoundAll}
 use Rattle.luo_rules.proofs.ProperSource.{source_proper}
 use Rattle.luo_rules.proofs.RiseSource.{first_breach_is_least, breaches_are_single}
 use Rattle.luo_meaning.specs.Places.{Placed, of_name}
-use Rattle.luo_meaning.specs.Scopes.{Scope, one_variable}
-use Rattle.luo_meaning.specs.Broken.{ListBreaks, WantedResult, the_type, no_type, ValueBreaks, BodyBreaks, ProcBreaks, ProcsBreak, DefinitionsBreak, ProceduresBreak, IsBrokenIn, IsFirstBrokenIn}
+use Rattle.luo_meaning.specs.Scopes.{one_variable}
+use Rattle.luo_meaning.specs.Broken.{WantedResult, the_type, no_type, ValueBreaks, BodyBreaks, ProcBreaks, ProcsBreak, DefinitionsBreak, ProceduresBreak, IsBrokenIn, IsFirstBrokenIn}
 use Rattle.luo_meaning.proofs.PlacedTypes.{name_holds}
 use Rattle.luo_meaning.proofs.BrokenNames.{or_iff, then_iff, Asks, asks_nil, asks_cons, asks_append, of_names, some_of_names, first_names, line_names}
 use Rattle.luo_meaning.proofs.BrokenScopes.{AgreeScope, one_agrees, type_node_is, type_node_means, type_holds}
-use Rattle.luo_meaning.proofs.BrokenStatements.{stmt_same}
+use Rattle.luo_meaning.proofs.BrokenStatements.{stmts_same}
 use Rattle.luo_meaning.proofs.BrokenValues.{AgreeWanted, value_same}
 
 module _ (source : Source) (sound : SoundAll source.universe (names_of source) (definitions source)) where
-  list_same : (stmts : List Stmt) (scope : List Variable) (types : Scope) → AgreeScope source scope types → (b : Breach) → Asks source (flat_map (stmt_asked (setting_of source) scope) stmts) b ↔ ListBreaks source types stmts b
-  list_same [] scope types agree b = asks_nil source b
-  list_same (stmt ∷ stmts) scope types agree b =
-      then_iff (asks_append source (stmt_asked (setting_of source) scope stmt) (flat_map (stmt_asked (setting_of source) scope) stmts) b)
-      (or_iff (stmt_same source sound stmt scope types agree b) (list_same stmts scope types agree b))
-
   -- the type of a result
   result_agrees : (r : Name) (w : Option Placed) → WantedResult source r w → AgreeWanted source sound (type_node (setting_of source) r) w
   result_agrees r w (the_type m) = subst (λ o. AgreeWanted source sound o (Some (of_name r))) (sym (type_node_is source sound r m.0 m.1)) (name_holds source sound r m.0 m.1)
@@ -70,7 +58,7 @@ module _ (source : Source) (sound : SoundAll source.universe (names_of source) (
   inner_same : (p : ProcDef) (body : ProcBody) (o : Option ℕ) → type_node (setting_of source) p.on ≡ o → (b : Breach) → Asks source (body_asked (setting_of source) p o body) b ↔ BodyBreaks source p body b
   inner_same p (Statements stmts) None e b = (λ h. absurd h.1, λ h. absurd (none_some _ (sym e ∙ type_node_is source sound p.on h.0.0 h.0.1)))
   inner_same p (Statements stmts) (Some node) e b =
-      let same = list_same stmts (parameter (setting_of source) p) (one_variable p.param (of_name p.on)) (parameter_agrees p node e) b in
+      let same = stmts_same source sound stmts (parameter (setting_of source) p) (one_variable p.param (of_name p.on)) (parameter_agrees p node e) b in
       (λ h. (type_node_means source sound p.on node e, same.0 h), λ h. same.1 h.1)
   inner_same p (Value colon result value) None e b =
       then_iff (asks_cons source (results colon p.name) (uses a_type result ∷ []) b)

@@ -5,11 +5,10 @@ use Rattle.luo_finite.proofs.Membership.{In-append_left, In-append_right, In-app
 use Rattle.luo_model.specs.declared.program.Kind.{Kind}
 use Rattle.luo_source.specs.declared.names.Name.{Name}
 use Rattle.luo_source.specs.declared.types.Bound.{Bound}
-use Rattle.luo_source.specs.declared.types.TypeExpr.{TypeExpr, Named, Epsilon, Atom, Union', Product', Coll', Row_of-TypeExpr, end_of-TypeExpr, more_of-TypeExpr}
-use Rattle.luo_source.specs.declared.types.TypeDef.{TypeDef}
+use Rattle.luo_source.specs.Plain.Types.{TypeExpr, Named, Epsilon, Atom, Union, Product, Coll, TypeExprs, no_exprs, an_expr, TypeDef}
 use Rattle.luo_source.specs.declared.statements.Pattern.{Pattern}
 use Rattle.luo_source.specs.declared.statements.Pattern.TheVariants as pattern
-use Rattle.luo_source.specs.declared.source.Source.{Source}
+use Rattle.luo_source.specs.Plain.Source.{Source}
 use Rattle.luo_rules.specs.declared.names.Meaning.TheVariants as mean
 use Rattle.luo_rules.specs.declared.rule.Breach.{Breach}
 use Rattle.luo_rules.specs.Definitions.{definitions, measures}
@@ -145,21 +144,21 @@ module _ (source : Source) where
     expr_names (Named name) = one_name (uses a_type name) [] tt no_names
     expr_names (Epsilon at) = no_names
     expr_names (Atom weight weight_at at) = one_name (weighs weight weight_at) [] tt no_names
-    expr_names (Union' size parts) = exprs_names parts
-    expr_names (Product' size parts at) = exprs_names parts
-    expr_names (Coll' kind size part bound at) = one_name (collects kind at) (exprs_asked part ++ bound_asked kind bound) tt (both_names (exprs_asked part) (bound_asked kind bound) (exprs_names part) (bound_names kind bound))
+    expr_names (Union parts) = exprs_names parts
+    expr_names (Product parts at) = exprs_names parts
+    expr_names (Coll kind part bound at) = one_name (collects kind at) (expr_asked part ++ bound_asked kind bound) tt (both_names (expr_asked part) (bound_asked kind bound) (expr_names part) (bound_names kind bound))
 
-    exprs_names : {n : _} (row : Row_of-TypeExpr n) → AllOfNames (exprs_asked row)
-    exprs_names end_of-TypeExpr = no_names
-    exprs_names (more_of-TypeExpr e rest) = both_names (expr_asked e) (exprs_asked rest) (expr_names e) (exprs_names rest)
+    exprs_names : (row : TypeExprs) → AllOfNames (exprs_asked row)
+    exprs_names no_exprs = no_names
+    exprs_names (an_expr e rest) = both_names (expr_asked e) (exprs_asked rest) (expr_names e) (exprs_names rest)
 
   renamed_names : (i : ℕ) (owners : List Name) (e : TypeExpr) → AllOfNames (renames_asked i owners e)
   renamed_names i owners (Named name) = one_name (renames i owners name) [] tt no_names
   renamed_names i owners (Epsilon at) = no_names
   renamed_names i owners (Atom weight weight_at at) = no_names
-  renamed_names i owners (Union' size parts) = no_names
-  renamed_names i owners (Product' size parts at) = no_names
-  renamed_names i owners (Coll' kind size part bound at) = no_names
+  renamed_names i owners (Union parts) = no_names
+  renamed_names i owners (Product parts at) = no_names
+  renamed_names i owners (Coll kind part bound at) = no_names
 
   new_names : (i : ℕ) (names : List Name) → AllOfNames (new_asked i names)
   new_names i [] = no_names

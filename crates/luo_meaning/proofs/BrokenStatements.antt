@@ -8,8 +8,8 @@ use Rattle.luo_model.specs.declared.program.Shape.TheVariants as shape
 use Rattle.luo_model.specs.Scopes.Stands.{Stand, stands, IsCollection}
 use Rattle.luo_source.specs.declared.names.Name.{Name}
 use Rattle.luo_source.specs.declared.statements.Pattern.{Pattern}
-use Rattle.luo_source.specs.declared.statements.Stmt.{Stmt, Skip, Charge, Call, Block', Case', Forall', Row_of-Stmt, end_of-Stmt, more_of-Stmt, Row_of-SourceArm, end_of-SourceArm, more_of-SourceArm}
-use Rattle.luo_source.specs.declared.source.Source.{Source}
+use Rattle.luo_source.specs.Plain.Statements.{Stmt, Skip, Charge, Call, Block, Case, Forall, Stmts, no_stmts, a_stmt, SourceArms, no_source_arms, a_source_arm}
+use Rattle.luo_source.specs.Plain.Source.{Source}
 use Rattle.luo_rules.specs.declared.rule.Breach.{Breach}
 use Rattle.luo_rules.specs.declared.setting.Variable.{Variable}
 use Rattle.luo_rules.specs.Settings.{found, case_stands}
@@ -288,30 +288,30 @@ module _ (source : Source) (all : SoundAll source.universe (names_of source) (de
     stmt_same Skip scope types agree b = asks_nil source b
     stmt_same (Charge measure) scope types agree b = then_iff (asks_one source (uses a_measure measure) b) (of_names source (uses a_measure measure) b tt)
     stmt_same (Call callee arg) scope types agree b = call_same scope types agree callee arg b
-    stmt_same (Block' size stmts) scope types agree b = stmts_same stmts scope types agree b
-    stmt_same (Case' var size arms) scope types agree b =
+    stmt_same (Block stmts) scope types agree b = stmts_same stmts scope types agree b
+    stmt_same (Case var arms) scope types agree b =
         let ss = case_stands (setting_of source) (found scope var) in
         case_same scope types agree var (count_arms arms) (arms_asked (setting_of source) ss var arms) b (λ looks. ArmsBreak source looks var arms b)
         (λ looks agree_looks. arms_same arms ss looks var agree_looks b)
-    stmt_same (Forall' var over size body) scope types agree b =
+    stmt_same (Forall var over body) scope types agree b =
         let inside : List Variable = record { name = var.text; part = walked (setting_of source) (found scope over) } ∷ [] in
-        walk_same scope types agree over (stmts_asked (setting_of source) inside body) b (λ f. StmtsBreak source (one_variable var f) body b)
-        (λ v f e h. stmts_same body inside (one_variable var f) (one_agrees source var (walked (setting_of source) (found scope over)) f h) b)
+        walk_same scope types agree over (stmt_asked (setting_of source) inside body) b (λ f. StmtBreaks source (one_variable var f) body b)
+        (λ v f e h. stmt_same body inside (one_variable var f) (one_agrees source var (walked (setting_of source) (found scope over)) f h) b)
 
-    pub stmts_same : {n : _} (row : Row_of-Stmt n) (scope : List Variable) (types : Scope) → AgreeScope source scope types → (b : Breach) → Asks source (stmts_asked (setting_of source) scope row) b ↔ StmtsBreak source types row b
-    stmts_same end_of-Stmt scope types agree b = asks_nil source b
-    stmts_same (more_of-Stmt stmt rest) scope types agree b =
+    pub stmts_same : (row : Stmts) (scope : List Variable) (types : Scope) → AgreeScope source scope types → (b : Breach) → Asks source (stmts_asked (setting_of source) scope row) b ↔ StmtsBreak source types row b
+    stmts_same no_stmts scope types agree b = asks_nil source b
+    stmts_same (a_stmt stmt rest) scope types agree b =
         then_iff (asks_append source (stmt_asked (setting_of source) scope stmt) (stmts_asked (setting_of source) scope rest) b) (or_iff (stmt_same stmt scope types agree b) (stmts_same rest scope types agree b))
 
-    arms_same : {n : _} (row : Row_of-SourceArm n) (ss : List Stand) (looks : List Look) (var : Name) → AgreeLooks source ss looks → (b : Breach) → Asks source (arms_asked (setting_of source) ss var row) b ↔ ArmsBreak source looks var row b
-    arms_same end_of-SourceArm [] [] var agree b = asks_nil source b
-    arms_same end_of-SourceArm [] (l ∷ looks) var agree b = absurd agree
-    arms_same end_of-SourceArm (s ∷ ss) [] var agree b = absurd agree
-    arms_same end_of-SourceArm (s ∷ ss) (l ∷ looks) var agree b = asks_nil source b
-    arms_same (more_of-SourceArm pattern body rest) [] [] var agree b = asks_nil source b
-    arms_same (more_of-SourceArm pattern body rest) [] (l ∷ looks) var agree b = absurd agree
-    arms_same (more_of-SourceArm pattern body rest) (s ∷ ss) [] var agree b = absurd agree
-    arms_same (more_of-SourceArm pattern body rest) (s ∷ ss) (l ∷ looks) var agree b =
+    arms_same : (row : SourceArms) (ss : List Stand) (looks : List Look) (var : Name) → AgreeLooks source ss looks → (b : Breach) → Asks source (arms_asked (setting_of source) ss var row) b ↔ ArmsBreak source looks var row b
+    arms_same no_source_arms [] [] var agree b = asks_nil source b
+    arms_same no_source_arms [] (l ∷ looks) var agree b = absurd agree
+    arms_same no_source_arms (s ∷ ss) [] var agree b = absurd agree
+    arms_same no_source_arms (s ∷ ss) (l ∷ looks) var agree b = asks_nil source b
+    arms_same (a_source_arm pattern body rest) [] [] var agree b = asks_nil source b
+    arms_same (a_source_arm pattern body rest) [] (l ∷ looks) var agree b = absurd agree
+    arms_same (a_source_arm pattern body rest) (s ∷ ss) [] var agree b = absurd agree
+    arms_same (a_source_arm pattern body rest) (s ∷ ss) (l ∷ looks) var agree b =
         let inner = stmt_asked (setting_of source) (bound (setting_of source) s pattern) body in
         let one = arm_same s l agree.0 var pattern inner b (λ scope. StmtBreaks source scope body b)
         (λ scope binds. stmt_same body (bound (setting_of source) s pattern) scope (bound_agrees source all s pattern (looked_at l) scope (look_holds source s l agree.0) binds) b) in

@@ -6,9 +6,8 @@ use Rattle.luo_model.specs.declared.program.Part.{Part}
 use Rattle.luo_model.specs.declared.program.Shape.{Shape}
 use Rattle.luo_model.specs.Scopes.Stands.{Stand, factors}
 use Rattle.luo_source.specs.declared.names.Name.{Name}
-use Rattle.luo_source.specs.declared.values.SourceValue.{SourceValue, Given, Made, Atom, Tuple', Branch', Case', Row_of-SourceValue, end_of-SourceValue, more_of-SourceValue, Row_of-SourceValueArm, end_of-SourceValueArm, more_of-SourceValueArm}
-use Rattle.luo_source.specs.declared.source.ProcDef.{ProcDef}
-use Rattle.luo_source.specs.declared.source.Source.{Source}
+use Rattle.luo_source.specs.Plain.Values.{SourceValue, Given, Made, Atom, Tuple, Branch, Case, SourceValues, no_source_values, a_source_value, SourceValueArms, no_source_value_arms, a_source_value_arm}
+use Rattle.luo_source.specs.Plain.Source.{ProcDef, Source}
 use Rattle.luo_rules.specs.declared.setting.Signature.{Signature}
 use Rattle.luo_rules.specs.declared.setting.Variable.{Variable}
 use Rattle.luo_rules.specs.declared.rule.Breach.{Breach}
@@ -18,13 +17,13 @@ use Rattle.luo_rules.specs.ValueBreaches.{is_atom, part_nodes, branch_at, branch
 use Rattle.luo_rules.specs.Definitions.{definitions, names_of}
 use Rattle.luo_rules.specs.inner.Naming.{node_of}
 use Rattle.luo_rules.specs.Nodes.{setting_of, named_node, result_name, signature_of}
-use Rattle.luo_rules.specs.Asked.{Asked, a_procedure, uses, reads, hands, gives, makes, builds, charge_asked, arm_asked, value_asked, values_asked, boxed_value_asked, value_arms_asked}
+use Rattle.luo_rules.specs.Asked.{Asked, a_procedure, uses, reads, hands, gives, makes, builds, charge_asked, arm_asked, value_asked, values_asked, value_arms_asked}
 use Rattle.luo_rules.specs.Broken.{other_variable, no_result, other_result, other_construct}
 use Rattle.luo_rules.proofs.Lists.{some_same, none_some}
 use Rattle.luo_rules.proofs.DefinitionFacts.{SoundAll}
 use Rattle.luo_meaning.specs.Places.{Placed, of_name, IsAtomAt}
 use Rattle.luo_meaning.specs.Scopes.{Scope, type_at, Look, looked_at, HasFactors}
-use Rattle.luo_meaning.specs.Broken.{OtherVariable, OtherResult, OtherConstruct, IsBranchAt, HasBranch, WantedParts, the_factors, no_factors, nothing_known, WantedInside, the_branch, no_branch, none_known, ValueBreaks, ValuesBreak, InnerBreaks, ValueArmsBreak}
+use Rattle.luo_meaning.specs.Broken.{OtherVariable, OtherResult, OtherConstruct, IsBranchAt, HasBranch, WantedParts, the_factors, no_factors, nothing_known, WantedInside, the_branch, no_branch, none_known, ValueBreaks, ValuesBreak, ValueArmsBreak}
 use Rattle.luo_meaning.proofs.Held.{some_is}
 use Rattle.luo_meaning.proofs.Sits.{shape_at_node}
 use Rattle.luo_meaning.proofs.PlacedTypes.{HoldsAt, AllHoldAt, nodes_of, name_holds, same_type, union_held, product_held, collection_held, atom_held, Sorted, a_union, a_product, a_collection, an_atom, sorted}
@@ -265,7 +264,7 @@ module _ (source : Source) (all : SoundAll source.universe (names_of source) (de
     value_same (Atom charge at) scope types agree o w g b =
         then_iff (asks_append source (charge_asked charge) (builds is_atom o at (codes "atom") ∷ []) b)
         (or_iff (some_of_names source (charge_asked charge) b (charge_names source charge)) (then_iff (asks_one source (builds is_atom o at (codes "atom")) b) (builds_same is_atom (IsAtomAt source) atom_same o w g at (codes "atom") b)))
-    value_same (Tuple' size parts at) scope types agree o w g b =
+    value_same (Tuple parts at) scope types agree o w g b =
         let k = count_values parts in
         let nodes = part_nodes (setting_of source) o k in
         let built = builds_same (has_factors k) (λ e. HasFactors source e k) (λ x e h. factors_same source all x e k h) o w g at (codes "product") b in
@@ -275,43 +274,39 @@ module _ (source : Source) (all : SoundAll source.universe (names_of source) (de
           λ h. elim (join.0 h) [ inl c ↦ inl (built.0 c) | inr i ↦ inr (some.0, some.1, (inner some.0 some.1).0 i) ],
           λ h. elim h [ inl c ↦ join.1 (inl (built.1 c)) | inr (es, p, i) ↦ join.1 (inr ((inner es p).1 i)) ],
         )
-    value_same (Branch' number at size box) scope types agree o w g b =
+    value_same (Branch number at v) scope types agree o w g b =
         let node = inner_node (setting_of source) o number in
         let built = builds_same (has_branch number) (HasBranch source number) (branch_same number) o w g at (decimal number) b in
-        let join = asks_cons source (builds (has_branch number) o at (decimal number)) (boxed_value_asked (setting_of source) scope node box) b in
-        let inner : (i : Option Placed) → WantedInside source w number i → Asks source (boxed_value_asked (setting_of source) scope node box) b ↔ InnerBreaks source types i box b = λ i p. boxed_same box scope types agree node i (inside_agrees o w number i g p) b in
+        let join = asks_cons source (builds (has_branch number) o at (decimal number)) (value_asked (setting_of source) scope node v) b in
+        let inner : (i : Option Placed) → WantedInside source w number i → Asks source (value_asked (setting_of source) scope node v) b ↔ ValueBreaks source types i v b = λ i p. value_same v scope types agree node i (inside_agrees o w number i g p) b in
         let some = inside_wanted o w number g in (
           λ h. elim (join.0 h) [ inl c ↦ inl (built.0 c) | inr i ↦ inr (some.0, some.1, (inner some.0 some.1).0 i) ],
           λ h. elim h [ inl c ↦ join.1 (inl (built.1 c)) | inr (i, p, k) ↦ join.1 (inr ((inner i p).1 k)) ],
         )
-    value_same (Case' var size arms) scope types agree o w g b =
+    value_same (Case var arms) scope types agree o w g b =
         let ss = case_stands (setting_of source) (found scope var) in
         case_same source all scope types agree var (count_value_arms arms) (value_arms_asked (setting_of source) ss o var arms) b (λ looks. ValueArmsBreak source looks w var arms b)
         (λ looks agree_looks. value_arms_same arms ss looks o w g var agree_looks b)
 
-    values_same : {n : _} (row : Row_of-SourceValue n) (scope : List Variable) (types : Scope) → AgreeScope source scope types → (xs : List ℕ) (es : List Placed) → AgreeParts xs es → (b : Breach) → Asks source (values_asked (setting_of source) scope xs row) b ↔ ValuesBreak source types es row b
-    values_same end_of-SourceValue scope types agree [] es g b = asks_nil source b
-    values_same end_of-SourceValue scope types agree (x ∷ xs) es g b = asks_nil source b
-    values_same (more_of-SourceValue v rest) scope types agree [] [] g b =
+    values_same : (row : SourceValues) (scope : List Variable) (types : Scope) → AgreeScope source scope types → (xs : List ℕ) (es : List Placed) → AgreeParts xs es → (b : Breach) → Asks source (values_asked (setting_of source) scope xs row) b ↔ ValuesBreak source types es row b
+    values_same no_source_values scope types agree [] es g b = asks_nil source b
+    values_same no_source_values scope types agree (x ∷ xs) es g b = asks_nil source b
+    values_same (a_source_value v rest) scope types agree [] [] g b =
         then_iff (asks_append source (value_asked (setting_of source) scope None v) (values_asked (setting_of source) scope [] rest) b) (or_iff (value_same v scope types agree None None tt b) (values_same rest scope types agree [] [] tt b))
-    values_same (more_of-SourceValue v rest) scope types agree [] (e ∷ es) g b = absurd g
-    values_same (more_of-SourceValue v rest) scope types agree (x ∷ xs) [] g b = absurd g
-    values_same (more_of-SourceValue v rest) scope types agree (x ∷ xs) (e ∷ es) g b =
+    values_same (a_source_value v rest) scope types agree [] (e ∷ es) g b = absurd g
+    values_same (a_source_value v rest) scope types agree (x ∷ xs) [] g b = absurd g
+    values_same (a_source_value v rest) scope types agree (x ∷ xs) (e ∷ es) g b =
         then_iff (asks_append source (value_asked (setting_of source) scope (Some x) v) (values_asked (setting_of source) scope xs rest) b) (or_iff (value_same v scope types agree (Some x) (Some e) g.0 b) (values_same rest scope types agree xs es g.1 b))
 
-    boxed_same : {n : _} (row : Row_of-SourceValue n) (scope : List Variable) (types : Scope) → AgreeScope source scope types → (o : Option ℕ) (w : Option Placed) → AgreeWanted o w → (b : Breach) → Asks source (boxed_value_asked (setting_of source) scope o row) b ↔ InnerBreaks source types w row b
-    boxed_same end_of-SourceValue scope types agree o w g b = asks_nil source b
-    boxed_same (more_of-SourceValue v rest) scope types agree o w g b = value_same v scope types agree o w g b
-
-    value_arms_same : {n : _} (row : Row_of-SourceValueArm n) (ss : List Stand) (looks : List Look) (o : Option ℕ) (w : Option Placed) → AgreeWanted o w → (var : Name) → AgreeLooks source ss looks → (b : Breach) → Asks source (value_arms_asked (setting_of source) ss o var row) b ↔ ValueArmsBreak source looks w var row b
-    value_arms_same end_of-SourceValueArm [] [] o w g var agree b = asks_nil source b
-    value_arms_same end_of-SourceValueArm [] (l ∷ looks) o w g var agree b = absurd agree
-    value_arms_same end_of-SourceValueArm (s ∷ ss) [] o w g var agree b = absurd agree
-    value_arms_same end_of-SourceValueArm (s ∷ ss) (l ∷ looks) o w g var agree b = asks_nil source b
-    value_arms_same (more_of-SourceValueArm pattern v rest) [] [] o w g var agree b = asks_nil source b
-    value_arms_same (more_of-SourceValueArm pattern v rest) [] (l ∷ looks) o w g var agree b = absurd agree
-    value_arms_same (more_of-SourceValueArm pattern v rest) (s ∷ ss) [] o w g var agree b = absurd agree
-    value_arms_same (more_of-SourceValueArm pattern v rest) (s ∷ ss) (l ∷ looks) o w g var agree b =
+    value_arms_same : (row : SourceValueArms) (ss : List Stand) (looks : List Look) (o : Option ℕ) (w : Option Placed) → AgreeWanted o w → (var : Name) → AgreeLooks source ss looks → (b : Breach) → Asks source (value_arms_asked (setting_of source) ss o var row) b ↔ ValueArmsBreak source looks w var row b
+    value_arms_same no_source_value_arms [] [] o w g var agree b = asks_nil source b
+    value_arms_same no_source_value_arms [] (l ∷ looks) o w g var agree b = absurd agree
+    value_arms_same no_source_value_arms (s ∷ ss) [] o w g var agree b = absurd agree
+    value_arms_same no_source_value_arms (s ∷ ss) (l ∷ looks) o w g var agree b = asks_nil source b
+    value_arms_same (a_source_value_arm pattern v rest) [] [] o w g var agree b = asks_nil source b
+    value_arms_same (a_source_value_arm pattern v rest) [] (l ∷ looks) o w g var agree b = absurd agree
+    value_arms_same (a_source_value_arm pattern v rest) (s ∷ ss) [] o w g var agree b = absurd agree
+    value_arms_same (a_source_value_arm pattern v rest) (s ∷ ss) (l ∷ looks) o w g var agree b =
         let inner = value_asked (setting_of source) (bound (setting_of source) s pattern) o v in
         let one = arm_same source all s l agree.0 var pattern inner b (λ scope. ValueBreaks source scope w v b)
         (λ scope binds. value_same v (bound (setting_of source) s pattern) scope (bound_agrees source all s pattern (looked_at l) scope (look_holds source s l agree.0) binds) o w g b) in

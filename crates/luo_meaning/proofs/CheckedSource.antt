@@ -4,7 +4,7 @@ use Rattle.std.proofs.Common.{subst}
 use Rattle.luo_num.specs.declared.limits.TheConstants.{WALK_LIMIT}
 use Rattle.luo_model.specs.Program.{Program}
 use Rattle.luo_model.specs.Invariant.{IsProgram}
-use Rattle.luo_source.specs.declared.source.Source.{Source}
+use Rattle.luo_source.specs.Plain.Source.{Source}
 use Rattle.luo_rules.specs.Checks.{IsSource, IsChecked}
 use Rattle.luo_rules.specs.Whole.{walk_count, core}
 use Rattle.luo_rules.proofs.CoreIsProgram.{core_is_program}

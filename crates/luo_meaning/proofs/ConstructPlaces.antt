@@ -4,12 +4,12 @@ use Rattle.std.specs.Prelude.{flat_map}
 use Rattle.std.proofs.lemmas.List.Sums.{sum_by-cons}
 use Rattle.luo_model.specs.declared.program.Def.{Def}
 use Rattle.luo_model.specs.declared.program.Node.{Node}
-use Rattle.luo_source.specs.declared.types.TypeExpr as type
-use Rattle.luo_source.specs.declared.types.TypeExpr.{TypeExpr, Named, Epsilon, Union', Product', Coll', Row_of-TypeExpr, end_of-TypeExpr, more_of-TypeExpr}
-use Rattle.luo_source.specs.declared.source.Source.{Source}
+use Rattle.luo_source.specs.Plain.Types as type
+use Rattle.luo_source.specs.Plain.Types.{TypeExpr, Named, Epsilon, Union, Product, Coll, TypeExprs, no_exprs, an_expr}
+use Rattle.luo_source.specs.Plain.Source.{Source}
 use Rattle.luo_rules.specs.Counted.{own_nodes, own_nodes_of}
 use Rattle.luo_rules.specs.Definitions.{Definition, definitions, names_of, first_node}
-use Rattle.luo_rules.specs.Nodes.{Spot, behind, all_nodes_at, start}
+use Rattle.luo_rules.specs.Nodes.{Spot, behind, nodes_at, all_nodes_at, start}
 use Rattle.luo_rules.specs.Whole.{core}
 use Rattle.luo_rules.proofs.Lists.{some_same, none_some, get_cases, get_below, below_get}
 use Rattle.luo_rules.proofs.NodeLists.{first_zero, first_suc, nodes_from_length, def_at, def_get}
@@ -34,13 +34,13 @@ mutual
   constructs_length (Named name) = refl
   constructs_length (Epsilon token) = refl
   constructs_length (type.Atom weight weight_at token) = refl
-  constructs_length (Union' size parts) = ap suc (among_length parts)
-  constructs_length (Product' size parts token) = ap suc (among_length parts)
-  constructs_length (Coll' kind size part bound token) = ap suc (among_length part)
+  constructs_length (Union parts) = ap suc (among_length parts)
+  constructs_length (Product parts token) = ap suc (among_length parts)
+  constructs_length (Coll kind part bound token) = ap suc (constructs_length part)
 
-  among_length : {n : _} (row : Row_of-TypeExpr n) → length (constructs_among row) ≡ own_nodes_of row
-  among_length end_of-TypeExpr = refl
-  among_length (more_of-TypeExpr e rest) = length-append (constructs_in e) (constructs_among rest) ∙ omega (arith, constructs_length e, among_length rest)
+  among_length : (row : TypeExprs) → length (constructs_among row) ≡ own_nodes_of row
+  among_length no_exprs = refl
+  among_length (an_expr e rest) = length-append (constructs_in e) (constructs_among rest) ∙ omega (arith, constructs_length e, among_length rest)
 
 placed_length : (text : List ℕ) (k : ℕ) (es : List TypeExpr) → length (placed text k es) ≡ length es
 placed_length text k [] = refl
@@ -100,16 +100,16 @@ module _ (source : Source) where
     form_sits (Epsilon token) owner at s (suc k) f h = absurd (none_some f h)
     form_sits (type.Atom weight weight_at token) owner at s zero f h = here owner at (type.Atom weight weight_at token) f tt s (some_same (type.Atom weight weight_at token) f h)
     form_sits (type.Atom weight weight_at token) owner at s (suc k) f h = absurd (none_some f h)
-    form_sits (Union' size parts) owner at s zero f h = here owner at (Union' size parts) f tt s (some_same (Union' size parts) f h)
-    form_sits (Union' size parts) owner at s (suc k) f h = moved owner (at.node + 1 + k) (at.node + suc k) (at.place + 1 + k) (at.place + suc k) f (omega arith) (omega arith) (row_sits parts owner (behind at 1) (union_sits source owner at size parts s) k f h)
-    form_sits (Product' size parts token) owner at s zero f h = here owner at (Product' size parts token) f tt s (some_same (Product' size parts token) f h)
-    form_sits (Product' size parts token) owner at s (suc k) f h = moved owner (at.node + 1 + k) (at.node + suc k) (at.place + 1 + k) (at.place + suc k) f (omega arith) (omega arith) (row_sits parts owner (behind at 1) (product_sits source owner at size parts token s) k f h)
-    form_sits (Coll' kind size part bound token) owner at s zero f h = here owner at (Coll' kind size part bound token) f tt s (some_same (Coll' kind size part bound token) f h)
-    form_sits (Coll' kind size part bound token) owner at s (suc k) f h = moved owner (at.node + 1 + k) (at.node + suc k) (at.place + 1 + k) (at.place + suc k) f (omega arith) (omega arith) (row_sits part owner (behind at 1) (coll_sits source owner at kind size part bound token s).all k f h)
+    form_sits (Union parts) owner at s zero f h = here owner at (Union parts) f tt s (some_same (Union parts) f h)
+    form_sits (Union parts) owner at s (suc k) f h = moved owner (at.node + 1 + k) (at.node + suc k) (at.place + 1 + k) (at.place + suc k) f (omega arith) (omega arith) (row_sits parts owner (behind at 1) (union_sits source owner at parts s) k f h)
+    form_sits (Product parts token) owner at s zero f h = here owner at (Product parts token) f tt s (some_same (Product parts token) f h)
+    form_sits (Product parts token) owner at s (suc k) f h = moved owner (at.node + 1 + k) (at.node + suc k) (at.place + 1 + k) (at.place + suc k) f (omega arith) (omega arith) (row_sits parts owner (behind at 1) (product_sits source owner at parts token s) k f h)
+    form_sits (Coll kind part bound token) owner at s zero f h = here owner at (Coll kind part bound token) f tt s (some_same (Coll kind part bound token) f h)
+    form_sits (Coll kind part bound token) owner at s (suc k) f h = moved owner (at.node + 1 + k) (at.node + suc k) (at.place + 1 + k) (at.place + suc k) f (omega arith) (omega arith) (form_sits part owner (behind at 1) (coll_sits source owner at kind part bound token s) k f h)
 
-    row_sits : {n : _} (row : Row_of-TypeExpr n) (owner : ℕ) (at : Spot) → AllSit source owner at row → (k : ℕ) (f : TypeExpr) → slice_get (constructs_among row) k ≡ Some f → FormAt source owner (at.node + k) (at.place + k) f
-    row_sits end_of-TypeExpr owner at a k f h = absurd (none_some f h)
-    row_sits (more_of-TypeExpr e rest) owner at a k f h =
+    row_sits : (row : TypeExprs) (owner : ℕ) (at : Spot) → AllSit source owner at row → (k : ℕ) (f : TypeExpr) → slice_get (constructs_among row) k ≡ Some f → FormAt source owner (at.node + k) (at.place + k) f
+    row_sits no_exprs owner at a k f h = absurd (none_some f h)
+    row_sits (an_expr e rest) owner at a k f h =
         elim (get_cases (constructs_in e) (constructs_among rest) k f h) [
           | inl g ↦ form_sits e owner at (head_sits source owner at e rest a) k f g
           | inr g ↦ moved owner (at.node + own_nodes e + g.0) (at.node + k) (at.place + own_nodes e + g.0) (at.place + k) f (omega (arith, g.1, constructs_length e)) (omega (arith, g.1, constructs_length e))
@@ -131,9 +131,9 @@ module _ (source : Source) where
   node_here (Named name) owner at q s = absurd q
   node_here (Epsilon token) owner at q s = first_of owner at _ [] s.there refl refl
   node_here (type.Atom weight weight_at token) owner at q s = first_of owner at _ [] s.there refl refl
-  node_here (Union' size parts) owner at q s = first_of owner at _ (all_nodes_at (names_of source) (definitions source) owner (behind at 1) parts) s.there refl refl
-  node_here (Product' size parts token) owner at q s = first_of owner at _ (all_nodes_at (names_of source) (definitions source) owner (behind at 1) parts) s.there refl refl
-  node_here (Coll' kind size part bound token) owner at q s = first_of owner at _ (all_nodes_at (names_of source) (definitions source) owner (behind at 1) part) s.there refl refl
+  node_here (Union parts) owner at q s = first_of owner at _ (all_nodes_at (names_of source) (definitions source) owner (behind at 1) parts) s.there refl refl
+  node_here (Product parts token) owner at q s = first_of owner at _ (all_nodes_at (names_of source) (definitions source) owner (behind at 1) parts) s.there refl refl
+  node_here (Coll kind part bound token) owner at q s = first_of owner at _ (nodes_at (names_of source) (definitions source) owner (behind at 1) part) s.there refl refl
 
 -- node x is construct x: its place, the name of its definition, and what it stands for
 pub record NodeIs (source : Source) (x : ℕ) (v : Placed) : Type 0 where

@@ -14,7 +14,7 @@ use Rattle.luo_model.specs.Charges.{SiteCharges}
 use Rattle.luo_model.specs.Founded.{IsFounded}
 use Rattle.luo_model.specs.Levels.{IsRank, IsLevel}
 use Rattle.luo_model.specs.Tables.{IsCount, IsTotal}
-use Rattle.luo_source.specs.declared.source.Source.{Source}
+use Rattle.luo_source.specs.Plain.Source.{Source}
 use Rattle.luo_rules.specs.Checks.{IsSource, IsChecked}
 use Rattle.luo_rules.specs.Whole.{core}
 use Rattle.luo_rules.proofs.Lists.{some_same, below_get}

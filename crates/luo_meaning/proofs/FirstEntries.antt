@@ -3,8 +3,7 @@ use Rattle.std.proofs.Common.{◌≡◌, ℕ, suc, List, [], ◌∷◌, ◌++◌
 use Rattle.std.specs.Prelude.{Bool, true, false, if◌then◌else◌, is_some}
 use Rattle.std.specs.Str.{bytes_eq}
 use Rattle.luo_source.specs.declared.names.Name.{Name}
-use Rattle.luo_source.specs.declared.source.ProcDef.{ProcDef}
-use Rattle.luo_source.specs.declared.source.Source.{Source}
+use Rattle.luo_source.specs.Plain.Source.{ProcDef, Source}
 use Rattle.luo_rules.specs.declared.names.Meaning.{Meaning}
 use Rattle.luo_rules.specs.declared.names.Meaning.TheVariants as mean
 use Rattle.luo_rules.specs.Meanings.{meaning, with_name}

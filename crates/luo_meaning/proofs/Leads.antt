@@ -2,8 +2,8 @@
 use Rattle.std.proofs.Common.{◌≡◌, ℕ, zero, suc, ◌<◌, ◌⊎◌, [], length, Some, None, slice_get, refl, sym, ap, ◌∙◌, subst, inl, inr}
 use Rattle.luo_model.specs.Tree.{Tree}
 use Rattle.luo_source.specs.declared.names.Name.{Name}
-use Rattle.luo_source.specs.declared.types.TypeExpr.{TypeExpr, Named, Epsilon, Atom, Union', Product', Coll'}
-use Rattle.luo_source.specs.declared.source.Source.{Source}
+use Rattle.luo_source.specs.Plain.Types.{TypeExpr, Named, Epsilon, Atom, Union, Product, Coll}
+use Rattle.luo_source.specs.Plain.Source.{Source}
 use Rattle.luo_rules.specs.declared.names.Meaning.TheVariants as mean
 use Rattle.luo_rules.specs.Meanings.{meaning}
 use Rattle.luo_rules.specs.Definitions.{Definition, definitions, names_of, definition_meant, named_by, named_at, next, first_node}
@@ -27,25 +27,25 @@ pub sort_of : (source : Source) (e : TypeExpr) → ((name : Name) × (e ≡ Name
 sort_of source (Named name) = inl (name, refl)
 sort_of source (Epsilon at) = inr tt
 sort_of source (Atom weight weight_at at) = inr tt
-sort_of source (Union' size parts) = inr tt
-sort_of source (Product' size parts at) = inr tt
-sort_of source (Coll' kind size part bound at) = inr tt
+sort_of source (Union parts) = inr tt
+sort_of source (Product parts at) = inr tt
+sort_of source (Coll kind part bound at) = inr tt
 
 pub names_none : (source : Source) (e : TypeExpr) → IsConstruct e → named_by (names_of source) e ≡ None
 names_none source (Named name) q = absurd q
 names_none source (Epsilon at) q = refl
 names_none source (Atom weight weight_at at) q = refl
-names_none source (Union' size parts) q = refl
-names_none source (Product' size parts at) q = refl
-names_none source (Coll' kind size part bound at) q = refl
+names_none source (Union parts) q = refl
+names_none source (Product parts at) q = refl
+names_none source (Coll kind part bound at) q = refl
 
 pub bare_node : (source : Source) (at : Spot) (e : TypeExpr) → IsConstruct e → (part_at (names_of source) (definitions source) at e).node ≡ at.node
 bare_node source at (Named name) q = absurd q
 bare_node source at (Epsilon token) q = refl
 bare_node source at (Atom weight weight_at token) q = refl
-bare_node source at (Union' size parts) q = refl
-bare_node source at (Product' size parts token) q = refl
-bare_node source at (Coll' kind size part bound token) q = refl
+bare_node source at (Union parts) q = refl
+bare_node source at (Product parts token) q = refl
+bare_node source at (Coll kind part bound token) q = refl
 
 -- a construct at this node, the structures of which are of this type expression
 pub record Leads (source : Source) (node : ℕ) (e : TypeExpr) : Type 0 where

@@ -1,6 +1,6 @@
 -- The levels of bodies and procedures in the core form are those of the source as written.
 use Rattle.std.proofs.Common.{◌≡◌, ◌↔◌, ℕ, zero, suc, ◌+◌, List, [], ◌∷◌, ◌++◌, Option, Some, None, slice_get, refl, sym, ap, ◌∙◌, subst, arith}
-use Rattle.std.specs.Prelude.{flat_map, max, sum_by}
+use Rattle.std.specs.Prelude.{max}
 use Rattle.luo_model.specs.Program as plain
 use Rattle.luo_model.specs.Program.{Procedure, Body, Does, Items, no_items, item, Item, Arms}
 use Rattle.luo_model.specs.Levels as model
@@ -8,13 +8,10 @@ use Rattle.luo_model.specs.Levels.{ItemLevel, ItemsLevel, LevelWithin, WholeLeve
 use Rattle.luo_model.specs.Scopes.ValueBodies.{join_items, value_items, values_items, value_arm_bodies}
 use Rattle.luo_model.specs.Scopes.ValueBodies as scopes
 use Rattle.luo_source.specs.declared.names.Name.{Name}
-use Rattle.luo_source.specs.declared.statements.Stmt.{Stmt, Skip, Charge, Call, Block', Case', Forall', Row_of-Stmt, end_of-Stmt, more_of-Stmt}
-use Rattle.luo_source.specs.declared.values.SourceValue as value
-use Rattle.luo_source.specs.declared.values.SourceValue.{SourceValue, Given, Made, Atom, Tuple', Branch', Row_of-SourceValue, end_of-SourceValue, more_of-SourceValue}
-use Rattle.luo_source.specs.declared.source.ProcBody.{ProcBody}
-use Rattle.luo_source.specs.declared.source.ProcBody.TheVariants.{Statements, Value}
-use Rattle.luo_source.specs.declared.source.ProcDef.{ProcDef}
-use Rattle.luo_source.specs.declared.source.Source.{Source}
+use Rattle.luo_source.specs.Plain.Statements.{Stmt, Skip, Charge, Call, Block, Case, Forall, Stmts, no_stmts, a_stmt}
+use Rattle.luo_source.specs.Plain.Values as value
+use Rattle.luo_source.specs.Plain.Values.{SourceValue, Given, Made, Atom, Tuple, Branch, SourceValues, no_source_values, a_source_value}
+use Rattle.luo_source.specs.Plain.Source.{ProcBody, Statements, Value, ProcDef, Source}
 use Rattle.luo_rules.specs.declared.names.Meaning.TheVariants as mean
 use Rattle.luo_rules.specs.declared.setting.Setting.{Setting}
 use Rattle.luo_rules.specs.declared.setting.Variable.{Variable}
@@ -22,17 +19,17 @@ use Rattle.luo_rules.specs.Breaches.{◌or_if_none◌}
 use Rattle.luo_rules.specs.Meanings.{meaning, type_use, procedure_use, procedure_of}
 use Rattle.luo_rules.specs.Settings.{meant, signature_meant, found, place_of, argument_breaches, case_stands, def_node, type_node}
 use Rattle.luo_rules.specs.ValueBreaches as values
-use Rattle.luo_rules.specs.ValueBreaches.{part_nodes, inner_node, count_values, value_breaches, values_breaches, boxed_value_breaches}
-use Rattle.luo_rules.specs.ValueCore.{value_core, values_core, boxed_value_core, value_arms_core}
+use Rattle.luo_rules.specs.ValueBreaches.{part_nodes, inner_node, count_values, value_breaches, values_breaches}
+use Rattle.luo_rules.specs.ValueCore.{value_core, values_core, value_arms_core}
 use Rattle.luo_rules.specs.Definitions.{names_of}
 use Rattle.luo_rules.specs.Nodes.{setting_of}
 use Rattle.luo_rules.specs.StatementBreaches.{walked, stmt_breaches, stmts_breaches}
-use Rattle.luo_rules.specs.StatementCore.{stmt_own, stmts_own, stmt_sites, stmts_sites, arms_sites, stmt_items, stmts_items, arms_core}
-use Rattle.luo_rules.specs.Whole.{result_breaches, parameter, body_breaches, items_of, body_core, proc_core, core}
+use Rattle.luo_rules.specs.StatementCore.{stmt_own, stmts_own, stmt_sites, arms_sites, stmt_items, stmts_items, arms_core}
+use Rattle.luo_rules.specs.Whole.{result_breaches, parameter, body_breaches, body_core, proc_core, core}
 use Rattle.luo_rules.proofs.Lists.{some_same, nil_left, nil_right, none_first}
 use Rattle.luo_rules.proofs.CleanSource.{Clean, clean_proc, proc_get}
 use Rattle.luo_rules.proofs.ValueFits.{procedure_meant}
-use Rattle.luo_meaning.specs.Levels.{CallLevel, StmtLevel, StmtsLevel, ValueLevel, ValuesLevel, InnerLevel, ListLevel, BodyLevel, ProcLevelWithin, ProcLevel}
+use Rattle.luo_meaning.specs.Levels.{CallLevel, StmtLevel, StmtsLevel, ValueLevel, ValuesLevel, BodyLevel, ProcLevelWithin, ProcLevel}
 use Rattle.luo_meaning.proofs.Named.{procedure_named, named_procedure}
 use Rattle.luo_meaning.proofs.ProceduresKept.{procedure_number}
 
@@ -116,32 +113,22 @@ module _ (R : ℕ → ℕ → Type 0) (S : List ℕ → ℕ → Type 0) (s : Set
     stmt_level Skip scope first e n = (λ h. h, λ h. h)
     stmt_level (Charge measure) scope first e n = (λ h. h, λ h. h)
     stmt_level (Call callee arg) scope first e n = call_item (place_of (found scope arg)) first callee (nil_left (procedure_use (meant s callee) callee) (argument_breaches (found scope arg) (signature_meant s (meant s callee)).on arg callee) e) n
-    stmt_level (Block' size stmts) scope first e n = stmts_level stmts scope first e n
-    stmt_level (Case' var size arms) scope first e n =
+    stmt_level (Block stmts) scope first e n = stmts_level stmts scope first e n
+    stmt_level (Case var arms) scope first e n =
         case_item (place_of (found scope var)) (first + arms_sites arms) (arms_core s (case_stands s (found scope var)) first arms) n
-    stmt_level (Forall' var over size body) scope first e n =
+    stmt_level (Forall var over body) scope first e n =
         let inside : List Variable = record { name = var.text; part = walked s (found scope over) } ∷ [] in
-        walk_item (place_of (found scope over)) (first + stmts_sites body) (first + stmts_sites body + 1) (Does (stmts_own s body) (stmts_items s inside first body)) n
+        walk_item (place_of (found scope over)) (first + stmt_sites body) (first + stmt_sites body + 1) (Does (stmt_own s body) (stmt_items s inside first body)) n
 
-    pub stmts_level : {k : _} (row : Row_of-Stmt k) (scope : List Variable) (first : ℕ) → stmts_breaches s scope row ≡ [] → (n : ℕ) → Level R (stmts_items s scope first row) n ↔ StmtsLevel S row n
-    stmts_level end_of-Stmt scope first e n = (λ h. h, λ h. h)
-    stmts_level (more_of-Stmt stmt rest) scope first e n =
+    pub stmts_level : (row : Stmts) (scope : List Variable) (first : ℕ) → stmts_breaches s scope row ≡ [] → (n : ℕ) → Level R (stmts_items s scope first row) n ↔ StmtsLevel S row n
+    stmts_level no_stmts scope first e n = (λ h. h, λ h. h)
+    stmts_level (a_stmt stmt rest) scope first e n =
         let join = level_join R (stmt_items s scope first stmt) (stmts_items s scope (first + stmt_sites stmt) rest) n in
         let one = stmt_level stmt scope first (nil_left (stmt_breaches s scope stmt) (stmts_breaches s scope rest) e) in
         let more = stmts_level rest scope (first + stmt_sites stmt) (nil_right (stmt_breaches s scope stmt) (stmts_breaches s scope rest) e) in (
           λ h. let r = join.0 h in (r.0, r.1, (one r.0).0 r.2, (more r.1).0 r.3, r.4),
           λ h. join.1 (h.0, h.1, (one h.0).1 h.2, (more h.1).1 h.3, h.4),
         )
-
-  list_level : (stmts : List Stmt) (scope : List Variable) (first : ℕ) → flat_map (stmt_breaches s scope) stmts ≡ [] → (n : ℕ) → Level R (items_of s scope first stmts) n ↔ ListLevel S stmts n
-  list_level [] scope first e n = (λ h. h, λ h. h)
-  list_level (stmt ∷ stmts) scope first e n =
-      let join = level_join R (stmt_items s scope first stmt) (items_of s scope (first + stmt_sites stmt) stmts) n in
-      let one = stmt_level stmt scope first (nil_left (stmt_breaches s scope stmt) (flat_map (stmt_breaches s scope) stmts) e) in
-      let more = list_level stmts scope (first + stmt_sites stmt) (nil_right (stmt_breaches s scope stmt) (flat_map (stmt_breaches s scope) stmts) e) in (
-        λ h. let r = join.0 h in (r.0, r.1, (one r.0).0 r.2, (more r.1).0 r.3, r.4),
-        λ h. join.1 (h.0, h.1, (one h.0).1 h.2, (more h.1).1 h.3, h.4),
-      )
 
   mutual
     value_level : (v : SourceValue) (scope : List Variable) (first : ℕ) (expected : Option ℕ) → value_breaches s scope expected v ≡ [] → (n : ℕ) → Level R (value_items first (value_core s scope expected v)) n ↔ ValueLevel S v n
@@ -152,19 +139,19 @@ module _ (R : ℕ → ℕ → Type 0) (S : List ℕ → ℕ → Type 0) (s : Set
         let argument = argument_breaches (found scope arg) signature.on arg callee in
         call_item (place_of (found scope arg)) first callee (none_first (procedure_use (meant s callee) callee) (values.result_breaches expected signature.result callee) (nil_left front argument e)) n
     value_level (Atom charge at) scope first expected e n = (λ h. h, λ h. h)
-    value_level (Tuple' size parts at) scope first expected e n =
+    value_level (Tuple parts at) scope first expected e n =
         let nodes = part_nodes s expected (count_values parts) in
         values_level parts scope first nodes (nil_right _ (values_breaches s scope nodes parts) e) n
-    value_level (Branch' number at size inner) scope first expected e n =
+    value_level (Branch number at inner) scope first expected e n =
         let node = inner_node s expected number in
-        boxed_level inner scope first node (nil_right _ (boxed_value_breaches s scope node inner) e) n
-    value_level (value.Case' var size arms) scope first expected e n =
+        value_level inner scope first node (nil_right _ (value_breaches s scope node inner) e) n
+    value_level (value.Case var arms) scope first expected e n =
         let core_arms = value_arms_core s (case_stands s (found scope var)) expected arms in
         case_item (place_of (found scope var)) (first + scopes.value_arms_sites core_arms) (value_arm_bodies first core_arms) n
 
-    values_level : {k : _} (row : Row_of-SourceValue k) (scope : List Variable) (first : ℕ) (nodes : List ℕ) → values_breaches s scope nodes row ≡ [] → (n : ℕ) → Level R (values_items first (values_core s scope nodes row)) n ↔ ValuesLevel S row n
-    values_level end_of-SourceValue scope first nodes e n = (λ h. h, λ h. h)
-    values_level (more_of-SourceValue v rest) scope first [] e n =
+    values_level : (row : SourceValues) (scope : List Variable) (first : ℕ) (nodes : List ℕ) → values_breaches s scope nodes row ≡ [] → (n : ℕ) → Level R (values_items first (values_core s scope nodes row)) n ↔ ValuesLevel S row n
+    values_level no_source_values scope first nodes e n = (λ h. h, λ h. h)
+    values_level (a_source_value v rest) scope first [] e n =
         let core_value = value_core s scope None v in
         let next = first + scopes.value_sites core_value in
         let join = level_join R (value_items first core_value) (values_items next (values_core s scope [] rest)) n in
@@ -173,7 +160,7 @@ module _ (R : ℕ → ℕ → Type 0) (S : List ℕ → ℕ → Type 0) (s : Set
           λ h. let r = join.0 h in (r.0, r.1, (one r.0).0 r.2, (more r.1).0 r.3, r.4),
           λ h. join.1 (h.0, h.1, (one h.0).1 h.2, (more h.1).1 h.3, h.4),
         )
-    values_level (more_of-SourceValue v rest) scope first (node ∷ nodes) e n =
+    values_level (a_source_value v rest) scope first (node ∷ nodes) e n =
         let core_value = value_core s scope (Some node) v in
         let next = first + scopes.value_sites core_value in
         let join = level_join R (value_items first core_value) (values_items next (values_core s scope nodes rest)) n in
@@ -183,15 +170,11 @@ module _ (R : ℕ → ℕ → Type 0) (S : List ℕ → ℕ → Type 0) (s : Set
           λ h. join.1 (h.0, h.1, (one h.0).1 h.2, (more h.1).1 h.3, h.4),
         )
 
-    boxed_level : {k : _} (row : Row_of-SourceValue k) (scope : List Variable) (first : ℕ) (expected : Option ℕ) → boxed_value_breaches s scope expected row ≡ [] → (n : ℕ) → Level R (value_items first (boxed_value_core s scope expected row)) n ↔ InnerLevel S row n
-    boxed_level end_of-SourceValue scope first expected e n = (λ h. h, λ h. h)
-    boxed_level (more_of-SourceValue v rest) scope first expected e n = value_level v scope first expected e n
-
   -- a body in the scope of its parameter
   pub body_level : (p : ProcDef) (body : ProcBody) (node at : ℕ) → body_breaches s p (Some node) body ≡ [] → (n : ℕ) → model.BodyLevel R (body_core s p at body) n ↔ BodyLevel S body n
   body_level p (Statements stmts) node at none n =
-      let free = own_free R (sum_by (stmt_own s) stmts) (items_of s (parameter s p) at stmts) n in
-      let list = list_level stmts (parameter s p) at none n in
+      let free = own_free R (stmts_own s stmts) (stmts_items s (parameter s p) at stmts) n in
+      let list = stmts_level stmts (parameter s p) at none n in
       (λ h. list.0 (free.0 h), λ h. free.1 (list.1 h))
   body_level p (Value colon result value) node at none n =
       let made = value_core s (parameter s p) (type_node s result) value in

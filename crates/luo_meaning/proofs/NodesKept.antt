@@ -1,15 +1,15 @@
 -- Nodes and constructs of a source go together, with the same structures.
-use Rattle.std.proofs.Common.{◌≡◌, ℕ, zero, suc, ◌+◌, ◌<◌, ◌↔◌, List, [], ◌∷◌, length, Some, slice_get, refl, sym, ap, ◌∙◌, subst, inl, inr, arith}
+use Rattle.std.proofs.Common.{◌≡◌, ℕ, zero, suc, ◌+◌, ◌<◌, ◌↔◌, length, Some, slice_get, refl, sym, ◌∙◌, subst, inl, inr, arith}
 use Rattle.luo_model.specs.declared.program.Node.{Node}
 use Rattle.luo_model.specs.Tree.{Tree}
 use Rattle.luo_model.specs.Member.{Member}
-use Rattle.luo_source.specs.declared.types.TypeExpr.{TypeExpr, Named, Epsilon, Atom, Union', Product', Coll', Row_of-TypeExpr, end_of-TypeExpr, more_of-TypeExpr}
-use Rattle.luo_source.specs.declared.source.Source.{Source}
+use Rattle.luo_source.specs.Plain.Types.{TypeExpr, Named, Epsilon, Atom, Union, Product, Coll, TypeExprs, no_exprs, an_expr}
+use Rattle.luo_source.specs.Plain.Source.{Source}
 use Rattle.luo_rules.specs.Counted.{own_nodes}
 use Rattle.luo_rules.specs.Definitions.{definitions, names_of, first_node}
 use Rattle.luo_rules.specs.Nodes.{Spot, behind, part_at, nodes_at, all_nodes_at, start}
 use Rattle.luo_rules.specs.Whole.{core}
-use Rattle.luo_rules.proofs.Lists.{some_same, none_some, get_cases, below_get}
+use Rattle.luo_rules.proofs.Lists.{none_some, get_cases, below_get}
 use Rattle.luo_rules.proofs.NodeLists.{nodes_length}
 use Rattle.luo_rules.proofs.CoreNodes.{at_node}
 use Rattle.luo_rules.proofs.CleanSource.{Clean}
@@ -17,7 +17,7 @@ use Rattle.luo_meaning.specs.Structures.{exprs_in}
 use Rattle.luo_meaning.specs.Structures.{IsOf}
 use Rattle.luo_meaning.specs.Constructs.{IsIn, IsConstruct, itself, in_union, in_product, in_collection, IsConstructOf}
 use Rattle.luo_meaning.proofs.Named.{type_named, named_type}
-use Rattle.luo_meaning.proofs.Sits.{first_same, all_nodes, Sits, AllSit, head_sits, tail_sits, union_sits, product_sits, coll_sits, row_back, definition_sits}
+use Rattle.luo_meaning.proofs.Sits.{all_nodes, Sits, AllSit, head_sits, tail_sits, union_sits, product_sits, coll_sits, row_back, definition_sits}
 use Rattle.luo_meaning.proofs.Leads.{bare_node}
 use Rattle.luo_meaning.proofs.StructuresKept.{member_is_of, of_is_member}
 
@@ -31,7 +31,7 @@ pub record SitsIn (source : Source) (owner : ℕ) (whole : TypeExpr) (x : ℕ) :
   pub is_in : IsIn sub whole
 
 -- node x is that of a construct inside a part of a row
-record RowHolds (source : Source) (owner : ℕ) {n : _} (row : Row_of-TypeExpr n) (x : ℕ) : Type 0 where
+record RowHolds (source : Source) (owner : ℕ) (row : TypeExprs) (x : ℕ) : Type 0 where
   pub i : ℕ
   pub e : TypeExpr
   pub is : slice_get (exprs_in row) i ≡ Some e
@@ -44,10 +44,6 @@ module _ (source : Source) where
   moved : (owner : ℕ) (whole : TypeExpr) (x y : ℕ) → x ≡ y → SitsIn source owner whole x → SitsIn source owner whole y
   moved owner whole x y e h = subst (SitsIn source owner whole) e h
 
-  one_only : (e f : TypeExpr) (i : ℕ) (l : List TypeExpr) → l ≡ f ∷ [] → slice_get l i ≡ Some e → f ≡ e
-  one_only e f zero l one h = some_same f e (sym (ap (λ z. slice_get z 0) one) ∙ h)
-  one_only e f (suc i) l one h = absurd (none_some e (sym (ap (λ z. slice_get z (suc i)) one) ∙ h))
-
   mutual
     pub node_sits : (e : TypeExpr) (owner : ℕ) (at : Spot) → Sits source owner at e → (k : ℕ) (node : Node) → slice_get (nodes_at (names_of source) (definitions source) owner at e) k ≡ Some node → SitsIn source owner e (at.node + k)
     node_sits (Named name) owner at s k node h = absurd (none_some node h)
@@ -55,27 +51,25 @@ module _ (source : Source) where
     node_sits (Epsilon token) owner at s (suc k) node h = absurd (none_some node h)
     node_sits (Atom weight weight_at token) owner at s zero node h = here owner at (Atom weight weight_at token) tt s
     node_sits (Atom weight weight_at token) owner at s (suc k) node h = absurd (none_some node h)
-    node_sits (Union' size parts) owner at s zero node h = here owner at (Union' size parts) tt s
-    node_sits (Union' size parts) owner at s (suc k) node h =
-        let r = row_sits parts owner (behind at 1) (union_sits source owner at size parts s) k node h in
-        moved owner (Union' size parts) (at.node + 1 + k) (at.node + suc k) (omega arith)
+    node_sits (Union parts) owner at s zero node h = here owner at (Union parts) tt s
+    node_sits (Union parts) owner at s (suc k) node h =
+        let r = row_sits parts owner (behind at 1) (union_sits source owner at parts s) k node h in
+        moved owner (Union parts) (at.node + 1 + k) (at.node + suc k) (omega arith)
         (record { sub = r.holds.sub; spot = r.holds.spot; at = r.holds.at; sits = r.holds.sits; is_construct = r.holds.is_construct; is_in = in_union r.i r.e r.is r.holds.is_in })
-    node_sits (Product' size parts token) owner at s zero node h = here owner at (Product' size parts token) tt s
-    node_sits (Product' size parts token) owner at s (suc k) node h =
-        let r = row_sits parts owner (behind at 1) (product_sits source owner at size parts token s) k node h in
-        moved owner (Product' size parts token) (at.node + 1 + k) (at.node + suc k) (omega arith)
+    node_sits (Product parts token) owner at s zero node h = here owner at (Product parts token) tt s
+    node_sits (Product parts token) owner at s (suc k) node h =
+        let r = row_sits parts owner (behind at 1) (product_sits source owner at parts token s) k node h in
+        moved owner (Product parts token) (at.node + 1 + k) (at.node + suc k) (omega arith)
         (record { sub = r.holds.sub; spot = r.holds.spot; at = r.holds.at; sits = r.holds.sits; is_construct = r.holds.is_construct; is_in = in_product r.i r.e r.is r.holds.is_in })
-    node_sits (Coll' kind size part bound token) owner at s zero node h = here owner at (Coll' kind size part bound token) tt s
-    node_sits (Coll' kind size part bound token) owner at s (suc k) node h =
-        let b = coll_sits source owner at kind size part bound token s in
-        let r = row_sits part owner (behind at 1) b.all k node h in
-        let same : b.e ≡ r.e = one_only r.e b.e r.i (exprs_in part) b.one r.is in
-        moved owner (Coll' kind size part bound token) (at.node + 1 + k) (at.node + suc k) (omega arith)
-        (record { sub = r.holds.sub; spot = r.holds.spot; at = r.holds.at; sits = r.holds.sits; is_construct = r.holds.is_construct; is_in = in_collection r.e (b.one ∙ ap (λ z. z ∷ []) same) r.holds.is_in })
+    node_sits (Coll kind part bound token) owner at s zero node h = here owner at (Coll kind part bound token) tt s
+    node_sits (Coll kind part bound token) owner at s (suc k) node h =
+        let r = node_sits part owner (behind at 1) (coll_sits source owner at kind part bound token s) k node h in
+        moved owner (Coll kind part bound token) (at.node + 1 + k) (at.node + suc k) (omega arith)
+        (record { sub = r.sub; spot = r.spot; at = r.at; sits = r.sits; is_construct = r.is_construct; is_in = in_collection r.is_in })
 
-    row_sits : {n : _} (row : Row_of-TypeExpr n) (owner : ℕ) (at : Spot) → AllSit source owner at row → (k : ℕ) (node : Node) → slice_get (all_nodes_at (names_of source) (definitions source) owner at row) k ≡ Some node → RowHolds source owner row (at.node + k)
-    row_sits end_of-TypeExpr owner at a k node h = absurd (none_some node h)
-    row_sits (more_of-TypeExpr e rest) owner at a k node h =
+    row_sits : (row : TypeExprs) (owner : ℕ) (at : Spot) → AllSit source owner at row → (k : ℕ) (node : Node) → slice_get (all_nodes_at (names_of source) (definitions source) owner at row) k ≡ Some node → RowHolds source owner row (at.node + k)
+    row_sits no_exprs owner at a k node h = absurd (none_some node h)
+    row_sits (an_expr e rest) owner at a k node h =
         let names = names_of source in
         let defs = definitions source in
         elim (get_cases (nodes_at names defs owner at e) (all_nodes_at names defs owner (behind at (own_nodes e)) rest) k node h) [
@@ -88,20 +82,18 @@ module _ (source : Source) where
   -- what stands inside a type expression that sits somewhere sits somewhere
   pub inside_sits : {e f : TypeExpr} → IsIn e f → (owner : ℕ) (at : Spot) → Sits source owner at f → (spot : Spot) × Sits source owner spot e
   inside_sits itself owner at s = (at, s)
-  inside_sits (in_union {size} {parts} i f is h) owner at s = let r = row_back source owner (behind at 1) parts (union_sits source owner at size parts s) i f is in inside_sits h owner r.1.spot r.1.sits
-  inside_sits (in_product {size} {parts} {at = token} i f is h) owner at s = let r = row_back source owner (behind at 1) parts (product_sits source owner at size parts token s) i f is in inside_sits h owner r.1.spot r.1.sits
-  inside_sits (in_collection {kind} {size} {part} {bound} {at = token} f one h) owner at s =
-      let b = coll_sits source owner at kind size part bound token s in
-      inside_sits h owner (behind at 1) (subst (Sits source owner (behind at 1)) (first_same b.e f (sym b.one ∙ one)) b.sits)
+  inside_sits (in_union {parts} i f is h) owner at s = let r = row_back source owner (behind at 1) parts (union_sits source owner at parts s) i f is in inside_sits h owner r.1.spot r.1.sits
+  inside_sits (in_product {parts} {at = token} i f is h) owner at s = let r = row_back source owner (behind at 1) parts (product_sits source owner at parts token s) i f is in inside_sits h owner r.1.spot r.1.sits
+  inside_sits (in_collection {kind} {part} {bound} {at = token} h) owner at s = inside_sits h owner (behind at 1) (coll_sits source owner at kind part bound token s)
 
   -- the node of a construct is there
   node_below : (e : TypeExpr) (owner : ℕ) (at : Spot) → IsConstruct e → Sits source owner at e → (part_at (names_of source) (definitions source) at e).node < length (all_nodes source)
   node_below (Named name) owner at q s = absurd q
   node_below (Epsilon token) owner at q s = omega (arith, below_get (all_nodes source) (at.node + 0) _ (s.there 0 _ refl))
   node_below (Atom weight weight_at token) owner at q s = omega (arith, below_get (all_nodes source) (at.node + 0) _ (s.there 0 _ refl))
-  node_below (Union' size parts) owner at q s = omega (arith, below_get (all_nodes source) (at.node + 0) _ (s.there 0 _ refl))
-  node_below (Product' size parts token) owner at q s = omega (arith, below_get (all_nodes source) (at.node + 0) _ (s.there 0 _ refl))
-  node_below (Coll' kind size part bound token) owner at q s = omega (arith, below_get (all_nodes source) (at.node + 0) _ (s.there 0 _ refl))
+  node_below (Union parts) owner at q s = omega (arith, below_get (all_nodes source) (at.node + 0) _ (s.there 0 _ refl))
+  node_below (Product parts token) owner at q s = omega (arith, below_get (all_nodes source) (at.node + 0) _ (s.there 0 _ refl))
+  node_below (Coll kind part bound token) owner at q s = omega (arith, below_get (all_nodes source) (at.node + 0) _ (s.there 0 _ refl))
 
 module _ (source : Source) (c : Clean source) where
   pub sits_kept : (e : TypeExpr) (owner : ℕ) (at : Spot) → Sits source owner at e → (t : Tree) → Member (core source) (part_at (names_of source) (definitions source) at e).node t ↔ IsOf source e t

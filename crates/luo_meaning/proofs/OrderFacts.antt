@@ -4,9 +4,9 @@ use Rattle.luo_model.specs.declared.table.Entry.TheVariants.{Total}
 use Rattle.luo_model.specs.Tree.{Tree, Atom, Inj, Tup, Coll, size_of}
 use Rattle.luo_model.specs.Member.{Member}
 use Rattle.luo_source.specs.declared.names.Name.{Name}
-use Rattle.luo_source.specs.declared.types.TypeExpr as type
-use Rattle.luo_source.specs.declared.types.TypeExpr.{TypeExpr, Named, Epsilon, Union', Product', Coll', end_of-TypeExpr, more_of-TypeExpr}
-use Rattle.luo_source.specs.declared.source.Source.{Source}
+use Rattle.luo_source.specs.Plain.Types as type
+use Rattle.luo_source.specs.Plain.Types.{TypeExpr, Named, Epsilon, Union, Product, Coll, no_exprs, an_expr}
+use Rattle.luo_source.specs.Plain.Source.{Source}
 use Rattle.luo_rules.specs.declared.names.Meaning.TheVariants as mean
 use Rattle.luo_rules.specs.Definitions.{Definition, definitions, names_of}
 use Rattle.luo_rules.specs.Meanings.{meaning}
@@ -36,13 +36,13 @@ abbrev form_number : TypeExpr → ℕ
 form_number (Named name) = 0
 form_number (Epsilon at) = 1
 form_number (type.Atom weight weight_at at) = 2
-form_number (Union' size parts) = 3
-form_number (Product' size parts at) = 4
-form_number (Coll' kind size part bound at) = 5
+form_number (Union parts) = 3
+form_number (Product parts at) = 4
+form_number (Coll kind part bound at) = 5
 
 abbrev inside : TypeExpr → List TypeExpr
-inside (Union' size parts) = exprs_in parts
-inside (Product' size parts at) = exprs_in parts
+inside (Union parts) = exprs_in parts
+inside (Product parts at) = exprs_in parts
 inside _ = []
 
 leads_self : (source : Source) (c e : TypeExpr) → IsConstruct e → LeadsTo source c e → c ≡ e
@@ -76,10 +76,10 @@ abbrev tree_name : ℕ → TypeExpr
 tree_name at = Named (name (codes "tree") at)
 
 abbrev product : TypeExpr
-product = Product' (tt ∷ tt ∷ tt ∷ []) (more_of-TypeExpr (node_name 20) (more_of-TypeExpr (tree_name 22) (more_of-TypeExpr (tree_name 24) end_of-TypeExpr))) 18
+product = Product (an_expr (node_name 20) (an_expr (tree_name 22) (an_expr (tree_name 24) no_exprs))) 18
 
 abbrev union : TypeExpr
-union = Union' (tt ∷ tt ∷ []) (more_of-TypeExpr (leaf_name 16) (more_of-TypeExpr product end_of-TypeExpr))
+union = Union (an_expr (leaf_name 16) (an_expr product no_exprs))
 
 abbrev Keeps : TypeExpr → TypeExpr → Type 0
 Keeps e f = KeepsSize binary_source e f
@@ -104,9 +104,9 @@ record From (e f : TypeExpr) : Type 0 where
 
 -- no collection stands in this source
 from : (e f : TypeExpr) → ((c : TypeExpr) → LeadsTo binary_source c e → form_number c ≡ 5 → ⊥) → Keeps e f → From e f
-from e f none (by_branch {size} {parts} i l is) = record { c = Union' size parts; to = l; is_construct = tt; i = i; is = is; others = λ e. absurd (omega (arith, e)) }
-from e f none (by_factor {size} {parts} {at} i l is others) = record { c = Product' size parts at; to = l; is_construct = tt; i = i; is = is; others = λ e. others }
-from e f none (by_component {kind} {size} {part} {bound} {at} l one allows) = absurd (none (Coll' kind size part bound at) l refl)
+from e f none (by_branch {parts} i l is) = record { c = Union parts; to = l; is_construct = tt; i = i; is = is; others = λ e. absurd (omega (arith, e)) }
+from e f none (by_factor {parts} {at} i l is others) = record { c = Product parts at; to = l; is_construct = tt; i = i; is = is; others = λ e. others }
+from e f none (by_component {kind} {bound} {at} l allows) = absurd (none (Coll kind f bound at) l refl)
 
 -- steps from a construct itself
 here : (e f : TypeExpr) → IsConstruct e → (form_number e ≡ 5 → ⊥) → (step : Keeps e f) → (i : ℕ) × (slice_get (inside e) i ≡ Some f) × (form_number e ≡ 4 → (k : ℕ) (other : TypeExpr) → slice_get (inside e) k ≡ Some other → (k ≡ i → ⊥) → MayBeEmpty binary_source other)
@@ -117,12 +117,12 @@ here e f q five step =
 
 -- a step from a name of a definition is one from its right side
 behind_name : (n : Name) (i : ℕ) (d : Definition) (f : TypeExpr) → slice_get (definitions binary_source) i ≡ Some d → meaning (names_of binary_source) n.text ≡ Some (mean.Definition i) → Keeps (Named n) f → Keeps d.right f
-behind_name n i d f there means (by_branch {size} {parts} j l is) =
-    let r = leads_named binary_source (Union' size parts) n tt l in by_branch j (subst (LeadsTo binary_source (Union' size parts)) (right_of i d n.text r.0 there means r.1) r.2) is
-behind_name n i d f there means (by_factor {size} {parts} {at} j l is others) =
-    let r = leads_named binary_source (Product' size parts at) n tt l in by_factor j (subst (LeadsTo binary_source (Product' size parts at)) (right_of i d n.text r.0 there means r.1) r.2) is others
-behind_name n i d f there means (by_component {kind} {size} {part} {bound} {at} l one allows) =
-    let r = leads_named binary_source (Coll' kind size part bound at) n tt l in by_component (subst (LeadsTo binary_source (Coll' kind size part bound at)) (right_of i d n.text r.0 there means r.1) r.2) one allows
+behind_name n i d f there means (by_branch {parts} j l is) =
+    let r = leads_named binary_source (Union parts) n tt l in by_branch j (subst (LeadsTo binary_source (Union parts)) (right_of i d n.text r.0 there means r.1) r.2) is
+behind_name n i d f there means (by_factor {parts} {at} j l is others) =
+    let r = leads_named binary_source (Product parts at) n tt l in by_factor j (subst (LeadsTo binary_source (Product parts at)) (right_of i d n.text r.0 there means r.1) r.2) is others
+behind_name n i d f there means (by_component {kind} {bound} {at} l allows) =
+    let r = leads_named binary_source (Coll kind f bound at) n tt l in by_component (subst (LeadsTo binary_source (Coll kind f bound at)) (right_of i d n.text r.0 there means r.1) r.2) allows
 
 no_step : (e f : TypeExpr) → IsConstruct e → (form_number e ≡ 5 → ⊥) → inside e ≡ [] → Keeps e f → ⊥
 no_step e f q five none step = let s = here e f q five step in absurd (none_some f (ap (λ z. slice_get z s.0) (sym none) ∙ s.1))

@@ -10,11 +10,8 @@ use Rattle.luo_model.specs.Member.{Member}
 use Rattle.luo_model.specs.Structures.{IsStructure}
 use Rattle.luo_model.specs.Charges.{of_body, Charges, BodyCharges, SiteCharges}
 use Rattle.luo_model.proofs.SiteLemmas.{procedures_charge_their_bodies}
-use Rattle.luo_source.specs.declared.types.TypeExpr.{TypeExpr, Named}
-use Rattle.luo_source.specs.declared.source.ProcBody.{ProcBody}
-use Rattle.luo_source.specs.declared.source.ProcBody.TheVariants.{Statements, Value}
-use Rattle.luo_source.specs.declared.source.ProcDef.{ProcDef}
-use Rattle.luo_source.specs.declared.source.Source.{Source}
+use Rattle.luo_source.specs.Plain.Types.{TypeExpr, Named}
+use Rattle.luo_source.specs.Plain.Source.{ProcBody, Statements, Value, ProcDef, Source}
 use Rattle.luo_rules.specs.Meanings.{type_use}
 use Rattle.luo_rules.specs.Settings.{meant, def_node, type_node, part_meant}
 use Rattle.luo_rules.specs.ValueBreaches.{value_breaches}
@@ -46,7 +43,7 @@ use Rattle.luo_meaning.proofs.Typing.{Holds}
 use Rattle.luo_meaning.proofs.Held.{held}
 use Rattle.luo_meaning.proofs.TypedScopes.{typed_one}
 use Rattle.luo_meaning.proofs.LevelsKept.{whole_kept}
-use Rattle.luo_meaning.proofs.SitesKept.{InNode, InType, Related, At, list_some}
+use Rattle.luo_meaning.proofs.SitesKept.{InNode, InType, Related, At, stmts_some}
 use Rattle.luo_meaning.proofs.ValueSites.{value_same}
 use Rattle.luo_meaning.proofs.ValueSitesKept.{value_some}
 
@@ -68,7 +65,7 @@ module _ (source : Source) (c : Clean source) (none : measures_breaches (names_o
   body_some p (Statements stmts) n at holds proper e =
       let s = setting_of source in
       let x = part_meant s (meant s p.on) in
-      list_some source c none Q P related stmts (parameter s p) ((p.param.text, Named p.on) ∷ []) (x ∷ []) (typed_one source c p.param.text x x (Named p.on) refl holds) at proper e
+      stmts_some source c none Q P related stmts (parameter s p) ((p.param.text, Named p.on) ∷ []) (x ∷ []) (typed_one source c p.param.text x x (Named p.on) refl holds) at proper e
   body_some p (Value colon result value) n at holds proper e =
       let s = setting_of source in
       let x = part_meant s (meant s p.on) in

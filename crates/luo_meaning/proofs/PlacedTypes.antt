@@ -6,17 +6,17 @@ use Rattle.luo_model.specs.declared.program.Part.{Part}
 use Rattle.luo_model.specs.declared.program.Shape.{Shape}
 use Rattle.luo_model.specs.declared.program.Shape.TheVariants as shape
 use Rattle.luo_source.specs.declared.names.Name.{Name}
-use Rattle.luo_source.specs.declared.types.TypeExpr as type
-use Rattle.luo_source.specs.declared.types.TypeExpr.{TypeExpr, Named, Epsilon, Union', Product', Coll', Row_of-TypeExpr, end_of-TypeExpr, more_of-TypeExpr}
-use Rattle.luo_source.specs.declared.source.Source.{Source}
+use Rattle.luo_source.specs.Plain.Types as type
+use Rattle.luo_source.specs.Plain.Types.{TypeExpr, Named, Epsilon, Union, Product, Coll, TypeExprs, no_exprs, an_expr}
+use Rattle.luo_source.specs.Plain.Source.{Source}
 use Rattle.luo_rules.specs.declared.names.Meaning.{Meaning}
 use Rattle.luo_rules.specs.declared.names.Meaning.TheVariants as mean
-use Rattle.luo_rules.specs.Counted.{own_nodes, count_exprs}
+use Rattle.luo_rules.specs.Counted.{own_nodes}
 use Rattle.luo_rules.specs.Meanings.{meaning, type_use}
 use Rattle.luo_rules.specs.Definitions.{Definition, definitions, names_of, definition_meant, named_by, named_at, next, first_node}
 use Rattle.luo_rules.specs.inner.Naming.{node_of}
 use Rattle.luo_rules.specs.TypeBreaches.{expr_breaches, low_of, high_of}
-use Rattle.luo_rules.specs.Nodes.{Spot, behind, named_part, part_at, parts_at, boxed_part_at, start}
+use Rattle.luo_rules.specs.Nodes.{Spot, behind, named_part, part_at, parts_at, start}
 use Rattle.luo_rules.proofs.Lists.{some_same, none_some, below_get, In_get, place_in}
 use Rattle.luo_rules.proofs.NamingFacts.{EndsBy}
 use Rattle.luo_rules.proofs.DefinitionFacts.{SoundAll, type_meant, node_of_next, node_of_first, all_end, whole_node}
@@ -194,10 +194,10 @@ module _ (source : Source) (all : SoundAll source.universe (names_of source) (de
   form_shape : (x : ℕ) (c : Placed) → IsConstruct c.form → (h : HoldsAt source x c) → shape_at_node source x ≡ shape_in source h.spot c.form
   form_shape x c q h = ap (shape_at_node source) (sym (sym (bare_node source h.spot c.form q) ∙ h.at)) ∙ shape_here source h.owner h.spot c.form q h.sits
 
-  row_hold : (owner : ℕ) (at : Spot) (d : Definition) → slice_get defs owner ≡ Some d → {n : _} (row : Row_of-TypeExpr n) → AllSit source owner at row → (text : List ℕ) (place : ℕ) → d.name.text ≡ text → at.place ≡ place
+  row_hold : (owner : ℕ) (at : Spot) (d : Definition) → slice_get defs owner ≡ Some d → (row : TypeExprs) → AllSit source owner at row → (text : List ℕ) (place : ℕ) → d.name.text ≡ text → at.place ≡ place
       → AllHoldAt source (nodes_of (parts_at names defs at row)) (parts_from text place row)
-  row_hold owner at d is end_of-TypeExpr a text place e f = tt
-  row_hold owner at d is (more_of-TypeExpr g rest) a text place e f = (
+  row_hold owner at d is no_exprs a text place e f = tt
+  row_hold owner at d is (an_expr g rest) a text place e f = (
     record { owner = owner; spot = at; d = d; is = is; sits = head_sits source owner at g rest a; at = refl; name = λ q. e; place = λ q. f },
     row_hold owner (behind at (own_nodes g)) d is rest (tail_sits source owner at g rest a) text (place + length (constructs_in g)) e (omega (arith, f, constructs_length g)),
   )
@@ -209,21 +209,21 @@ module _ (source : Source) (all : SoundAll source.universe (names_of source) (de
     pub hold : AllHoldAt source (nodes_of ps) parts
 
   pub union_held : (x : ℕ) (a : Placed) (parts : List Placed) → HoldsAt source x a → IsUnionAt source a parts → PartsHeld shape.Union x parts
-  union_held x a parts h (union_at {text} {place} {size} {parts = row} l) =
+  union_held x a parts h (union_at {text} {place} {parts = row} l) =
       let k = down_at l x h in
       record {
         ps = parts_at names defs (behind k.spot 1) row;
-        is = form_shape x (record { name = text; place = place; form = Union' size row }) tt k;
-        hold = row_hold k.owner (behind k.spot 1) k.d k.is row (union_sits source k.owner k.spot size row k.sits) text (suc place) (k.name tt) (omega (arith, k.place tt));
+        is = form_shape x (record { name = text; place = place; form = Union row }) tt k;
+        hold = row_hold k.owner (behind k.spot 1) k.d k.is row (union_sits source k.owner k.spot row k.sits) text (suc place) (k.name tt) (omega (arith, k.place tt));
       }
 
   pub product_held : (x : ℕ) (a : Placed) (parts : List Placed) → HoldsAt source x a → IsProductAt source a parts → PartsHeld shape.Product x parts
-  product_held x a parts h (product_at {text} {place} {size} {parts = row} {at} l) =
+  product_held x a parts h (product_at {text} {place} {parts = row} {at} l) =
       let k = down_at l x h in
       record {
         ps = parts_at names defs (behind k.spot 1) row;
-        is = form_shape x (record { name = text; place = place; form = Product' size row at }) tt k;
-        hold = row_hold k.owner (behind k.spot 1) k.d k.is row (product_sits source k.owner k.spot size row at k.sits) text (suc place) (k.name tt) (omega (arith, k.place tt));
+        is = form_shape x (record { name = text; place = place; form = Product row at }) tt k;
+        hold = row_hold k.owner (behind k.spot 1) k.d k.is row (product_sits source k.owner k.spot row at k.sits) text (suc place) (k.name tt) (omega (arith, k.place tt));
       }
 
   pub record ComponentHeld (x : ℕ) (f : Placed) : Type 0 where
@@ -234,27 +234,16 @@ module _ (source : Source) (all : SoundAll source.universe (names_of source) (de
     pub is : shape_at_node source x ≡ shape.Coll kind part low high
     pub hold : HoldsAt source part.node f
 
-  one_held : (owner : ℕ) (at : Spot) (d : Definition) → slice_get defs owner ≡ Some d → {n : _} (row : Row_of-TypeExpr n) → AllSit source owner at row → (text : List ℕ) (place : ℕ) → d.name.text ≡ text → at.place ≡ place
-      → (f : Placed) → parts_from text place row ≡ f ∷ [] → HoldsAt source (boxed_part_at names defs at row).node f
-  one_held owner at d is end_of-TypeExpr a text place e f g one = absurd (cc)
-  one_held owner at d is (more_of-TypeExpr h rest) a text place e f g one =
-      let same : record { name = text; place = place; form = h } ≡ g = head_same (record { name = text; place = place; form = h }) g (parts_from text (place + length (constructs_in h)) rest) one in
-      subst (HoldsAt source (part_at names defs at h).node) same (record { owner = owner; spot = at; d = d; is = is; sits = head_sits source owner at h rest a; at = refl; name = λ q. e; place = λ q. f })
-    where
-      head_same : (b c : Placed) (bs : List Placed) → b ∷ bs ≡ c ∷ [] → b ≡ c
-      head_same b c bs e = cc
-
   pub collection_held : (x : ℕ) (a f : Placed) → HoldsAt source x a → IsCollectionAt source a f → ComponentHeld x f
-  collection_held x a f h (collection_at {text} {place} {kind} {size} {part = row} {bound} {at} g one l) =
+  collection_held x a f h (collection_at {text} {place} {kind} {part} {bound} {at} l) =
       let k = down_at l x h in
-      let b = coll_sits source k.owner k.spot kind size row bound at k.sits in
       record {
         kind = kind;
-        part = boxed_part_at names defs (behind k.spot 1) row;
+        part = part_at names defs (behind k.spot 1) part;
         low = low_of kind bound;
         high = high_of bound;
-        is = form_shape x (record { name = text; place = place; form = Coll' kind size row bound at }) tt k;
-        hold = one_held k.owner (behind k.spot 1) k.d k.is row b.all text (suc place) (k.name tt) (omega (arith, k.place tt)) g one;
+        is = form_shape x (record { name = text; place = place; form = Coll kind part bound at }) tt k;
+        hold = record { owner = k.owner; spot = behind k.spot 1; d = k.d; is = k.is; sits = coll_sits source k.owner k.spot kind part bound at k.sits; at = refl; name = λ q. k.name tt; place = λ q. omega (arith, k.place tt) };
       }
 
   pub atom_held : (x : ℕ) (a : Placed) → HoldsAt source x a → IsAtomAt source a → (weight : ℕ) × (shape_at_node source x ≡ shape.Atom weight)
@@ -275,13 +264,6 @@ module _ (source : Source) (all : SoundAll source.universe (names_of source) (de
       by text place (Named name) l q k = absurd q
       by text place (Epsilon at) l q k = an_atom (epsilon_at l)
       by text place (type.Atom weight weight_at at) l q k = an_atom (atom_at l)
-      by text place (Union' size row) l q k = a_union (parts_from text (suc place) row) (union_at l)
-      by text place (Product' size row at) l q k = a_product (parts_from text (suc place) row) (product_at l)
-      by text place (Coll' kind size row bound at) l q k =
-          let one = one_part text (suc place) row k.sits.proper.0 in
-          a_collection one.0 (collection_at one.0 one.1 l)
-        where
-          one_part : (text : List ℕ) (place : ℕ) {n : _} (row : Row_of-TypeExpr n) → count_exprs row ≡ 1 → (f : Placed) × (parts_from text place row ≡ f ∷ [])
-          one_part text place end_of-TypeExpr e = absurd (omega (arith, e))
-          one_part text place (more_of-TypeExpr e end_of-TypeExpr) h = (record { name = text; place = place; form = e }, refl)
-          one_part text place (more_of-TypeExpr e (more_of-TypeExpr f rest)) h = absurd (omega (arith, h))
+      by text place (Union row) l q k = a_union (parts_from text (suc place) row) (union_at l)
+      by text place (Product row at) l q k = a_product (parts_from text (suc place) row) (product_at l)
+      by text place (Coll kind part bound at) l q k = a_collection (record { name = text; place = suc place; form = part }) (collection_at l)

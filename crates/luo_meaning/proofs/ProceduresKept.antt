@@ -4,10 +4,7 @@ use Rattle.luo_model.specs.Tree.{Tree}
 use Rattle.luo_model.specs.Program.{Procedure}
 use Rattle.luo_model.specs.Charges as model
 use Rattle.luo_model.specs.Charges.{ChargesWithin, Charges}
-use Rattle.luo_source.specs.declared.source.ProcBody.{ProcBody}
-use Rattle.luo_source.specs.declared.source.ProcBody.TheVariants.{Statements, Value}
-use Rattle.luo_source.specs.declared.source.ProcDef.{ProcDef}
-use Rattle.luo_source.specs.declared.source.Source.{Source}
+use Rattle.luo_source.specs.Plain.Source.{ProcBody, Statements, Value, ProcDef, Source}
 use Rattle.luo_rules.specs.declared.names.Meaning.TheVariants as mean
 use Rattle.luo_rules.specs.declared.setting.Setting.{Setting}
 use Rattle.luo_rules.specs.Meanings.{meaning, type_use}
@@ -23,7 +20,7 @@ use Rattle.luo_meaning.specs.Defined.{DefinesMeasure}
 use Rattle.luo_meaning.specs.Charges.{BodyCharges, ProcChargesWithin, ProcCharges}
 use Rattle.luo_meaning.proofs.Named.{procedure_named, named_procedure, measure_named, named_measure}
 use Rattle.luo_meaning.proofs.Steps.{agree_one}
-use Rattle.luo_meaning.proofs.StatementsKept.{Keeps, list_kept}
+use Rattle.luo_meaning.proofs.StatementsKept.{Keeps, stmts_kept}
 use Rattle.luo_meaning.proofs.ValuesKept.{value_kept}
 
 value_of_measure : (j k v w : ℕ) → Some (mean.Measure j v) ≡ Some (mean.Measure k w) → v ≡ w
@@ -36,7 +33,7 @@ procedure_number f g e = cc
 body_kept : (source : Source) (R : ℕ → Tree → ℕ → Type 0) (S : List ℕ → Tree → ℕ → Type 0) (s : Setting) → Keeps source s R S → (p : ProcDef) (body : ProcBody) (n at : ℕ) → body_breaches s p (Some n) body ≡ [] → (t : Tree) (q : ℕ)
     → model.BodyCharges R (body_core s p at body) (t ∷ []) q ↔ BodyCharges source S ((p.param.text, t) ∷ []) body q
 body_kept source R S s keeps p (Statements stmts) n at none t q =
-    list_kept source R S s keeps stmts (parameter s p) ((p.param.text, t) ∷ []) (t ∷ []) (agree_one p.param.text (part_meant s (meant s p.on)) t) at none q
+    stmts_kept source R S s keeps stmts (parameter s p) ((p.param.text, t) ∷ []) (t ∷ []) (agree_one p.param.text (part_meant s (meant s p.on)) t) at none q
 body_kept source R S s keeps p (Value colon result value) n at none t q =
     value_kept source R S s keeps value (parameter s p) ((p.param.text, t) ∷ []) (t ∷ []) (agree_one p.param.text (part_meant s (meant s p.on)) t) at (type_node s result)
     (nil_right (result_breaches s.universe colon p.name ++ type_use (meant s result) result) (value_breaches s (parameter s p) (type_node s result) value) none) q

@@ -5,11 +5,8 @@ use Rattle.luo_model.specs.declared.program.Universe.TheVariants.{Unlabelled, La
 use Rattle.luo_model.specs.Tree.{Tree}
 use Rattle.luo_model.specs.Program.{Procedure, Result}
 use Rattle.luo_source.specs.declared.names.Name.{Name}
-use Rattle.luo_source.specs.declared.types.TypeExpr.{Named}
-use Rattle.luo_source.specs.declared.source.ProcBody.{ProcBody}
-use Rattle.luo_source.specs.declared.source.ProcBody.TheVariants.{Statements, Value}
-use Rattle.luo_source.specs.declared.source.ProcDef.{ProcDef}
-use Rattle.luo_source.specs.declared.source.Source.{Source}
+use Rattle.luo_source.specs.Plain.Types.{Named}
+use Rattle.luo_source.specs.Plain.Source.{ProcBody, Statements, Value, ProcDef, Source}
 use Rattle.luo_rules.specs.declared.names.Meaning.TheVariants as mean
 use Rattle.luo_rules.specs.Meanings.{meaning}
 use Rattle.luo_rules.specs.Settings.{meant, def_node, node_meant, type_node, part_meant}

@@ -1,5 +1,5 @@
 -- The rank of a node is that of the type expression that it stands for.
-use Rattle.std.proofs.Common.{◌≡◌, ◌↔◌, ℕ, zero, suc, List, [], ◌∷◌, Option, Some, None, refl, sym, ap, ◌∙◌, subst, inl, inr, arith}
+use Rattle.std.proofs.Common.{◌≡◌, ◌↔◌, ℕ, zero, suc, List, [], ◌∷◌, Option, Some, None, refl, sym, ap, subst, inl, inr, arith}
 use Rattle.luo_finite.specs.Listing.{In}
 use Rattle.luo_finite.specs.Walk.{Walk}
 use Rattle.luo_founded.proofs.MadeLemmas.{zero_of_member}
@@ -13,9 +13,9 @@ use Rattle.luo_model.specs.Program.{Program, shape_of}
 use Rattle.luo_model.specs.Member.{IsLabel, IsWithin, ComponentsStand, Fits, FitAll, Member}
 use Rattle.luo_model.specs.Founded.{IsBuilt, BuiltWithin, HasZero, KeepsSize, SameSize, HasEmptyComponent, IsFounded}
 use Rattle.luo_model.specs.Levels.{IsRank}
-use Rattle.luo_source.specs.declared.types.TypeExpr as type
-use Rattle.luo_source.specs.declared.types.TypeExpr.{TypeExpr, Named, Epsilon, Union', Product', Coll', Row_of-TypeExpr}
-use Rattle.luo_source.specs.declared.source.Source.{Source}
+use Rattle.luo_source.specs.Plain.Types as type
+use Rattle.luo_source.specs.Plain.Types.{TypeExpr, Named, Epsilon, Union, Product, Coll, TypeExprs}
+use Rattle.luo_source.specs.Plain.Source.{Source}
 use Rattle.luo_rules.specs.Definitions.{definitions, names_of}
 use Rattle.luo_rules.specs.Nodes.{Spot, behind, part_at, parts_at}
 use Rattle.luo_rules.specs.Whole.{core}
@@ -25,7 +25,7 @@ use Rattle.luo_meaning.specs.Types.{LeadsTo}
 use Rattle.luo_meaning.specs.Constructs.{IsConstruct}
 use Rattle.luo_meaning.specs.Ranks as written
 use Rattle.luo_meaning.specs.Ranks.{MayBeEmpty, by_branch, by_factor, by_component, HasChain, IsRankOf}
-use Rattle.luo_meaning.proofs.Sits.{first_same, shape_in, union_sits, product_sits, coll_sits, PartIs, row_get, row_back}
+use Rattle.luo_meaning.proofs.Sits.{shape_in, union_sits, product_sits, coll_sits, PartIs, row_get, row_back}
 use Rattle.luo_meaning.proofs.StructuresKept.{bound_same, zero_label}
 use Rattle.luo_meaning.proofs.Typing.{Holds, down, up, shape_of_construct, union_shape, product_shape}
 use Rattle.luo_meaning.proofs.Held.{held}
@@ -84,20 +84,20 @@ module _ (source : Source) (c : Clean source) (f : IsFounded (core source)) wher
   )
 
   -- a part of a row holds what stands there
-  part_holds : (owner : ℕ) (at : Spot) {n : _} (row : Row_of-TypeExpr n) (i : ℕ) (part : Part) (e : TypeExpr) → PartIs source owner at row i part e → Holds source part.node e
+  part_holds : (owner : ℕ) (at : Spot) (row : TypeExprs) (i : ℕ) (part : Part) (e : TypeExpr) → PartIs source owner at row i part e → Holds source part.node e
   part_holds owner at row i part e q = record { owner = owner; spot = q.spot; sits = q.sits; at = ap (λ (z : Part). z.node) (sym q.is) }
 
   -- a step as written is one of nodes
   pub step_down : (x : ℕ) (e g : TypeExpr) → Holds source x e → written.KeepsSize source e g → (y : ℕ) × Holds source y g × SameSize (core source) x y
-  step_down x e g h (by_branch {size} {parts} i l is) =
+  step_down x e g h (by_branch {parts} i l is) =
       let k = down source c l x h in
-      let r = row_back source k.owner (behind k.spot 1) parts (union_sits source k.owner k.spot size parts k.sits) i g is in
+      let r = row_back source k.owner (behind k.spot 1) parts (union_sits source k.owner k.spot parts k.sits) i g is in
       let all = parts_at (names_of source) (definitions source) (behind k.spot 1) parts in
       let step : KeepsSize (HasZero (core source)) (shape.Union all) r.0.node = (r.0, In_get all i r.0 r.1.get, refl) in
-      (r.0.node, part_holds k.owner (behind k.spot 1) parts i r.0 g r.1, subst (λ s. KeepsSize (HasZero (core source)) s r.0.node) (sym (union_shape source c size parts x k)) step)
-  step_down x e g h (by_factor {size} {parts} {at} i l is others) =
+      (r.0.node, part_holds k.owner (behind k.spot 1) parts i r.0 g r.1, subst (λ s. KeepsSize (HasZero (core source)) s r.0.node) (sym (union_shape source c parts x k)) step)
+  step_down x e g h (by_factor {parts} {at} i l is others) =
       let k = down source c l x h in
-      let sits = product_sits source k.owner k.spot size parts at k.sits in
+      let sits = product_sits source k.owner k.spot parts at k.sits in
       let r = row_back source k.owner (behind k.spot 1) parts sits i g is in
       let all = parts_at (names_of source) (definitions source) (behind k.spot 1) parts in
       let step : KeepsSize (HasZero (core source)) (shape.Product all) r.0.node = (
@@ -109,31 +109,29 @@ module _ (source : Source) (c : Clean source) (f : IsFounded (core source)) wher
             let o = row_get source k.owner (behind k.spot 1) parts sits j other there in
             (empty_kept other.node o.0 (part_holds k.owner (behind k.spot 1) parts j other o.0 o.1)).1 (others j o.0 o.1.written no),
       ) in
-      (r.0.node, part_holds k.owner (behind k.spot 1) parts i r.0 g r.1, subst (λ s. KeepsSize (HasZero (core source)) s r.0.node) (sym (product_shape source c size parts at x k)) step)
-  step_down x e g h (by_component {kind} {size} {part} {bound} {at} l one allows) =
+      (r.0.node, part_holds k.owner (behind k.spot 1) parts i r.0 g r.1, subst (λ s. KeepsSize (HasZero (core source)) s r.0.node) (sym (product_shape source c parts at x k)) step)
+  step_down x e g h (by_component {kind} {bound} {at} l allows) =
       let k = down source c l x h in
-      let b = coll_sits source k.owner k.spot kind size part bound at k.sits in
-      let same : b.e ≡ g = first_same b.e g (sym b.one ∙ one) in
-      let y = (part_at (names_of source) (definitions source) (behind k.spot 1) b.e).node in
-      let form = shape_of_construct source c (Coll' kind size part bound at) x tt k refl in
-      let step : KeepsSize (HasZero (core source)) (shape_in source k.spot (Coll' kind size part bound at)) y = (ap (λ (z : Part). z.node) b.part, (bound_same kind bound 1).1 allows) in
-      (y, subst (Holds source y) same (record { owner = k.owner; spot = behind k.spot 1; sits = b.sits; at = refl }), subst (λ s. KeepsSize (HasZero (core source)) s y) (sym form) step)
+      let y = (part_at (names_of source) (definitions source) (behind k.spot 1) g).node in
+      let form = shape_of_construct source c (Coll kind g bound at) x tt k refl in
+      let step : KeepsSize (HasZero (core source)) (shape_in source k.spot (Coll kind g bound at)) y = (refl, (bound_same kind bound 1).1 allows) in
+      (y, record { owner = k.owner; spot = behind k.spot 1; sits = coll_sits source k.owner k.spot kind g bound at k.sits; at = refl }, subst (λ s. KeepsSize (HasZero (core source)) s y) (sym form) step)
 
   -- and back
   step_from : (x y : ℕ) (e k : TypeExpr) → LeadsTo source k e → (h : Holds source x k) → IsConstruct k → SameSize (core source) x y → (g : TypeExpr) × Holds source y g × written.KeepsSize source e g
   step_from x y e (Named name) l h q step = absurd q
   step_from x y e (Epsilon token) l h q step = absurd (subst (λ s. KeepsSize (HasZero (core source)) s y) (shape_of_construct source c (Epsilon token) x tt h refl) step)
   step_from x y e (type.Atom weight weight_at token) l h q step = absurd (subst (λ s. KeepsSize (HasZero (core source)) s y) (shape_of_construct source c (type.Atom weight weight_at token) x tt h refl) step)
-  step_from x y e (Union' size parts) l h q step =
+  step_from x y e (Union parts) l h q step =
       let all = parts_at (names_of source) (definitions source) (behind h.spot 1) parts in
-      let s : KeepsSize (HasZero (core source)) (shape.Union all) y = subst (λ s. KeepsSize (HasZero (core source)) s y) (union_shape source c size parts x h) step in
+      let s : KeepsSize (HasZero (core source)) (shape.Union all) y = subst (λ s. KeepsSize (HasZero (core source)) s y) (union_shape source c parts x h) step in
       let at = place_in s.0 all s.1 in
-      let r = row_get source h.owner (behind h.spot 1) parts (union_sits source h.owner h.spot size parts h.sits) at.0 s.0 at.1 in
+      let r = row_get source h.owner (behind h.spot 1) parts (union_sits source h.owner h.spot parts h.sits) at.0 s.0 at.1 in
       (r.0, subst (λ n. Holds source n r.0) s.2 (part_holds h.owner (behind h.spot 1) parts at.0 s.0 r.0 r.1), by_branch at.0 l r.1.written)
-  step_from x y e (Product' size parts token) l h q step =
+  step_from x y e (Product parts token) l h q step =
       let all = parts_at (names_of source) (definitions source) (behind h.spot 1) parts in
-      let sits = product_sits source h.owner h.spot size parts token h.sits in
-      let s : KeepsSize (HasZero (core source)) (shape.Product all) y = subst (λ s. KeepsSize (HasZero (core source)) s y) (product_shape source c size parts token x h) step in
+      let sits = product_sits source h.owner h.spot parts token h.sits in
+      let s : KeepsSize (HasZero (core source)) (shape.Product all) y = subst (λ s. KeepsSize (HasZero (core source)) s y) (product_shape source c parts token x h) step in
       let r = row_get source h.owner (behind h.spot 1) parts sits s.0 s.1 s.2 in (
         r.0,
         subst (λ n. Holds source n r.0) s.3 (part_holds h.owner (behind h.spot 1) parts s.0 s.1 r.0 r.1),
@@ -141,11 +139,10 @@ module _ (source : Source) (c : Clean source) (f : IsFounded (core source)) wher
             let o = row_back source h.owner (behind h.spot 1) parts sits j other there in
             (empty_kept o.0.node other (part_holds h.owner (behind h.spot 1) parts j o.0 other o.1)).0 (s.4 j o.0 o.1.get no)),
       )
-  step_from x y e (Coll' kind size part bound token) l h q step =
-      let b = coll_sits source h.owner h.spot kind size part bound token h.sits in
-      let s : KeepsSize (HasZero (core source)) (shape_in source h.spot (Coll' kind size part bound token)) y =
-      subst (λ s. KeepsSize (HasZero (core source)) s y) (shape_of_construct source c (Coll' kind size part bound token) x tt h refl) step in
-      (b.e, record { owner = h.owner; spot = behind h.spot 1; sits = b.sits; at = ap (λ (z : Part). z.node) (sym b.part) ∙ s.0 }, by_component l b.one ((bound_same kind bound 1).0 s.1))
+  step_from x y e (Coll kind part bound token) l h q step =
+      let s : KeepsSize (HasZero (core source)) (shape_in source h.spot (Coll kind part bound token)) y =
+      subst (λ s. KeepsSize (HasZero (core source)) s y) (shape_of_construct source c (Coll kind part bound token) x tt h refl) step in
+      (part, record { owner = h.owner; spot = behind h.spot 1; sits = coll_sits source h.owner h.spot kind part bound token h.sits; at = s.0 }, by_component l ((bound_same kind bound 1).0 s.1))
 
   pub step_up : (x y : ℕ) (e : TypeExpr) → Holds source x e → SameSize (core source) x y → (g : TypeExpr) × Holds source y g × written.KeepsSize source e g
   step_up x y e h step = let u = up source c x e h in step_from x y e u.k u.to u.holds u.is_construct step

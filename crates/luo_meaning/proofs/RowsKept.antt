@@ -14,9 +14,8 @@ use Rattle.luo_model.specs.Structures.{IsStructure}
 use Rattle.luo_model.specs.Tables.{IsRow}
 use Rattle.luo_model.proofs.SiteLemmas.{wholes_charge, wholes_charge_no_more}
 use Rattle.luo_source.specs.declared.names.Name.{Name}
-use Rattle.luo_source.specs.declared.types.TypeExpr.{Named}
-use Rattle.luo_source.specs.declared.source.ProcDef.{ProcDef}
-use Rattle.luo_source.specs.declared.source.Source.{Source}
+use Rattle.luo_source.specs.Plain.Types.{Named}
+use Rattle.luo_source.specs.Plain.Source.{ProcDef, Source}
 use Rattle.luo_rules.specs.declared.names.Meaning.TheVariants as mean
 use Rattle.luo_rules.specs.Meanings.{meaning, type_use}
 use Rattle.luo_rules.specs.Settings.{part_meant}

@@ -1,6 +1,5 @@
 -- Some site of statements in the core form is some site of the statements as written.
 use Rattle.std.proofs.Common.{◌≡◌, ◌⊎◌, ◌↔◌, ℕ, suc, ◌+◌, List, [], ◌∷◌, length, Option, Some, None, refl, sym, ap, ◌∙◌, subst, inl, inr, arith}
-use Rattle.std.specs.Prelude.{flat_map}
 use Rattle.luo_model.specs.declared.program.Part.{Part}
 use Rattle.luo_model.specs.declared.program.Shape.{Shape}
 use Rattle.luo_model.specs.declared.program.Shape.TheVariants as shape
@@ -14,9 +13,9 @@ use Rattle.luo_model.specs.Charges.{Work, of_body, of_call, of_case, of_walk, Ea
 use Rattle.luo_model.specs.Scopes.Stands.{Stand, stands, component, IsCollection, no_part, part_at, bound_parts}
 use Rattle.luo_model.specs.Scopes.ValueBodies.{join_items}
 use Rattle.luo_source.specs.declared.names.Name.{Name}
-use Rattle.luo_source.specs.declared.types.TypeExpr.{TypeExpr}
-use Rattle.luo_source.specs.declared.statements.Stmt.{Stmt, Skip, Charge, Call, Block', Case', Forall', Row_of-Stmt, end_of-Stmt, more_of-Stmt, Row_of-SourceArm, end_of-SourceArm, more_of-SourceArm}
-use Rattle.luo_source.specs.declared.source.Source.{Source}
+use Rattle.luo_source.specs.Plain.Types.{TypeExpr}
+use Rattle.luo_source.specs.Plain.Statements.{Stmt, Skip, Charge, Call, Block, Case, Forall, Stmts, no_stmts, a_stmt, SourceArms, no_source_arms, a_source_arm}
+use Rattle.luo_source.specs.Plain.Source.{Source}
 use Rattle.luo_rules.specs.declared.rule.Breach.{Breach}
 use Rattle.luo_rules.specs.declared.setting.Setting.{Setting}
 use Rattle.luo_rules.specs.declared.setting.Variable.{Variable}
@@ -29,21 +28,21 @@ use Rattle.luo_rules.specs.Definitions.{names_of, measures}
 use Rattle.luo_rules.specs.TypeBreaches.{measures_breaches}
 use Rattle.luo_rules.specs.Nodes.{setting_of}
 use Rattle.luo_rules.specs.StatementBreaches.{count_arms, walked, walk_into, walk_breaches, stmt_breaches, stmts_breaches, arms_breaches}
-use Rattle.luo_rules.specs.StatementCore.{stmts_own, stmt_sites, stmts_sites, arms_sites, stmt_items, stmts_items, arms_core}
-use Rattle.luo_rules.specs.Whole.{core, items_of}
+use Rattle.luo_rules.specs.StatementCore.{stmt_sites, arms_sites, stmt_items, stmts_items, arms_core, stmt_own}
+use Rattle.luo_rules.specs.Whole.{core}
 use Rattle.luo_rules.proofs.Lists.{some_same, nil_left, nil_right, index_get}
 use Rattle.luo_rules.proofs.PatternFacts.{arm_fits, case_fits}
-use Rattle.luo_rules.proofs.ProperBodies.{ProperStmt, ProperStmts, ProperArms, AllStmts}
+use Rattle.luo_rules.proofs.ProperBodies.{ProperStmt, ProperStmts, ProperArms}
 use Rattle.luo_rules.proofs.ValueFits.{procedure_meant}
 use Rattle.luo_rules.proofs.CleanSource.{Clean}
-use Rattle.luo_meaning.specs.Charges.{StmtsCharge, ArmsCharge, ProcCharges}
-use Rattle.luo_meaning.specs.Levels.{CallLevel, StmtsLevel, ProcLevel}
+use Rattle.luo_meaning.specs.Charges.{ArmsCharge, ProcCharges, StmtCharges}
+use Rattle.luo_meaning.specs.Levels.{CallLevel, ProcLevel, StmtLevel}
 use Rattle.luo_meaning.specs.Types.{Types, type_of, IsCollectionOf, AreStands, BindsTypes}
-use Rattle.luo_meaning.specs.Sites.{SomeSite, SomeSites, SomeArm, SomeListSite}
+use Rattle.luo_meaning.specs.Sites.{SomeSite, SomeSites, SomeArm}
 use Rattle.luo_meaning.proofs.Steps.{each_map, agree_one}
-use Rattle.luo_meaning.proofs.StatementsKept.{argument_found, stmts_kept, arms_kept}
+use Rattle.luo_meaning.proofs.StatementsKept.{argument_found, arms_kept, stmt_kept}
 use Rattle.luo_meaning.proofs.ProceduresKept.{charges_kept, keeps_all}
-use Rattle.luo_meaning.proofs.LevelsKept.{own_free, call_kept, stmts_level, levels_kept}
+use Rattle.luo_meaning.proofs.LevelsKept.{own_free, call_kept, levels_kept, stmt_level}
 use Rattle.luo_meaning.proofs.SiteWorks.{InItems, InArms}
 use Rattle.luo_meaning.proofs.Sits.{shape_at_node}
 use Rattle.luo_meaning.proofs.Typing.{Holds, SameStands, IsTyped, AgreeTypes, stands_up, stands_down, component_up, component_down}
@@ -132,8 +131,8 @@ module _ (source : Source) (c : Clean source) (none : measures_breaches (names_o
         let s = setting_of source in
         let on = (signature_meant s (meant s callee)).on in
         call_some scope types vars agree first callee arg (nil_left (procedure_use (meant s callee) callee) (argument_breaches (found scope arg) on arg callee) e) on (nil_right (procedure_use (meant s callee) callee) (argument_breaches (found scope arg) on arg callee) e)
-    stmt_some (Block' size stmts) scope types vars agree first p e = stmts_some stmts scope types vars agree first p e
-    stmt_some (Case' var size arms) scope types vars agree first p e =
+    stmt_some (Block stmts) scope types vars agree first p e = stmts_some stmts scope types vars agree first p e
+    stmt_some (Case var arms) scope types vars agree first p e =
         let s = setting_of source in
         let o = found scope var in
         let k = case_fits s o var (count_arms arms) (arms_breaches s (case_stands s o) var arms) e in
@@ -169,11 +168,11 @@ module _ (source : Source) (c : Clean source) (none : measures_breaches (names_o
                 | inr g ↦ inl (inr (subst (λ z. InArms (core source) At z core_arms) (sym stood_x) ((inner h.1 are).1 g)))
               ],
         )
-    stmt_some (Forall' var over size body) scope types vars agree first p e =
+    stmt_some (Forall var over body) scope types vars agree first p e =
         let s = setting_of source in
         let o = found scope over in
         let inside : List Variable = record { name = var.text; part = walked s o } ∷ [] in
-        let w = walk_there s o over (stmts_breaches s inside body) e in
+        let w = walk_there s o over (stmt_breaches s inside body) e in
         let v = w.v in
         let t = agree over v w.is in
         let part = place_part scope types vars over v w.is t in
@@ -181,27 +180,27 @@ module _ (source : Source) (c : Clean source) (none : measures_breaches (names_o
         let y = component (shape_at_node source x.node) in
         let y_is : y ≡ component (shape_at_node source v.1.node) = ap (λ (n : Part). component (shape_at_node source n.node)) part in
         let y_walked : y ≡ walked s o = y_is ∙ sym (ap (walked s) w.is) in
-        let core_body : plain.Body = Does (stmts_own s body) (stmts_items s inside first body) in
-        let kept : (u : Tree) (q : ℕ) → model.BodyCharges (Charges (core source)) core_body (u ∷ []) q ↔ StmtsCharge source (ProcCharges source) ((var.text, u) ∷ []) body q =
-        λ u q. stmts_kept source (Charges (core source)) (ProcCharges source) s (keeps_all source c none) body inside ((var.text, u) ∷ []) (u ∷ []) (agree_one var.text (walked s o) u) first w.none q in
+        let core_body : plain.Body = Does (stmt_own s body) (stmt_items s inside first body) in
+        let kept : (u : Tree) (q : ℕ) → model.BodyCharges (Charges (core source)) core_body (u ∷ []) q ↔ StmtCharges source (ProcCharges source) ((var.text, u) ∷ []) body q =
+        λ u q. stmt_kept source (Charges (core source)) (ProcCharges source) s (keeps_all source c none) body inside ((var.text, u) ∷ []) (u ∷ []) (agree_one var.text (walked s o) u) first w.none q in
         let B : Tree → ℕ → Type 0 = λ u q. model.BodyCharges (Charges (core source)) core_body (u ∷ []) q in
-        let E : Tree → ℕ → Type 0 = λ u q. StmtsCharge source (ProcCharges source) ((var.text, u) ∷ []) body q in
+        let E : Tree → ℕ → Type 0 = λ u q. StmtCharges source (ProcCharges source) ((var.text, u) ∷ []) body q in
         let C : Tree → ℕ → Type 0 = λ u q. (ts : Trees) × (u ≡ Coll ts) × EachCharges B ts q in
         let D : Tree → ℕ → Type 0 = λ u q. (ts : Trees) × (u ≡ Coll ts) × EachCharges E ts q in
         let walks : (u : Tree) (q : ℕ) → C u q ↔ D u q = λ u q. (λ h. (h.0, h.1, each_map B E (λ a b. (kept a b).0) h.0 q h.2), λ h. (h.0, h.1, each_map E B (λ a b. (kept a b).1) h.0 q h.2)) in
         let Z : ℕ → Type 0 = λ n. n ≡ 0 in
-        let site = first + stmts_sites body + 1 in
-        let body_site = first + stmts_sites body in
+        let site = first + stmt_sites body + 1 in
+        let body_site = first + stmt_sites body in
         let L : ℕ → Type 0 = level_of.BodyLevel (WholeLevel (core source)) core_body in
-        let M : ℕ → Type 0 = StmtsLevel (ProcLevel source) body in
+        let M : ℕ → Type 0 = StmtLevel (ProcLevel source) body in
         let deep : (n : ℕ) → L n ↔ M n =
-        λ n. let free = own_free (WholeLevel (core source)) (stmts_own s body) (stmts_items s inside first body) n in
-        let b = stmts_level (WholeLevel (core source)) (ProcLevel source) s levels body inside first w.none n in (λ h. b.0 (free.0 h), λ h. free.1 (b.1 h)) in
+        λ n. let free = own_free (WholeLevel (core source)) (stmt_own s body) (stmt_items s inside first body) n in
+        let b = stmt_level (WholeLevel (core source)) (ProcLevel source) s levels body inside first w.none n in (λ h. b.0 (free.0 h), λ h. free.1 (b.1 h)) in
         let r = related site v.1.node t.e C D Z Z t.holds walks at_zero in
         let holds : (f : TypeExpr) → IsCollectionOf source t.e f → Holds source y.node f = λ f is. subst (λ (n : Part). Holds source n.node f) (sym y_is) (component_down source c v.1.node t.e f t.holds is) in
         let whole : (f : TypeExpr) → IsCollectionOf source t.e f → Q body_site y.node B L ↔ P body_site f E M = λ f is. related body_site y.node f B E L M (holds f is) kept deep in
-        let inner : (f : TypeExpr) → IsCollectionOf source t.e f → InItems (core source) At (y ∷ []) (stmts_items s inside first body) ↔ SomeSites source P ((var.text, f) ∷ []) first body =
-        λ f is. stmts_some body inside ((var.text, f) ∷ []) (y ∷ []) (typed_one source c var.text y (walked s o) f y_walked (holds f is)) first p w.none in
+        let inner : (f : TypeExpr) → IsCollectionOf source t.e f → InItems (core source) At (y ∷ []) (stmt_items s inside first body) ↔ SomeSite source P ((var.text, f) ∷ []) first body =
+        λ f is. stmt_some body inside ((var.text, f) ∷ []) (y ∷ []) (typed_one source c var.text y (walked s o) f y_walked (holds f is)) first p w.none in
         let up = component_up source c v.1.node t.e t.holds w.collection in (
           λ h. elim h [
             | inl h ↦ elim h [
@@ -225,10 +224,10 @@ module _ (source : Source) (c : Clean source) (none : measures_breaches (names_o
               ],
         )
 
-    stmts_some : {n : _} (row : Row_of-Stmt n) (scope : List Variable) (types : Types) (vars : List Part) → AgreeTypes source scope types vars → (first : ℕ) → ProperStmts row → stmts_breaches (setting_of source) scope row ≡ []
+    pub stmts_some : (row : Stmts) (scope : List Variable) (types : Types) (vars : List Part) → AgreeTypes source scope types vars → (first : ℕ) → ProperStmts row → stmts_breaches (setting_of source) scope row ≡ []
         → InItems (core source) At vars (stmts_items (setting_of source) scope first row) ↔ SomeSites source P types first row
-    stmts_some end_of-Stmt scope types vars agree first p e = (λ h. h, λ h. h)
-    stmts_some (more_of-Stmt stmt rest) scope types vars agree first p e =
+    stmts_some no_stmts scope types vars agree first p e = (λ h. h, λ h. h)
+    stmts_some (a_stmt stmt rest) scope types vars agree first p e =
         let s = setting_of source in
         let one = stmt_some stmt scope types vars agree first p.0 (nil_left (stmt_breaches s scope stmt) (stmts_breaches s scope rest) e) in
         let more = stmts_some rest scope types vars agree (first + stmt_sites stmt) p.1 (nil_right (stmt_breaches s scope stmt) (stmts_breaches s scope rest) e) in
@@ -237,14 +236,14 @@ module _ (source : Source) (c : Clean source) (none : measures_breaches (names_o
           λ h. elim h [ inl h ↦ join.1 (inl (one.1 h)) | inr h ↦ join.1 (inr (more.1 h)) ],
         )
 
-    arms_some : {n : _} (row : Row_of-SourceArm n) (ss : List Stand) (es : List TypeExpr) (var : Name) → SameStands source ss es → (first : ℕ) → ProperArms row → length ss ≡ count_arms row → arms_breaches (setting_of source) ss var row ≡ []
+    arms_some : (row : SourceArms) (ss : List Stand) (es : List TypeExpr) (var : Name) → SameStands source ss es → (first : ℕ) → ProperArms row → length ss ≡ count_arms row → arms_breaches (setting_of source) ss var row ≡ []
         → InArms (core source) At ss (arms_core (setting_of source) ss first row) ↔ SomeArm source P es first row
-    arms_some end_of-SourceArm [] [] var stand first p l e = (λ h. h, λ h. h)
-    arms_some end_of-SourceArm [] (f ∷ es) var stand first p l e = absurd stand
-    arms_some end_of-SourceArm (t ∷ ss) es var stand first p l e = absurd (omega (arith, l))
-    arms_some (more_of-SourceArm pattern body rest) [] es var stand first p l e = absurd (omega (arith, l))
-    arms_some (more_of-SourceArm pattern body rest) (t ∷ ss) [] var stand first p l e = absurd stand
-    arms_some (more_of-SourceArm pattern body rest) (t ∷ ss) (f ∷ es) var stand first p l e =
+    arms_some no_source_arms [] [] var stand first p l e = (λ h. h, λ h. h)
+    arms_some no_source_arms [] (f ∷ es) var stand first p l e = absurd stand
+    arms_some no_source_arms (t ∷ ss) es var stand first p l e = absurd (omega (arith, l))
+    arms_some (a_source_arm pattern body rest) [] es var stand first p l e = absurd (omega (arith, l))
+    arms_some (a_source_arm pattern body rest) (t ∷ ss) [] var stand first p l e = absurd stand
+    arms_some (a_source_arm pattern body rest) (t ∷ ss) (f ∷ es) var stand first p l e =
         let s = setting_of source in
         let inner = stmt_breaches s (patterns.bound s t pattern) body in
         let a = arm_fits s t var pattern inner (nil_left (arm_breaches s t var pattern inner) (arms_breaches s ss var rest) e) in
@@ -255,16 +254,3 @@ module _ (source : Source) (c : Clean source) (none : measures_breaches (names_o
           λ h. elim h [ inl h ↦ inl (up.0, up.1, (body_some up.0 up.1).0 h) | inr h ↦ inr (more.0 h) ],
           λ h. elim h [ inl g ↦ inl ((body_some g.0 g.1).1 g.2) | inr h ↦ inr (more.1 h) ],
         )
-
-  -- statements one behind the other
-  pub list_some : (stmts : List Stmt) (scope : List Variable) (types : Types) (vars : List Part) → AgreeTypes source scope types vars → (first : ℕ) → AllStmts stmts → flat_map (stmt_breaches (setting_of source) scope) stmts ≡ []
-      → InItems (core source) At vars (items_of (setting_of source) scope first stmts) ↔ SomeListSite source P types first stmts
-  list_some [] scope types vars agree first p e = (λ h. h, λ h. h)
-  list_some (stmt ∷ stmts) scope types vars agree first p e =
-      let s = setting_of source in
-      let one = stmt_some stmt scope types vars agree first p.0 (nil_left (stmt_breaches s scope stmt) (flat_map (stmt_breaches s scope) stmts) e) in
-      let more = list_some stmts scope types vars agree (first + stmt_sites stmt) p.1 (nil_right (stmt_breaches s scope stmt) (flat_map (stmt_breaches s scope) stmts) e) in
-      let join = in_join vars (stmt_items s scope first stmt) (items_of s scope (first + stmt_sites stmt) stmts) in (
-        λ h. elim (join.0 h) [ inl h ↦ inl (one.0 h) | inr h ↦ inr (more.0 h) ],
-        λ h. elim h [ inl h ↦ join.1 (inl (one.1 h)) | inr h ↦ join.1 (inr (more.1 h)) ],
-      )

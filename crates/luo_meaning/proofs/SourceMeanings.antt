@@ -10,8 +10,8 @@ use Rattle.luo_model.proofs.Decided.{deep}
 use Rattle.luo_model.proofs.Computed.{charge_within, charge_is}
 use Rattle.luo_model.proofs.ChargeLemmas.{charges_one}
 use Rattle.luo_source.specs.declared.names.Name.{Name}
-use Rattle.luo_source.specs.declared.types.TypeExpr.{Named}
-use Rattle.luo_source.specs.declared.source.Source.{Source}
+use Rattle.luo_source.specs.Plain.Types.{Named}
+use Rattle.luo_source.specs.Plain.Source.{Source}
 use Rattle.luo_rules.specs.declared.names.Meaning.TheVariants as mean
 use Rattle.luo_rules.specs.Meanings.{meaning}
 use Rattle.luo_rules.specs.Definitions.{definitions, names_of, measures}
@@ -57,10 +57,10 @@ binary_clean =
     }) refl
 
 permutations_clean : Clean permutations_source
-permutations_clean = clean permutations_source (record { right_sides = (tt, ((refl, (tt, tt)), ((refl, (tt, tt)), tt))); values = (omega arith, tt); bodies = (((tt, tt), tt), tt) }) refl
+permutations_clean = clean permutations_source (record { right_sides = (tt, (tt, (tt, tt))); values = (omega arith, tt); bodies = ((tt, tt), tt) }) refl
 
 few_cycles_clean : Clean few_cycles
-few_cycles_clean = clean few_cycles (record { right_sides = (tt, ((refl, (tt, tt)), ((refl, (tt, tt)), tt))); values = (omega arith, tt); bodies = (((tt, tt), tt), tt) }) refl
+few_cycles_clean = clean few_cycles (record { right_sides = (tt, (tt, (tt, tt))); values = (omega arith, tt); bodies = ((tt, tt), tt) }) refl
 
 pub cycles_are_charged : CyclesAreCharged
 cycles_are_charged = (
@@ -69,7 +69,7 @@ cycles_are_charged = (
 )
 
 pub choices_clean : Clean choices
-choices_clean = clean choices (record { right_sides = (tt, ((omega arith, (tt, (tt, tt))), ((refl, (tt, tt)), ((refl, (tt, tt)), tt)))); values = (omega arith, tt); bodies = (((tt, tt), tt), tt) }) refl
+choices_clean = clean choices (record { right_sides = (tt, ((omega arith, (tt, (tt, tt))), (tt, (tt, tt)))); values = (omega arith, tt); bodies = ((tt, tt), tt) }) refl
 
 pub choices_of_two : ChoicesOfTwo
 unfolding order_of
@@ -83,7 +83,7 @@ copying_proper : ProperSource copying.types copying.measures copying.procs
 copying_proper = record {
   right_sides = (tt, ((omega arith, (tt, (tt, tt))), ((omega arith, (tt, (tt, tt))), tt)));
   values = (omega arith, tt);
-  bodies = ((omega arith, ((omega arith, (tt, tt)), ((omega arith, (tt, tt)), tt))), ((omega arith, ((tt, (tt, tt)), tt)), tt));
+  bodies = ((omega arith, (tt, (tt, tt))), ((omega arith, ((tt, (tt, tt)), tt)), tt));
 }
 
 copying_clean : Clean copying

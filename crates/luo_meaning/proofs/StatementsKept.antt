@@ -1,7 +1,5 @@
 -- What statements charge: the body of their core form against the forms as written.
-use Rattle.std.proofs.Common.{◌≡◌, ℕ, zero, suc, ◌+◌, ◌↔◌, List, [], ◌∷◌, length, sum_by, Option, Some, None, slice_get, refl, sym, ap, ◌∙◌, subst, arith}
-use Rattle.std.specs.Prelude.{flat_map}
-use Rattle.std.proofs.lemmas.List.Sums.{sum_by-cons}
+use Rattle.std.proofs.Common.{◌≡◌, ℕ, zero, suc, ◌+◌, ◌↔◌, List, [], ◌∷◌, length, Option, Some, None, slice_get, refl, sym, ap, ◌∙◌, subst, arith}
 use Rattle.luo_model.specs.declared.body.Bind.{Bind}
 use Rattle.luo_model.specs.declared.program.Part.{Part}
 use Rattle.luo_model.specs.declared.program.Shape.{Shape}
@@ -12,11 +10,10 @@ use Rattle.luo_model.specs.Program.{Body, Does, Items, no_items, Arms, no_arms, 
 use Rattle.luo_model.specs.Charges as model
 use Rattle.luo_model.specs.Charges.{EachCharges, ItemCharges, CaseCharges}
 use Rattle.luo_model.specs.Scopes.Stands.{Stand}
-use Rattle.luo_model.specs.Scopes.ValueBodies.{join_items}
 use Rattle.luo_source.specs.declared.names.Name.{Name}
 use Rattle.luo_source.specs.declared.statements.Pattern.{Pattern}
-use Rattle.luo_source.specs.declared.statements.Stmt.{Stmt, Skip, Charge, Call, Block', Case', Forall', Row_of-Stmt, end_of-Stmt, more_of-Stmt, Row_of-SourceArm, end_of-SourceArm, more_of-SourceArm}
-use Rattle.luo_source.specs.declared.source.Source.{Source}
+use Rattle.luo_source.specs.Plain.Statements.{Stmt, Skip, Charge, Call, Block, Case, Forall, Stmts, no_stmts, a_stmt, SourceArms, no_source_arms, a_source_arm}
+use Rattle.luo_source.specs.Plain.Source.{Source}
 use Rattle.luo_rules.specs.declared.names.Meaning.TheVariants as mean
 use Rattle.luo_rules.specs.declared.rule.Breach.{Breach}
 use Rattle.luo_rules.specs.declared.setting.Setting.{Setting}
@@ -26,14 +23,13 @@ use Rattle.luo_rules.specs.Settings.{meant, signature_meant, shape_at, found, pl
 use Rattle.luo_rules.specs.Patterns as patterns
 use Rattle.luo_rules.specs.Patterns.{bind_of, arm_breaches}
 use Rattle.luo_rules.specs.StatementBreaches.{count_arms, walked, walk_into, walk_breaches, stmt_breaches, stmts_breaches, arms_breaches}
-use Rattle.luo_rules.specs.StatementCore.{stmt_own, stmts_own, stmt_sites, stmts_sites, arms_sites, stmt_items, stmts_items, arms_core}
-use Rattle.luo_rules.specs.Whole.{items_of}
+use Rattle.luo_rules.specs.StatementCore.{stmt_own, stmts_own, stmt_sites, arms_sites, stmt_items, stmts_items, arms_core}
 use Rattle.luo_rules.proofs.Lists.{nil_left, nil_right}
 use Rattle.luo_rules.proofs.PatternFacts.{arm_fits, case_fits}
 use Rattle.luo_rules.proofs.ValueFits.{measure_meant, procedure_meant}
 use Rattle.luo_meaning.specs.Defined.{DefinesMeasure}
 use Rattle.luo_meaning.specs.Variables.{Environment, structure_of, binds}
-use Rattle.luo_meaning.specs.Charges.{StmtCharges, StmtsCharge, ArmsCharge, ListCharges}
+use Rattle.luo_meaning.specs.Charges.{StmtCharges, StmtsCharge, ArmsCharge}
 use Rattle.luo_meaning.proofs.Steps.{split_body, joined_body, of_one, one_of, own_only, no_arm, each_map, Agree, agree_one, agree_bound}
 
 -- the measures and procedures of a setting are those of a source, where R and S say what procedures charge by number and by name
@@ -60,18 +56,18 @@ pub looked : (scope : List Variable) (env : Environment) (vars : List Tree) → 
 looked scope env vars agree name v e = ap (λ o. slice_get vars (place_of o)) e ∙ agree name v e
 
 -- both have arms, or none has
-abbrev AsMany : Arms → {n : _} → Row_of-SourceArm n → Type 0
-AsMany no_arms end_of-SourceArm = Unit {0}
-AsMany (arm bind body arms) (more_of-SourceArm pattern b rest) = Unit {0}
+abbrev AsMany : Arms → SourceArms → Type 0
+AsMany no_arms no_source_arms = Unit {0}
+AsMany (arm bind body arms) (a_source_arm pattern b rest) = Unit {0}
 AsMany _ _ = ⊥
 
-as_many : (s : Setting) (ss : List Stand) (first : ℕ) {n : _} (row : Row_of-SourceArm n) → length ss ≡ count_arms row → AsMany (arms_core s ss first row) row
-as_many s ss first end_of-SourceArm l = tt
-as_many s [] first (more_of-SourceArm pattern body rest) l = absurd (omega (arith, l))
-as_many s (stand ∷ ss) first (more_of-SourceArm pattern body rest) l = tt
+as_many : (s : Setting) (ss : List Stand) (first : ℕ) (row : SourceArms) → length ss ≡ count_arms row → AsMany (arms_core s ss first row) row
+as_many s ss first no_source_arms l = tt
+as_many s [] first (a_source_arm pattern body rest) l = absurd (omega (arith, l))
+as_many s (stand ∷ ss) first (a_source_arm pattern body rest) l = tt
 
 module _ (source : Source) (R : ℕ → Tree → ℕ → Type 0) (S : List ℕ → Tree → ℕ → Type 0) where
-  no_written_arm : (t : Tree) (q : ℕ) → ArmsCharge source S end_of-SourceArm t q → ⊥
+  no_written_arm : (t : Tree) (q : ℕ) → ArmsCharge source S no_source_arms t q → ⊥
   no_written_arm (Atom w l) q h = h
   no_written_arm (Inj zero t) q h = h
   no_written_arm (Inj (suc zero) t) q h = h
@@ -80,24 +76,24 @@ module _ (source : Source) (R : ℕ → Tree → ℕ → Type 0) (S : List ℕ �
   no_written_arm (Coll ts) q h = h
 
   -- one more arm
-  arm_step : (bind : Bind) (b : Body) (pattern : Pattern) (body : Stmt) (arms : Arms) {n : _} (rest : Row_of-SourceArm n) → AsMany arms rest
+  arm_step : (bind : Bind) (b : Body) (pattern : Pattern) (body : Stmt) (arms : Arms) (rest : SourceArms) → AsMany arms rest
       → ((t : Tree) (q : ℕ) → model.BodyCharges R b (model.bound bind t) q ↔ StmtCharges source S (binds pattern t) body q)
       → ((t : Tree) (q : ℕ) → CaseCharges R arms t q ↔ ArmsCharge source S rest t q)
-      → (t : Tree) (q : ℕ) → CaseCharges R (arm bind b arms) t q ↔ ArmsCharge source S (more_of-SourceArm pattern body rest) t q
-  arm_step bind b pattern body no_arms (more_of-SourceArm p c rest) many one others t q = absurd many
-  arm_step bind b pattern body (arm c d arms) end_of-SourceArm many one others t q = absurd many
-  arm_step bind b pattern body no_arms end_of-SourceArm many one others (Atom w l) q = (λ h. h, λ h. h)
-  arm_step bind b pattern body no_arms end_of-SourceArm many one others (Inj zero t) q = (λ h. h, λ h. h)
-  arm_step bind b pattern body no_arms end_of-SourceArm many one others (Inj (suc zero) t) q = one t q
-  arm_step bind b pattern body no_arms end_of-SourceArm many one others (Inj (suc (suc i)) t) q = others (Inj (suc i) t) q
-  arm_step bind b pattern body no_arms end_of-SourceArm many one others (Tup ts) q = one (Tup ts) q
-  arm_step bind b pattern body no_arms end_of-SourceArm many one others (Coll ts) q = (λ h. h, λ h. h)
-  arm_step bind b pattern body (arm c d arms) (more_of-SourceArm p e rest) many one others (Atom w l) q = (λ h. h, λ h. h)
-  arm_step bind b pattern body (arm c d arms) (more_of-SourceArm p e rest) many one others (Inj zero t) q = (λ h. h, λ h. h)
-  arm_step bind b pattern body (arm c d arms) (more_of-SourceArm p e rest) many one others (Inj (suc zero) t) q = one t q
-  arm_step bind b pattern body (arm c d arms) (more_of-SourceArm p e rest) many one others (Inj (suc (suc i)) t) q = others (Inj (suc i) t) q
-  arm_step bind b pattern body (arm c d arms) (more_of-SourceArm p e rest) many one others (Tup ts) q = (λ h. h, λ h. h)
-  arm_step bind b pattern body (arm c d arms) (more_of-SourceArm p e rest) many one others (Coll ts) q = (λ h. h, λ h. h)
+      → (t : Tree) (q : ℕ) → CaseCharges R (arm bind b arms) t q ↔ ArmsCharge source S (a_source_arm pattern body rest) t q
+  arm_step bind b pattern body no_arms (a_source_arm p c rest) many one others t q = absurd many
+  arm_step bind b pattern body (arm c d arms) no_source_arms many one others t q = absurd many
+  arm_step bind b pattern body no_arms no_source_arms many one others (Atom w l) q = (λ h. h, λ h. h)
+  arm_step bind b pattern body no_arms no_source_arms many one others (Inj zero t) q = (λ h. h, λ h. h)
+  arm_step bind b pattern body no_arms no_source_arms many one others (Inj (suc zero) t) q = one t q
+  arm_step bind b pattern body no_arms no_source_arms many one others (Inj (suc (suc i)) t) q = others (Inj (suc i) t) q
+  arm_step bind b pattern body no_arms no_source_arms many one others (Tup ts) q = one (Tup ts) q
+  arm_step bind b pattern body no_arms no_source_arms many one others (Coll ts) q = (λ h. h, λ h. h)
+  arm_step bind b pattern body (arm c d arms) (a_source_arm p e rest) many one others (Atom w l) q = (λ h. h, λ h. h)
+  arm_step bind b pattern body (arm c d arms) (a_source_arm p e rest) many one others (Inj zero t) q = (λ h. h, λ h. h)
+  arm_step bind b pattern body (arm c d arms) (a_source_arm p e rest) many one others (Inj (suc zero) t) q = one t q
+  arm_step bind b pattern body (arm c d arms) (a_source_arm p e rest) many one others (Inj (suc (suc i)) t) q = others (Inj (suc i) t) q
+  arm_step bind b pattern body (arm c d arms) (a_source_arm p e rest) many one others (Tup ts) q = (λ h. h, λ h. h)
+  arm_step bind b pattern body (arm c d arms) (a_source_arm p e rest) many one others (Coll ts) q = (λ h. h, λ h. h)
 
   module _ (s : Setting) (keeps : Keeps source s R S) where
     pub call_kept : (scope : List Variable) (env : Environment) (vars : List Tree) → Agree scope env vars → (first : ℕ) (callee arg : Name) → procedure_use (meant s callee) callee ≡ [] → (on : Option ℕ) → argument_breaches (found scope arg) on arg callee ≡ [] → (q : ℕ)
@@ -126,8 +122,8 @@ module _ (source : Source) (R : ℕ → Tree → ℕ → Type 0) (S : List ℕ �
           let kept = call_kept scope env vars agree first callee arg (nil_left (procedure_use (meant s callee) callee) (argument_breaches (found scope arg) on arg callee) e) on (nil_right (procedure_use (meant s callee) callee) (argument_breaches (found scope arg) on arg callee) e) q in
           let there : plain.Item = plain.Call (place_of (found scope arg)) (procedure_of (meant s callee)) first in
           (λ h. kept.0 (of_one R there vars q h), λ h. one_of R there vars q (kept.1 h))
-      stmt_kept (Block' size stmts) scope env vars agree first e q = stmts_kept stmts scope env vars agree first e q
-      stmt_kept (Case' var size arms) scope env vars agree first e q =
+      stmt_kept (Block stmts) scope env vars agree first e q = stmts_kept stmts scope env vars agree first e q
+      stmt_kept (Case var arms) scope env vars agree first e q =
           let c = case_fits s (found scope var) var (count_arms arms) (arms_breaches s (case_stands s (found scope var)) var arms) e in
           let look = looked scope env vars agree var c.variable c.is in
           let long : length (case_stands s (found scope var)) ≡ count_arms arms = ap (λ o. length (case_stands s o)) c.is ∙ sym c.many in
@@ -136,24 +132,24 @@ module _ (source : Source) (R : ℕ → Tree → ℕ → Type 0) (S : List ℕ �
             λ h. let i = of_one R there vars q h in (i.0, sym look ∙ i.1, (kept i.0 q).0 i.2),
             λ h. one_of R there vars q (h.0, look ∙ h.1, (kept h.0 q).1 h.2),
           )
-      stmt_kept (Forall' var over size body) scope env vars agree first e q =
+      stmt_kept (Forall var over body) scope env vars agree first e q =
           let o = found scope over in
           let inside : List Variable = record { name = var.text; part = walked s o } ∷ [] in
-          let w = walk_found s o over (stmts_breaches s inside body) e in
+          let w = walk_found s o over (stmt_breaches s inside body) e in
           let look = looked scope env vars agree over w.0 w.1 in
-          let kept : (t : Tree) (r : ℕ) → model.BodyCharges R (Does (stmts_own s body) (stmts_items s inside first body)) (t ∷ []) r ↔ StmtsCharge source S ((var.text, t) ∷ []) body r =
-          λ t r. stmts_kept body inside ((var.text, t) ∷ []) (t ∷ []) (agree_one var.text (walked s o) t) first w.2 r in
-          let P : Tree → ℕ → Type 0 = λ t r. model.BodyCharges R (Does (stmts_own s body) (stmts_items s inside first body)) (t ∷ []) r in
-          let Q : Tree → ℕ → Type 0 = λ t r. StmtsCharge source S ((var.text, t) ∷ []) body r in
-          let there : plain.Item = plain.Forall (place_of o) (Does (stmts_own s body) (stmts_items s inside first body)) (first + stmts_sites body) (first + stmts_sites body + 1) in (
+          let kept : (t : Tree) (r : ℕ) → model.BodyCharges R (Does (stmt_own s body) (stmt_items s inside first body)) (t ∷ []) r ↔ StmtCharges source S ((var.text, t) ∷ []) body r =
+          λ t r. stmt_kept body inside ((var.text, t) ∷ []) (t ∷ []) (agree_one var.text (walked s o) t) first w.2 r in
+          let P : Tree → ℕ → Type 0 = λ t r. model.BodyCharges R (Does (stmt_own s body) (stmt_items s inside first body)) (t ∷ []) r in
+          let Q : Tree → ℕ → Type 0 = λ t r. StmtCharges source S ((var.text, t) ∷ []) body r in
+          let there : plain.Item = plain.Forall (place_of o) (Does (stmt_own s body) (stmt_items s inside first body)) (first + stmt_sites body) (first + stmt_sites body + 1) in (
             λ h. let i = of_one R there vars q h in (i.0, sym look ∙ i.1, each_map P Q (λ t r. (kept t r).0) i.0 q i.2),
             λ h. one_of R there vars q (h.0, look ∙ h.1, each_map Q P (λ t r. (kept t r).1) h.0 q h.2),
           )
 
-      pub stmts_kept : {n : _} (row : Row_of-Stmt n) (scope : List Variable) (env : Environment) (vars : List Tree) → Agree scope env vars → (first : ℕ) → stmts_breaches s scope row ≡ [] → (q : ℕ)
+      pub stmts_kept : (row : Stmts) (scope : List Variable) (env : Environment) (vars : List Tree) → Agree scope env vars → (first : ℕ) → stmts_breaches s scope row ≡ [] → (q : ℕ)
           → model.BodyCharges R (Does (stmts_own s row) (stmts_items s scope first row)) vars q ↔ StmtsCharge source S env row q
-      stmts_kept end_of-Stmt scope env vars agree first e q = own_only R 0 vars q
-      stmts_kept (more_of-Stmt stmt rest) scope env vars agree first e q =
+      stmts_kept no_stmts scope env vars agree first e q = own_only R 0 vars q
+      stmts_kept (a_stmt stmt rest) scope env vars agree first e q =
           let one = stmt_kept stmt scope env vars agree first (nil_left (stmt_breaches s scope stmt) (stmts_breaches s scope rest) e) in
           let others = stmts_kept rest scope env vars agree (first + stmt_sites stmt) (nil_right (stmt_breaches s scope stmt) (stmts_breaches s scope rest) e) in
           let is = stmt_items s scope first stmt in
@@ -162,28 +158,14 @@ module _ (source : Source) (R : ℕ → Tree → ℕ → Type 0) (S : List ℕ �
             λ h. joined_body R (stmt_own s stmt) (stmts_own s rest) is more vars h.0 h.1 q ((one h.0).1 h.2) ((others h.1).1 h.3) h.4,
           )
 
-      pub arms_kept : {n : _} (row : Row_of-SourceArm n) (ss : List Stand) (var : Name) (first : ℕ) → length ss ≡ count_arms row → arms_breaches s ss var row ≡ [] → (t : Tree) (q : ℕ)
+      pub arms_kept : (row : SourceArms) (ss : List Stand) (var : Name) (first : ℕ) → length ss ≡ count_arms row → arms_breaches s ss var row ≡ [] → (t : Tree) (q : ℕ)
           → CaseCharges R (arms_core s ss first row) t q ↔ ArmsCharge source S row t q
-      arms_kept end_of-SourceArm ss var first l e t q = (λ h. absurd (no_arm R t q h), λ h. absurd (no_written_arm t q h))
-      arms_kept (more_of-SourceArm pattern body rest) [] var first l e t q = absurd (omega (arith, l))
-      arms_kept (more_of-SourceArm pattern body rest) (stand ∷ ss) var first l e t q =
+      arms_kept no_source_arms ss var first l e t q = (λ h. absurd (no_arm R t q h), λ h. absurd (no_written_arm t q h))
+      arms_kept (a_source_arm pattern body rest) [] var first l e t q = absurd (omega (arith, l))
+      arms_kept (a_source_arm pattern body rest) (stand ∷ ss) var first l e t q =
           let inner = stmt_breaches s (patterns.bound s stand pattern) body in
           let a = arm_fits s stand var pattern inner (nil_left (arm_breaches s stand var pattern inner) (arms_breaches s ss var rest) e) in
           let short : length ss ≡ count_arms rest = omega (arith, l) in
           arm_step (bind_of pattern) (Does (stmt_own s body) (stmt_items s (patterns.bound s stand pattern) first body)) pattern body (arms_core s ss (first + stmt_sites body) rest) rest (as_many s ss (first + stmt_sites body) rest short)
           (λ u r. stmt_kept body (patterns.bound s stand pattern) (binds pattern u) (model.bound (bind_of pattern) u) (agree_bound s stand pattern u) first a.1 r)
           (λ u r. arms_kept rest ss var (first + stmt_sites body) short (nil_right (arm_breaches s stand var pattern inner) (arms_breaches s ss var rest) e) u r) t q
-
-    -- statements one behind the other
-    pub list_kept : (stmts : List Stmt) (scope : List Variable) (env : Environment) (vars : List Tree) → Agree scope env vars → (first : ℕ) → flat_map (stmt_breaches s scope) stmts ≡ [] → (q : ℕ)
-        → model.BodyCharges R (Does (sum_by (stmt_own s) stmts) (items_of s scope first stmts)) vars q ↔ ListCharges source S env stmts q
-    list_kept [] scope env vars agree first e q = own_only R 0 vars q
-    list_kept (stmt ∷ stmts) scope env vars agree first e q =
-        let one = stmt_kept stmt scope env vars agree first (nil_left (stmt_breaches s scope stmt) (flat_map (stmt_breaches s scope) stmts) e) in
-        let others = list_kept stmts scope env vars agree (first + stmt_sites stmt) (nil_right (stmt_breaches s scope stmt) (flat_map (stmt_breaches s scope) stmts) e) in
-        let is = stmt_items s scope first stmt in
-        let more = items_of s scope (first + stmt_sites stmt) stmts in
-        let own = sum_by-cons (stmt_own s) stmt stmts in (
-          λ h. let x = split_body R (stmt_own s stmt) (sum_by (stmt_own s) stmts) is more vars q (subst (λ n. model.BodyCharges R (Does n (join_items is more)) vars q) own h) in (x.0, x.1, (one x.0).0 x.2, (others x.1).0 x.3, x.4),
-          λ h. subst (λ n. model.BodyCharges R (Does n (join_items is more)) vars q) (sym own) (joined_body R (stmt_own s stmt) (sum_by (stmt_own s) stmts) is more vars h.0 h.1 q ((one h.0).1 h.2) ((others h.1).1 h.3) h.4),
-        )

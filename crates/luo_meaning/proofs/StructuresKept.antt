@@ -13,9 +13,9 @@ use Rattle.luo_model.specs.Member.{IsLabel, IsWithin, Fits, FitAll, FitEach, Mem
 use Rattle.luo_source.specs.declared.types.Range.{Range}
 use Rattle.luo_source.specs.declared.types.Range.TheVariants.{Exactly, AtMost, AtLeast, Between}
 use Rattle.luo_source.specs.declared.types.Bound.{Bound}
-use Rattle.luo_source.specs.declared.types.TypeExpr as type
-use Rattle.luo_source.specs.declared.types.TypeExpr.{TypeExpr, Named, Epsilon, Union', Product', Coll', Row_of-TypeExpr, end_of-TypeExpr, more_of-TypeExpr}
-use Rattle.luo_source.specs.declared.source.Source.{Source}
+use Rattle.luo_source.specs.Plain.Types as type
+use Rattle.luo_source.specs.Plain.Types.{TypeExpr, Named, Epsilon, Union, Product, Coll, TypeExprs, no_exprs, an_expr}
+use Rattle.luo_source.specs.Plain.Source.{Source}
 use Rattle.luo_rules.specs.Counted.{own_nodes}
 use Rattle.luo_rules.specs.Definitions.{definitions, names_of, definition_meant, first_node}
 use Rattle.luo_rules.specs.TypeBreaches.{least_of, low_of, high_of}
@@ -28,7 +28,7 @@ use Rattle.luo_meaning.specs.Structures.{exprs_in, least_count, AllowsCount, by_
 use Rattle.luo_meaning.specs.Structures.{IsOf, AreOf, EachOf}
 use Rattle.luo_meaning.specs.Constructs.{IsConstruct}
 use Rattle.luo_meaning.proofs.Named.{named_type}
-use Rattle.luo_meaning.proofs.Sits.{first_same, Sits, AllSit, shape_in, shape_at_node, shape_here, head_sits, tail_sits, union_sits, product_sits, coll_sits, row_get, row_back, definition_sits}
+use Rattle.luo_meaning.proofs.Sits.{Sits, AllSit, shape_in, shape_at_node, shape_here, head_sits, tail_sits, union_sits, product_sits, coll_sits, row_get, row_back, definition_sits}
 use Rattle.luo_meaning.proofs.Leads.{leads}
 
 no_label : (universe : Universe) (w l : ℕ) → w ≡ 0 → IsLabel universe w l → l ≡ 0
@@ -72,22 +72,21 @@ module _ (source : Source) (c : Clean source) where
         subst (λ z. IsOf source (Epsilon token) (Atom z l)) (sym f.0) (subst (λ z. IsOf source (Epsilon token) (Atom 0 z)) (sym (no_label source.universe w l f.0 f.1)) empty)
     construct_of (Atom w l) owner at (type.Atom weight weight_at token) s f =
         subst (λ z. IsOf source (type.Atom weight weight_at token) (Atom z l)) (sym f.0) (atom (subst (λ z. IsLabel source.universe z l) f.0 f.1))
-    construct_of (Inj (suc i) t) owner at (Union' size parts) s f =
-        let r = row_get source owner (behind at 1) parts (union_sits source owner at size parts s) i f.0 f.1 in
+    construct_of (Inj (suc i) t) owner at (Union parts) s f =
+        let r = row_get source owner (behind at 1) parts (union_sits source owner at parts s) i f.0 f.1 in
         let l = leads source c owner r.1.spot r.0 r.1.sits in
         let there : Fits (core source) (shape_at_node source f.0.node) t = f.2 in
         let shape = ap (shape_at_node source) (ap (λ (q : Part). q.node) r.1.is ∙ l.at) ∙ shape_here source l.owner l.spot l.construct l.is_construct l.sits in
         branch i r.0 r.1.written (l.back t (construct_of t l.owner l.spot l.construct l.sits (subst (λ z. Fits (core source) z t) shape there)))
-    construct_of (Tup ts) owner at (Product' size parts token) s f = tuple (row_of ts owner (behind at 1) parts (product_sits source owner at size parts token s) f)
-    construct_of (Coll ts) owner at (Coll' kind size part bound token) s f =
-        let b = coll_sits source owner at kind size part bound token s in
-        collection b.e b.one ((bound_same kind bound (length (to_list ts))).0 f.0) (each_of ts owner (behind at 1) b.e b.sits _ b.part f.1) f.2
+    construct_of (Tup ts) owner at (Product parts token) s f = tuple (row_of ts owner (behind at 1) parts (product_sits source owner at parts token s) f)
+    construct_of (Coll ts) owner at (Coll kind part bound token) s f =
+        collection ((bound_same kind bound (length (to_list ts))).0 f.0) (each_of ts owner (behind at 1) part (coll_sits source owner at kind part bound token s) _ refl f.1) f.2
     construct_of (Inj zero t) owner at e s f = absurd (no_branch (core source) (shape_in source at e) t f)
     construct_of _ owner at e s f = absurd f
 
-    row_of : (ts : Trees) (owner : ℕ) (at : Spot) {n : _} (row : Row_of-TypeExpr n) → AllSit source owner at row → FitAll (core source) (parts_at (names_of source) (definitions source) at row) ts → AreOf source (exprs_in row) ts
-    row_of none owner at end_of-TypeExpr a f = no_parts
-    row_of (more t ts) owner at (more_of-TypeExpr e rest) a f =
+    row_of : (ts : Trees) (owner : ℕ) (at : Spot) (row : TypeExprs) → AllSit source owner at row → FitAll (core source) (parts_at (names_of source) (definitions source) at row) ts → AreOf source (exprs_in row) ts
+    row_of none owner at no_exprs a f = no_parts
+    row_of (more t ts) owner at (an_expr e rest) a f =
         let l = leads source c owner at e (head_sits source owner at e rest a) in
         let there : Fits (core source) (shape_at_node source (part_at (names_of source) (definitions source) at e).node) t = f.0 in
         let shape = ap (shape_at_node source) l.at ∙ shape_here source l.owner l.spot l.construct l.is_construct l.sits in
@@ -129,24 +128,22 @@ module _ (source : Source) (c : Clean source) where
         subst (λ z. Fits (core source) (shape_at_node source z) t) node (of_is_member h n.i first inside)
     of_is_member (empty {at = token}) owner at s = by_shape (Atom 0 0) owner at (Epsilon token) tt s (refl, zero_label source.universe)
     of_is_member (atom {weight} {weight_at} {at = token} {label} l) owner at s = by_shape (Atom weight label) owner at (type.Atom weight weight_at token) tt s (refl, l)
-    of_is_member (branch {size} {parts} {t} i e get h) owner at s =
-        let r = row_back source owner (behind at 1) parts (union_sits source owner at size parts s) i e get in
+    of_is_member (branch {parts} {t} i e get h) owner at s =
+        let r = row_back source owner (behind at 1) parts (union_sits source owner at parts s) i e get in
         let inner = of_is_member h owner r.1.spot r.1.sits in
         let there : Fits (core source) (shape_at_node source r.0.node) t = subst (λ (q : Part). Fits (core source) (shape_at_node source q.node) t) (sym r.1.is) inner in
-        by_shape (Inj (suc i) t) owner at (Union' size parts) tt s (r.0, r.1.get, there)
-    of_is_member (tuple {size} {parts} {at = token} {ts} a) owner at s =
-        by_shape (Tup ts) owner at (Product' size parts token) tt s (are_fit a owner (behind at 1) parts (product_sits source owner at size parts token s) refl)
-    of_is_member (collection {kind} {size} {part} {bound} {at = token} {ts} e one k each stand) owner at s =
-        let b = coll_sits source owner at kind size part bound token s in
-        let same : b.e ≡ e = first_same b.e e (sym b.one ∙ one) in
-        by_shape (Coll ts) owner at (Coll' kind size part bound token) tt s
-        ((bound_same kind bound (length (to_list ts))).1 k, each_fit each owner (behind at 1) (subst (Sits source owner (behind at 1)) same b.sits) _ (b.part ∙ ap (part_at (names_of source) (definitions source) (behind at 1)) same), stand)
+        by_shape (Inj (suc i) t) owner at (Union parts) tt s (r.0, r.1.get, there)
+    of_is_member (tuple {parts} {at = token} {ts} a) owner at s =
+        by_shape (Tup ts) owner at (Product parts token) tt s (are_fit a owner (behind at 1) parts (product_sits source owner at parts token s) refl)
+    of_is_member (collection {kind} {e} {bound} {at = token} {ts} k each stand) owner at s =
+        by_shape (Coll ts) owner at (Coll kind e bound token) tt s
+        ((bound_same kind bound (length (to_list ts))).1 k, each_fit each owner (behind at 1) (coll_sits source owner at kind e bound token s) _ refl, stand)
 
-    are_fit : {es : List TypeExpr} {ts : Trees} → AreOf source es ts → (owner : ℕ) (at : Spot) {n : _} (row : Row_of-TypeExpr n) → AllSit source owner at row → exprs_in row ≡ es → FitAll (core source) (parts_at (names_of source) (definitions source) at row) ts
-    are_fit no_parts owner at end_of-TypeExpr a l = tt
-    are_fit no_parts owner at (more_of-TypeExpr e rest) a l = absurd (cc)
-    are_fit (more_parts h hs) owner at end_of-TypeExpr a l = absurd (cc)
-    are_fit (more_parts {e} {es} {t} {ts} h hs) owner at (more_of-TypeExpr f rest) a l =
+    are_fit : {es : List TypeExpr} {ts : Trees} → AreOf source es ts → (owner : ℕ) (at : Spot) (row : TypeExprs) → AllSit source owner at row → exprs_in row ≡ es → FitAll (core source) (parts_at (names_of source) (definitions source) at row) ts
+    are_fit no_parts owner at no_exprs a l = tt
+    are_fit no_parts owner at (an_expr e rest) a l = absurd (cc)
+    are_fit (more_parts h hs) owner at no_exprs a l = absurd (cc)
+    are_fit (more_parts {e} {es} {t} {ts} h hs) owner at (an_expr f rest) a l =
         let same : f ≡ e = cc in
         let others : exprs_in rest ≡ es = cc in
         let first = of_is_member h owner at (subst (Sits source owner at) same (head_sits source owner at f rest a)) in

@@ -7,8 +7,8 @@ use Rattle.luo_model.specs.Scopes.Stands.{Stand, inside, itself, stand_part, fac
 use Rattle.luo_source.specs.declared.names.Name.{Name}
 use Rattle.luo_source.specs.declared.statements.Pattern.{Pattern}
 use Rattle.luo_source.specs.declared.statements.Pattern.TheVariants as pat
-use Rattle.luo_source.specs.declared.types.TypeExpr.{TypeExpr, Named, Epsilon, Atom, Union', Product', Coll', Row_of-TypeExpr, end_of-TypeExpr, more_of-TypeExpr}
-use Rattle.luo_source.specs.declared.source.Source.{Source}
+use Rattle.luo_source.specs.Plain.Types.{TypeExpr, Named, Epsilon, Atom, Union, Product, Coll, TypeExprs, no_exprs, an_expr}
+use Rattle.luo_source.specs.Plain.Source.{Source}
 use Rattle.luo_rules.specs.Settings.{found_from, shape_at, type_node}
 use Rattle.luo_rules.specs.Patterns as patterns
 use Rattle.luo_rules.specs.Patterns.{has_factors, is_node, fits, bind_of, variables}
@@ -46,13 +46,13 @@ module _ (source : Source) (c : Clean source) where
       let r = typed_step source 0 y None [] e None v (bytes_eq text name.text) (subst (λ (n : Part). Holds source n.node e) same h) (λ n. absurd (none_some v n)) g in
       record { there = ap (λ n. slice_get (n ∷ []) v.0) same ∙ (ap (slice_get (y ∷ [])) (r.1 ∙ omega arith) ∙ r.2); e = r.3.0; type = r.3.1; holds = r.3.2 }
 
-  typed_row : (owner : ℕ) (at : Spot) {n : _} (row : Row_of-TypeExpr n) → AllSit source owner at row → (k : ℕ) (names : List Name) (text : List ℕ) (v : ℕ × Part)
+  typed_row : (owner : ℕ) (at : Spot) (row : TypeExprs) → AllSit source owner at row → (k : ℕ) (names : List Name) (text : List ℕ) (v : ℕ × Part)
       → found_from k (variables names (parts_at (names_of source) (definitions source) at row)) text ≡ Some v
       → (j : ℕ) × (v.0 ≡ k + j) × (slice_get (parts_at (names_of source) (definitions source) at row) j ≡ Some v.1) × ((f : TypeExpr) × (type_of (typed names (exprs_in row)) text ≡ Some f) × Holds source v.1.node f)
-  typed_row owner at end_of-TypeExpr a k [] text v e = absurd (none_some v e)
-  typed_row owner at end_of-TypeExpr a k (name ∷ names) text v e = absurd (none_some v e)
-  typed_row owner at (more_of-TypeExpr f rest) a k [] text v e = absurd (none_some v e)
-  typed_row owner at (more_of-TypeExpr f rest) a k (name ∷ names) text v e =
+  typed_row owner at no_exprs a k [] text v e = absurd (none_some v e)
+  typed_row owner at no_exprs a k (name ∷ names) text v e = absurd (none_some v e)
+  typed_row owner at (an_expr f rest) a k [] text v e = absurd (none_some v e)
+  typed_row owner at (an_expr f rest) a k (name ∷ names) text v e =
       let others = parts_at (names_of source) (definitions source) (behind at (own_nodes f)) rest in
       let holds : Holds source _ f = record { owner = owner; spot = at; sits = head_sits source owner at f rest a; at = refl } in
       typed_step source k _ (found_from (suc k) (variables names others) text) others f (type_of (typed names (exprs_in rest)) text) v (bytes_eq name.text text) holds
@@ -60,20 +60,20 @@ module _ (source : Source) (c : Clean source) where
 
   -- the factors of a product
   factors_typed : (x : ℕ) (e : TypeExpr) (es : List TypeExpr) (names : List Name) → Holds source x e → IsProductOf source e es → AgreeTypes source (variables names (factors (shape_at_node source x))) (typed names es) (factors (shape_at_node source x))
-  factors_typed x e es names h (product_of {size} {parts} {at} l) =
+  factors_typed x e es names h (product_of {parts} {at} l) =
       let k = down source c l x h in
-      let form = product_shape source c size parts at x k in
+      let form = product_shape source c parts at x k in
       subst (λ z. AgreeTypes source (variables names (factors z)) (typed names (exprs_in parts)) (factors z)) (sym form)
-      (λ name v g. let r = typed_row k.owner (behind k.spot 1) parts (product_sits source k.owner k.spot size parts at k.sits) 0 names name.text v g in
+      (λ name v g. let r = typed_row k.owner (behind k.spot 1) parts (product_sits source k.owner k.spot parts at k.sits) 0 names name.text v g in
       record { there = ap (slice_get _) (r.1 ∙ omega arith) ∙ r.2; e = r.3.0; type = r.3.1; holds = r.3.2 })
 
   by_factors : (x n : ℕ) (e k : TypeExpr) → LeadsTo source k e → (h : Holds source x k) → IsConstruct k → has_factors n (shape_at_node source x) ≡ true → (es : List TypeExpr) × IsProductOf source e es
   by_factors x n e (Named name) l h q t = absurd q
   by_factors x n e (Epsilon token) l h q t = let f : false ≡ true = sym (ap (has_factors n) (shape_of_construct source c (Epsilon token) x tt h refl)) ∙ t in absurd (cc)
   by_factors x n e (Atom weight weight_at token) l h q t = let f : false ≡ true = sym (ap (has_factors n) (shape_of_construct source c (Atom weight weight_at token) x tt h refl)) ∙ t in absurd (cc)
-  by_factors x n e (Union' size parts) l h q t = let f : false ≡ true = sym (ap (has_factors n) (shape_of_construct source c (Union' size parts) x tt h refl)) ∙ t in absurd (cc)
-  by_factors x n e (Product' size parts token) l h q t = (exprs_in parts, product_of l)
-  by_factors x n e (Coll' kind size part bound token) l h q t = let f : false ≡ true = sym (ap (has_factors n) (shape_of_construct source c (Coll' kind size part bound token) x tt h refl)) ∙ t in absurd (cc)
+  by_factors x n e (Union parts) l h q t = let f : false ≡ true = sym (ap (has_factors n) (shape_of_construct source c (Union parts) x tt h refl)) ∙ t in absurd (cc)
+  by_factors x n e (Product parts token) l h q t = (exprs_in parts, product_of l)
+  by_factors x n e (Coll kind part bound token) l h q t = let f : false ≡ true = sym (ap (has_factors n) (shape_of_construct source c (Coll kind part bound token) x tt h refl)) ∙ t in absurd (cc)
 
   pub factors_up : (x n : ℕ) (e : TypeExpr) → Holds source x e → has_factors n (shape_at_node source x) ≡ true → (es : List TypeExpr) × IsProductOf source e es
   factors_up x n e h t = let u = up source c x e h in by_factors x n e u.k u.to u.holds u.is_construct t

@@ -3,17 +3,17 @@ use Rattle.std.proofs.Common.{◌≡◌, ℕ, ◌+◌, List, [], ◌∷◌, leng
 use Rattle.luo_model.specs.Scopes.ValueBodies as scopes
 use Rattle.luo_model.specs.Scopes.Stands.{Stand}
 use Rattle.luo_source.specs.declared.names.Name.{Name}
-use Rattle.luo_source.specs.declared.values.SourceValue.{SourceValue, Given, Made, Atom, Tuple', Branch', Case', Row_of-SourceValue, end_of-SourceValue, more_of-SourceValue, Row_of-SourceValueArm, end_of-SourceValueArm, more_of-SourceValueArm}
+use Rattle.luo_source.specs.Plain.Values.{SourceValue, Given, Made, Atom, Tuple, Branch, Case, SourceValues, no_source_values, a_source_value, SourceValueArms, no_source_value_arms, a_source_value_arm}
 use Rattle.luo_rules.specs.declared.setting.Setting.{Setting}
 use Rattle.luo_rules.specs.declared.setting.Variable.{Variable}
 use Rattle.luo_rules.specs.Settings.{found, case_stands}
 use Rattle.luo_rules.specs.Patterns as patterns
 use Rattle.luo_rules.specs.Patterns.{arm_breaches}
-use Rattle.luo_rules.specs.ValueBreaches.{part_nodes, inner_node, count_values, count_value_arms, value_breaches, values_breaches, boxed_value_breaches, value_arms_breaches}
-use Rattle.luo_rules.specs.ValueCore.{value_core, values_core, boxed_value_core, value_arms_core}
+use Rattle.luo_rules.specs.ValueBreaches.{part_nodes, inner_node, count_values, count_value_arms, value_breaches, values_breaches, value_arms_breaches}
+use Rattle.luo_rules.specs.ValueCore.{value_core, values_core, value_arms_core}
 use Rattle.luo_rules.proofs.Lists.{nil_left, nil_right}
 use Rattle.luo_rules.proofs.PatternFacts.{arm_fits, case_fits}
-use Rattle.luo_meaning.specs.Sites.{value_sites, parts_sites, inner_sites, value_arms_sites}
+use Rattle.luo_meaning.specs.Sites.{value_sites, parts_sites, value_arms_sites}
 
 module _ (s : Setting) where
   mutual
@@ -21,38 +21,34 @@ module _ (s : Setting) where
     value_same (Given name) scope expected e = refl
     value_same (Made callee arg) scope expected e = refl
     value_same (Atom charge at) scope expected e = refl
-    value_same (Tuple' size parts at) scope expected e =
+    value_same (Tuple parts at) scope expected e =
         let nodes = part_nodes s expected (count_values parts) in
         values_same parts scope nodes (nil_right _ (values_breaches s scope nodes parts) e)
-    value_same (Branch' number at size inner) scope expected e =
+    value_same (Branch number at inner) scope expected e =
         let node = inner_node s expected number in
-        boxed_same inner scope node (nil_right _ (boxed_value_breaches s scope node inner) e)
-    value_same (Case' var size arms) scope expected e =
+        value_same inner scope node (nil_right _ (value_breaches s scope node inner) e)
+    value_same (Case var arms) scope expected e =
         let o = found scope var in
         let k = case_fits s o var (count_value_arms arms) (value_arms_breaches s (case_stands s o) expected var arms) e in
         let long : length (case_stands s o) ≡ count_value_arms arms = ap (λ z. length (case_stands s z)) k.is ∙ sym k.many in
         ap (λ n. n + 1) (value_arms_same arms (case_stands s o) var expected long k.none)
 
-    values_same : {n : _} (row : Row_of-SourceValue n) (scope : List Variable) (nodes : List ℕ) → values_breaches s scope nodes row ≡ [] → scopes.values_sites (values_core s scope nodes row) ≡ parts_sites row
-    values_same end_of-SourceValue scope nodes e = refl
-    values_same (more_of-SourceValue v rest) scope [] e =
+    values_same : (row : SourceValues) (scope : List Variable) (nodes : List ℕ) → values_breaches s scope nodes row ≡ [] → scopes.values_sites (values_core s scope nodes row) ≡ parts_sites row
+    values_same no_source_values scope nodes e = refl
+    values_same (a_source_value v rest) scope [] e =
         let one = value_same v scope None (nil_left (value_breaches s scope None v) (values_breaches s scope [] rest) e) in
         let more = values_same rest scope [] (nil_right (value_breaches s scope None v) (values_breaches s scope [] rest) e) in
         omega (arith, one, more)
-    values_same (more_of-SourceValue v rest) scope (node ∷ nodes) e =
+    values_same (a_source_value v rest) scope (node ∷ nodes) e =
         let one = value_same v scope (Some node) (nil_left (value_breaches s scope (Some node) v) (values_breaches s scope nodes rest) e) in
         let more = values_same rest scope nodes (nil_right (value_breaches s scope (Some node) v) (values_breaches s scope nodes rest) e) in
         omega (arith, one, more)
 
-    boxed_same : {n : _} (row : Row_of-SourceValue n) (scope : List Variable) (expected : Option ℕ) → boxed_value_breaches s scope expected row ≡ [] → scopes.value_sites (boxed_value_core s scope expected row) ≡ inner_sites row
-    boxed_same end_of-SourceValue scope expected e = refl
-    boxed_same (more_of-SourceValue v rest) scope expected e = value_same v scope expected e
-
-    pub value_arms_same : {n : _} (row : Row_of-SourceValueArm n) (ss : List Stand) (var : Name) (expected : Option ℕ) → length ss ≡ count_value_arms row → value_arms_breaches s ss expected var row ≡ []
+    pub value_arms_same : (row : SourceValueArms) (ss : List Stand) (var : Name) (expected : Option ℕ) → length ss ≡ count_value_arms row → value_arms_breaches s ss expected var row ≡ []
         → scopes.value_arms_sites (value_arms_core s ss expected row) ≡ value_arms_sites row
-    value_arms_same end_of-SourceValueArm ss var expected l e = refl
-    value_arms_same (more_of-SourceValueArm pattern v rest) [] var expected l e = absurd (omega (arith, l))
-    value_arms_same (more_of-SourceValueArm pattern v rest) (t ∷ ss) var expected l e =
+    value_arms_same no_source_value_arms ss var expected l e = refl
+    value_arms_same (a_source_value_arm pattern v rest) [] var expected l e = absurd (omega (arith, l))
+    value_arms_same (a_source_value_arm pattern v rest) (t ∷ ss) var expected l e =
         let inner = value_breaches s (patterns.bound s t pattern) expected v in
         let a = arm_fits s t var pattern inner (nil_left (arm_breaches s t var pattern inner) (value_arms_breaches s ss expected var rest) e) in
         let one = value_same v (patterns.bound s t pattern) expected a.1 in

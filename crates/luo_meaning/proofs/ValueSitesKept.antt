@@ -8,17 +8,17 @@ use Rattle.luo_model.specs.Scopes.ValueBodies as scopes
 use Rattle.luo_model.specs.Scopes.Stands.{Stand, stands, part_at, bound_parts}
 use Rattle.luo_model.specs.Scopes.ValueBodies.{value_items, values_items, value_arm_bodies}
 use Rattle.luo_source.specs.declared.names.Name.{Name}
-use Rattle.luo_source.specs.declared.types.TypeExpr.{TypeExpr}
-use Rattle.luo_source.specs.declared.values.SourceValue.{SourceValue, Given, Made, Atom, Tuple', Branch', Case', Row_of-SourceValue, end_of-SourceValue, more_of-SourceValue, Row_of-SourceValueArm, end_of-SourceValueArm, more_of-SourceValueArm}
-use Rattle.luo_source.specs.declared.source.Source.{Source}
+use Rattle.luo_source.specs.Plain.Types.{TypeExpr}
+use Rattle.luo_source.specs.Plain.Values.{SourceValue, Given, Made, Atom, Tuple, Branch, Case, SourceValues, no_source_values, a_source_value, SourceValueArms, no_source_value_arms, a_source_value_arm}
+use Rattle.luo_source.specs.Plain.Source.{Source}
 use Rattle.luo_rules.specs.declared.setting.Variable.{Variable}
 use Rattle.luo_rules.specs.Breaches.{◌or_if_none◌}
 use Rattle.luo_rules.specs.Meanings.{procedure_use}
 use Rattle.luo_rules.specs.Settings.{meant, signature_meant, found, place_of, argument_breaches, case_stands}
 use Rattle.luo_rules.specs.Patterns as patterns
 use Rattle.luo_rules.specs.Patterns.{bind_of, arm_breaches}
-use Rattle.luo_rules.specs.ValueBreaches.{result_breaches, part_nodes, inner_node, count_values, count_value_arms, value_breaches, values_breaches, boxed_value_breaches, value_arms_breaches}
-use Rattle.luo_rules.specs.ValueCore.{value_core, values_core, boxed_value_core, value_arms_core}
+use Rattle.luo_rules.specs.ValueBreaches.{result_breaches, part_nodes, inner_node, count_values, count_value_arms, value_breaches, values_breaches, value_arms_breaches}
+use Rattle.luo_rules.specs.ValueCore.{value_core, values_core, value_arms_core}
 use Rattle.luo_rules.specs.Definitions.{names_of, measures}
 use Rattle.luo_rules.specs.TypeBreaches.{measures_breaches}
 use Rattle.luo_rules.specs.Nodes.{setting_of}
@@ -29,7 +29,7 @@ use Rattle.luo_rules.proofs.ProperBodies.{ProperValue, ProperValues, ProperValue
 use Rattle.luo_rules.proofs.CleanSource.{Clean}
 use Rattle.luo_meaning.specs.Charges.{ValueArmsCharge, ProcCharges}
 use Rattle.luo_meaning.specs.Types.{Types, AreStands, BindsTypes}
-use Rattle.luo_meaning.specs.Sites.{value_sites, value_arms_sites, SomeValueSite, SomePartSite, SomeInnerSite, SomeValueArm}
+use Rattle.luo_meaning.specs.Sites.{value_sites, value_arms_sites, SomeValueSite, SomePartSite, SomeValueArm}
 use Rattle.luo_meaning.proofs.ValuesKept.{value_arms_kept}
 use Rattle.luo_meaning.proofs.ProceduresKept.{keeps_all}
 use Rattle.luo_meaning.proofs.SiteWorks.{InItems, InArms}
@@ -51,13 +51,13 @@ module _ (source : Source) (c : Clean source) (none : measures_breaches (names_o
         let argument = argument_breaches (found scope arg) signature.on arg callee in
         call_some source c none Q P related scope types vars agree first callee arg (none_first (procedure_use (meant s callee) callee) (result_breaches expected signature.result callee) (nil_left front argument e)) signature.on (nil_right front argument e)
     value_some (Atom charge at) scope types vars agree first expected p e = (λ h. h, λ h. h)
-    value_some (Tuple' size parts at) scope types vars agree first expected p e =
+    value_some (Tuple parts at) scope types vars agree first expected p e =
         let nodes = part_nodes (setting_of source) expected (count_values parts) in
         values_some parts scope types vars agree first nodes p (nil_right _ (values_breaches (setting_of source) scope nodes parts) e)
-    value_some (Branch' number at size inner) scope types vars agree first expected p e =
+    value_some (Branch number at inner) scope types vars agree first expected p e =
         let node = inner_node (setting_of source) expected number in
-        boxed_some inner scope types vars agree first node p.1 (nil_right _ (boxed_value_breaches (setting_of source) scope node inner) e)
-    value_some (Case' var size arms) scope types vars agree first expected p e =
+        value_some inner scope types vars agree first node p (nil_right _ (value_breaches (setting_of source) scope node inner) e)
+    value_some (Case var arms) scope types vars agree first expected p e =
         let s = setting_of source in
         let o = found scope var in
         let k = case_fits s o var (count_value_arms arms) (value_arms_breaches s (case_stands s o) expected var arms) e in
@@ -98,10 +98,10 @@ module _ (source : Source) (c : Clean source) (none : measures_breaches (names_o
               ],
         )
 
-    values_some : {n : _} (row : Row_of-SourceValue n) (scope : List Variable) (types : Types) (vars : List Part) → AgreeTypes source scope types vars → (first : ℕ) (nodes : List ℕ) → ProperValues row → values_breaches (setting_of source) scope nodes row ≡ []
+    values_some : (row : SourceValues) (scope : List Variable) (types : Types) (vars : List Part) → AgreeTypes source scope types vars → (first : ℕ) (nodes : List ℕ) → ProperValues row → values_breaches (setting_of source) scope nodes row ≡ []
         → InItems (core source) (At source c none Q P related) vars (values_items first (values_core (setting_of source) scope nodes row)) ↔ SomePartSite source P types first row
-    values_some end_of-SourceValue scope types vars agree first nodes p e = (λ h. h, λ h. h)
-    values_some (more_of-SourceValue v rest) scope types vars agree first [] p e =
+    values_some no_source_values scope types vars agree first nodes p e = (λ h. h, λ h. h)
+    values_some (a_source_value v rest) scope types vars agree first [] p e =
         let s = setting_of source in
         let core_value = value_core s scope None v in
         let one = value_some v scope types vars agree first None p.0 (nil_left (value_breaches s scope None v) (values_breaches s scope [] rest) e) in
@@ -112,7 +112,7 @@ module _ (source : Source) (c : Clean source) (none : measures_breaches (names_o
           λ h. elim (join.0 h) [ inl h ↦ inl (one.0 h) | inr h ↦ inr (more.0 (subst At' (sym same) h)) ],
           λ h. elim h [ inl h ↦ join.1 (inl (one.1 h)) | inr h ↦ join.1 (inr (subst At' same (more.1 h))) ],
         )
-    values_some (more_of-SourceValue v rest) scope types vars agree first (node ∷ nodes) p e =
+    values_some (a_source_value v rest) scope types vars agree first (node ∷ nodes) p e =
         let s = setting_of source in
         let core_value = value_core s scope (Some node) v in
         let one = value_some v scope types vars agree first (Some node) p.0 (nil_left (value_breaches s scope (Some node) v) (values_breaches s scope nodes rest) e) in
@@ -124,19 +124,14 @@ module _ (source : Source) (c : Clean source) (none : measures_breaches (names_o
           λ h. elim h [ inl h ↦ join.1 (inl (one.1 h)) | inr h ↦ join.1 (inr (subst At' same (more.1 h))) ],
         )
 
-    boxed_some : {n : _} (row : Row_of-SourceValue n) (scope : List Variable) (types : Types) (vars : List Part) → AgreeTypes source scope types vars → (first : ℕ) (expected : Option ℕ) → ProperValues row → boxed_value_breaches (setting_of source) scope expected row ≡ []
-        → InItems (core source) (At source c none Q P related) vars (value_items first (boxed_value_core (setting_of source) scope expected row)) ↔ SomeInnerSite source P types first row
-    boxed_some end_of-SourceValue scope types vars agree first expected p e = (λ h. h, λ h. h)
-    boxed_some (more_of-SourceValue v rest) scope types vars agree first expected p e = value_some v scope types vars agree first expected p.0 e
-
-    value_arms_some : {n : _} (row : Row_of-SourceValueArm n) (ss : List Stand) (es : List TypeExpr) (var : Name) → SameStands source ss es → (first : ℕ) (expected : Option ℕ) → ProperValueArms row → length ss ≡ count_value_arms row → value_arms_breaches (setting_of source) ss expected var row ≡ []
+    value_arms_some : (row : SourceValueArms) (ss : List Stand) (es : List TypeExpr) (var : Name) → SameStands source ss es → (first : ℕ) (expected : Option ℕ) → ProperValueArms row → length ss ≡ count_value_arms row → value_arms_breaches (setting_of source) ss expected var row ≡ []
         → InArms (core source) (At source c none Q P related) ss (value_arm_bodies first (value_arms_core (setting_of source) ss expected row)) ↔ SomeValueArm source P es first row
-    value_arms_some end_of-SourceValueArm [] [] var stand first expected p l e = (λ h. h, λ h. h)
-    value_arms_some end_of-SourceValueArm [] (f ∷ es) var stand first expected p l e = absurd stand
-    value_arms_some end_of-SourceValueArm (t ∷ ss) es var stand first expected p l e = absurd (omega (arith, l))
-    value_arms_some (more_of-SourceValueArm pattern v rest) [] es var stand first expected p l e = absurd (omega (arith, l))
-    value_arms_some (more_of-SourceValueArm pattern v rest) (t ∷ ss) [] var stand first expected p l e = absurd stand
-    value_arms_some (more_of-SourceValueArm pattern v rest) (t ∷ ss) (f ∷ es) var stand first expected p l e =
+    value_arms_some no_source_value_arms [] [] var stand first expected p l e = (λ h. h, λ h. h)
+    value_arms_some no_source_value_arms [] (f ∷ es) var stand first expected p l e = absurd stand
+    value_arms_some no_source_value_arms (t ∷ ss) es var stand first expected p l e = absurd (omega (arith, l))
+    value_arms_some (a_source_value_arm pattern v rest) [] es var stand first expected p l e = absurd (omega (arith, l))
+    value_arms_some (a_source_value_arm pattern v rest) (t ∷ ss) [] var stand first expected p l e = absurd stand
+    value_arms_some (a_source_value_arm pattern v rest) (t ∷ ss) (f ∷ es) var stand first expected p l e =
         let s = setting_of source in
         let inner = value_breaches s (patterns.bound s t pattern) expected v in
         let a = arm_fits s t var pattern inner (nil_left (arm_breaches s t var pattern inner) (value_arms_breaches s ss expected var rest) e) in

@@ -1,5 +1,5 @@
 -- What values make: their core form, where a node is expected, against the forms as written, where a type expression is wanted.
-use Rattle.std.proofs.Common.{◌≡◌, ℕ, zero, suc, ◌↔◌, ◌≤◌, List, [], ◌∷◌, map, length, Option, Some, None, slice_get, refl, sym, ap, ◌∙◌, subst, arith}
+use Rattle.std.proofs.Common.{◌≡◌, ℕ, zero, suc, ◌↔◌, List, [], ◌∷◌, map, length, Option, Some, None, slice_get, refl, sym, ap, ◌∙◌, subst, arith}
 use Rattle.std.specs.Prelude.{Bool, true, false, if◌then◌else◌, codes, decimal}
 use Rattle.std.proofs.lemmas.List.{length-map}
 use Rattle.luo_model.specs.declared.body.Bind.{Bind}
@@ -17,9 +17,9 @@ use Rattle.luo_model.specs.Member.{IsLabel, Fits}
 use Rattle.luo_model.specs.Scopes.Stands.{Stand, factors}
 use Rattle.luo_source.specs.declared.names.Name.{Name}
 use Rattle.luo_source.specs.declared.statements.Pattern.{Pattern}
-use Rattle.luo_source.specs.declared.types.TypeExpr.{TypeExpr}
-use Rattle.luo_source.specs.declared.values.SourceValue.{SourceValue, Given, Made, Atom, Tuple', Branch', Case', Row_of-SourceValue, end_of-SourceValue, more_of-SourceValue, Row_of-SourceValueArm, end_of-SourceValueArm, more_of-SourceValueArm}
-use Rattle.luo_source.specs.declared.source.Source.{Source}
+use Rattle.luo_source.specs.Plain.Types.{TypeExpr}
+use Rattle.luo_source.specs.Plain.Values.{SourceValue, Given, Made, Atom, Tuple, Branch, Case, SourceValues, no_source_values, a_source_value, SourceValueArms, no_source_value_arms, a_source_value_arm}
+use Rattle.luo_source.specs.Plain.Source.{Source}
 use Rattle.luo_rules.specs.declared.names.Meaning.TheVariants as mean
 use Rattle.luo_rules.specs.declared.setting.Variable.{Variable}
 use Rattle.luo_rules.specs.Breaches.{◌or_if_none◌}
@@ -27,8 +27,8 @@ use Rattle.luo_rules.specs.Meanings.{meaning, procedure_use, procedure_of}
 use Rattle.luo_rules.specs.Settings.{meant, signature_meant, shape_at, found, argument_breaches, case_stands}
 use Rattle.luo_rules.specs.Patterns as patterns
 use Rattle.luo_rules.specs.Patterns.{bind_of, arm_breaches, has_factors}
-use Rattle.luo_rules.specs.ValueBreaches.{given_breaches, result_breaches, charge_use, is_atom, misplaced, part_nodes, inner_node, branch_of, has_branch, count_values, count_value_arms, value_breaches, values_breaches, boxed_value_breaches, value_arms_breaches}
-use Rattle.luo_rules.specs.ValueCore.{weight_of, value_core, values_core, boxed_value_core, value_arms_core}
+use Rattle.luo_rules.specs.ValueBreaches.{given_breaches, result_breaches, charge_use, is_atom, misplaced, part_nodes, inner_node, branch_of, has_branch, count_values, count_value_arms, value_breaches, values_breaches, value_breaches, value_arms_breaches}
+use Rattle.luo_rules.specs.ValueCore.{weight_of, value_core, values_core, value_core, value_arms_core}
 use Rattle.luo_rules.specs.Definitions.{names_of}
 use Rattle.luo_rules.specs.Nodes.{setting_of}
 use Rattle.luo_rules.specs.Whole.{core}
@@ -41,7 +41,7 @@ use Rattle.luo_meaning.specs.Variables.{Environment, binds}
 use Rattle.luo_meaning.specs.Structures.{IsOf}
 use Rattle.luo_meaning.specs.Types.{IsProductOf}
 use Rattle.luo_interp.specs.Makes as makes
-use Rattle.luo_meaning.specs.Made.{ValueMakes, ValuesMake, InnerMakes, ArmsMake}
+use Rattle.luo_meaning.specs.Made.{ValueMakes, ValuesMake, ArmsMake}
 use Rattle.luo_meaning.proofs.Steps.{Agree, agree_bound}
 use Rattle.luo_meaning.proofs.StatementsKept.{argument_found, looked}
 use Rattle.luo_meaning.proofs.Sits.{shape_at_node}
@@ -70,9 +70,9 @@ more_same : {t u : Tree} {ts us : Trees} → more t ts ≡ more u us → (t ≡ 
 more_same e = (cc, cc)
 
 -- both have arms, or none has
-abbrev AsMany : plain.ValueArms → {n : _} → Row_of-SourceValueArm n → Type 0
-AsMany no_value_arms end_of-SourceValueArm = Unit {0}
-AsMany (value_arm bind v arms) (more_of-SourceValueArm pattern w rest) = Unit {0}
+abbrev AsMany : plain.ValueArms → SourceValueArms → Type 0
+AsMany no_value_arms no_source_value_arms = Unit {0}
+AsMany (value_arm bind v arms) (a_source_value_arm pattern w rest) = Unit {0}
 AsMany _ _ = ⊥
 
 module _ (source : Source) (R : ℕ → Tree → Tree → Type 0) (S : List ℕ → Tree → Tree → Type 0) where
@@ -84,7 +84,7 @@ module _ (source : Source) (R : ℕ → Tree → Tree → Type 0) (S : List ℕ 
   no_arm (Tup ts) r h = h
   no_arm (Coll ts) r h = h
 
-  no_written_arm : (e : TypeExpr) (t r : Tree) → ArmsMake source S e end_of-SourceValueArm t r → ⊥
+  no_written_arm : (e : TypeExpr) (t r : Tree) → ArmsMake source S e no_source_value_arms t r → ⊥
   no_written_arm e (tree.Atom w l) r h = h
   no_written_arm e (Inj zero t) r h = h
   no_written_arm e (Inj (suc zero) t) r h = h
@@ -93,29 +93,29 @@ module _ (source : Source) (R : ℕ → Tree → Tree → Type 0) (S : List ℕ 
   no_written_arm e (Coll ts) r h = h
 
   -- one more arm
-  arm_step : (e : TypeExpr) (bind : Bind) (w : plain.Value) (pattern : Pattern) (v : SourceValue) (arms : plain.ValueArms) {n : _} (rest : Row_of-SourceValueArm n) → AsMany arms rest
+  arm_step : (e : TypeExpr) (bind : Bind) (w : plain.Value) (pattern : Pattern) (v : SourceValue) (arms : plain.ValueArms) (rest : SourceValueArms) → AsMany arms rest
       → ((t r : Tree) → makes.ValueMakes R w (model.bound bind t) r ↔ ValueMakes source S e (binds pattern t) v r)
       → ((t r : Tree) → makes.ArmsMake R arms t r ↔ ArmsMake source S e rest t r)
-      → (t r : Tree) → makes.ArmsMake R (value_arm bind w arms) t r ↔ ArmsMake source S e (more_of-SourceValueArm pattern v rest) t r
-  arm_step e bind w pattern v no_value_arms (more_of-SourceValueArm p u rest) many one others t r = absurd many
-  arm_step e bind w pattern v (value_arm b u arms) end_of-SourceValueArm many one others t r = absurd many
-  arm_step e bind w pattern v no_value_arms end_of-SourceValueArm many one others (tree.Atom k l) r = (λ h. h, λ h. h)
-  arm_step e bind w pattern v no_value_arms end_of-SourceValueArm many one others (Inj zero t) r = (λ h. h, λ h. h)
-  arm_step e bind w pattern v no_value_arms end_of-SourceValueArm many one others (Inj (suc zero) t) r = one t r
-  arm_step e bind w pattern v no_value_arms end_of-SourceValueArm many one others (Inj (suc (suc i)) t) r = others (Inj (suc i) t) r
-  arm_step e bind w pattern v no_value_arms end_of-SourceValueArm many one others (Tup ts) r = one (Tup ts) r
-  arm_step e bind w pattern v no_value_arms end_of-SourceValueArm many one others (Coll ts) r = (λ h. h, λ h. h)
-  arm_step e bind w pattern v (value_arm b u arms) (more_of-SourceValueArm p x rest) many one others (tree.Atom k l) r = (λ h. h, λ h. h)
-  arm_step e bind w pattern v (value_arm b u arms) (more_of-SourceValueArm p x rest) many one others (Inj zero t) r = (λ h. h, λ h. h)
-  arm_step e bind w pattern v (value_arm b u arms) (more_of-SourceValueArm p x rest) many one others (Inj (suc zero) t) r = one t r
-  arm_step e bind w pattern v (value_arm b u arms) (more_of-SourceValueArm p x rest) many one others (Inj (suc (suc i)) t) r = others (Inj (suc i) t) r
-  arm_step e bind w pattern v (value_arm b u arms) (more_of-SourceValueArm p x rest) many one others (Tup ts) r = (λ h. h, λ h. h)
-  arm_step e bind w pattern v (value_arm b u arms) (more_of-SourceValueArm p x rest) many one others (Coll ts) r = (λ h. h, λ h. h)
+      → (t r : Tree) → makes.ArmsMake R (value_arm bind w arms) t r ↔ ArmsMake source S e (a_source_value_arm pattern v rest) t r
+  arm_step e bind w pattern v no_value_arms (a_source_value_arm p u rest) many one others t r = absurd many
+  arm_step e bind w pattern v (value_arm b u arms) no_source_value_arms many one others t r = absurd many
+  arm_step e bind w pattern v no_value_arms no_source_value_arms many one others (tree.Atom k l) r = (λ h. h, λ h. h)
+  arm_step e bind w pattern v no_value_arms no_source_value_arms many one others (Inj zero t) r = (λ h. h, λ h. h)
+  arm_step e bind w pattern v no_value_arms no_source_value_arms many one others (Inj (suc zero) t) r = one t r
+  arm_step e bind w pattern v no_value_arms no_source_value_arms many one others (Inj (suc (suc i)) t) r = others (Inj (suc i) t) r
+  arm_step e bind w pattern v no_value_arms no_source_value_arms many one others (Tup ts) r = one (Tup ts) r
+  arm_step e bind w pattern v no_value_arms no_source_value_arms many one others (Coll ts) r = (λ h. h, λ h. h)
+  arm_step e bind w pattern v (value_arm b u arms) (a_source_value_arm p x rest) many one others (tree.Atom k l) r = (λ h. h, λ h. h)
+  arm_step e bind w pattern v (value_arm b u arms) (a_source_value_arm p x rest) many one others (Inj zero t) r = (λ h. h, λ h. h)
+  arm_step e bind w pattern v (value_arm b u arms) (a_source_value_arm p x rest) many one others (Inj (suc zero) t) r = one t r
+  arm_step e bind w pattern v (value_arm b u arms) (a_source_value_arm p x rest) many one others (Inj (suc (suc i)) t) r = others (Inj (suc i) t) r
+  arm_step e bind w pattern v (value_arm b u arms) (a_source_value_arm p x rest) many one others (Tup ts) r = (λ h. h, λ h. h)
+  arm_step e bind w pattern v (value_arm b u arms) (a_source_value_arm p x rest) many one others (Coll ts) r = (λ h. h, λ h. h)
 
-  as_many : (ss : List Stand) (expected : Option ℕ) {n : _} (row : Row_of-SourceValueArm n) → length ss ≡ count_value_arms row → AsMany (value_arms_core (setting_of source) ss expected row) row
-  as_many ss expected end_of-SourceValueArm l = tt
-  as_many [] expected (more_of-SourceValueArm pattern v rest) l = absurd (omega (arith, l))
-  as_many (stand ∷ ss) expected (more_of-SourceValueArm pattern v rest) l = tt
+  as_many : (ss : List Stand) (expected : Option ℕ) (row : SourceValueArms) → length ss ≡ count_value_arms row → AsMany (value_arms_core (setting_of source) ss expected row) row
+  as_many ss expected no_source_value_arms l = tt
+  as_many [] expected (a_source_value_arm pattern v rest) l = absurd (omega (arith, l))
+  as_many (stand ∷ ss) expected (a_source_value_arm pattern v rest) l = tt
 
   module _ (c : Clean source) (flat : source.universe ≡ Unlabelled) (calls : (text : List ℕ) (f : ℕ) → meaning (names_of source) text ≡ Some (mean.Procedure f) → (t r : Tree) → R f t r ↔ S text t r) where
     -- the one atom of a node
@@ -151,7 +151,7 @@ module _ (source : Source) (R : ℕ → Tree → Tree → Type 0) (S : List ℕ 
       value_made (Atom charge at) scope env vars agree x e h proper clear r =
           let s = setting_of source in
           atom_made x e h (well_placed (is_atom (shape_at s x)) at (codes "atom") (nil_right (charge_use s charge) (misplaced (is_atom (shape_at s x)) at (codes "atom")) clear)) r
-      value_made (Tuple' size parts at) scope env vars agree x e h proper clear r =
+      value_made (Tuple parts at) scope env vars agree x e h proper clear r =
           let s = setting_of source in
           let n = count_values parts in
           let form = shape_at_node source x in
@@ -167,16 +167,16 @@ module _ (source : Source) (R : ℕ → Tree → Tree → Type 0) (S : List ℕ 
             λ k. (u.0, k.0, u.1, (kept u.0 u.1 k.0).0 k.1, k.2),
             λ k. (k.1, (kept k.0 k.2 k.1).1 k.3, k.4),
           )
-      value_made (Branch' number at size inner) scope env vars agree x e h proper clear r =
+      value_made (Branch number at inner) scope env vars agree x e h proper clear r =
           let s = setting_of source in
           let form = shape_at_node source x in
           let front = misplaced (has_branch number form) at (decimal number) in
-          let rest = boxed_value_breaches s scope (inner_node s (Some x) number) inner in
+          let rest = value_breaches s scope (inner_node s (Some x) number) inner in
           let y = some_is (branch_of form number) (well_placed (has_branch number form) at (decimal number) (nil_left front rest clear)) in
-          let clean : boxed_value_breaches s scope (Some y.0) inner ≡ [] = subst (λ (o : Option ℕ). boxed_value_breaches s scope o inner ≡ []) y.1 (nil_right front rest clear) in
-          let same : boxed_value_core s scope (inner_node s (Some x) number) inner ≡ boxed_value_core s scope (Some y.0) inner = ap (λ (o : Option ℕ). boxed_value_core s scope o inner) y.1 in
-          let kept : (f : TypeExpr) → Holds source y.0 f → (t : Tree) → makes.ValueMakes R (boxed_value_core s scope (inner_node s (Some x) number) inner) vars t ↔ InnerMakes source S f env inner t =
-          λ f g t. subst (λ (w : plain.Value). makes.ValueMakes R w vars t ↔ InnerMakes source S f env inner t) (sym same) (inner_made inner scope env vars agree y.0 f g proper.0 proper.1 clean t) in
+          let clean : value_breaches s scope (Some y.0) inner ≡ [] = subst (λ (o : Option ℕ). value_breaches s scope o inner ≡ []) y.1 (nil_right front rest clear) in
+          let same : value_core s scope (inner_node s (Some x) number) inner ≡ value_core s scope (Some y.0) inner = ap (λ (o : Option ℕ). value_core s scope o inner) y.1 in
+          let kept : (f : TypeExpr) → Holds source y.0 f → (t : Tree) → makes.ValueMakes R (value_core s scope (inner_node s (Some x) number) inner) vars t ↔ ValueMakes source S f env inner t =
+          λ f g t. subst (λ (w : plain.Value). makes.ValueMakes R w vars t ↔ ValueMakes source S f env inner t) (sym same) (value_made inner scope env vars agree y.0 f g proper clean t) in
           let u = union_up source c x e h number y.0 y.1 in
           let b = branch_held source c x e u.0 h u.1 number y.0 y.1 in (
             λ k. (u.0, b.i, b.f, k.0, u.1, b.from_one, b.is, (kept b.f b.holds k.0).0 k.1, k.2),
@@ -184,9 +184,9 @@ module _ (source : Source) (R : ℕ → Tree → Tree → Type 0) (S : List ℕ 
                 let d = branch_held source c x e k.0 h k.4 number y.0 y.1 in
                 let place : k.1 ≡ d.i = omega (arith, k.5, d.from_one) in
                 let one : k.2 ≡ d.f = some_same k.2 d.f (sym k.6 ∙ (ap (slice_get k.0) place ∙ d.is)) in
-                (k.3, (kept d.f d.holds k.3).1 (subst (λ f. InnerMakes source S f env inner k.3) one k.7), k.8),
+                (k.3, (kept d.f d.holds k.3).1 (subst (λ f. ValueMakes source S f env inner k.3) one k.7), k.8),
           )
-      value_made (Case' var size arms) scope env vars agree x e h proper clear r =
+      value_made (Case var arms) scope env vars agree x e h proper clear r =
           let s = setting_of source in
           let o = found scope var in
           let k = case_fits s o var (count_value_arms arms) (value_arms_breaches s (case_stands s o) (Some x) var arms) clear in
@@ -197,16 +197,16 @@ module _ (source : Source) (R : ℕ → Tree → Tree → Type 0) (S : List ℕ 
             λ g. (g.0, look ∙ g.1, (kept g.0 r).1 g.2),
           )
 
-      values_made : {n : _} (row : Row_of-SourceValue n) (scope : List Variable) (env : Environment) (vars : List Tree) → Agree scope env vars → (nodes : List ℕ) (es : List TypeExpr) → AllHold source nodes es → length nodes ≡ count_values row → ProperValues row
+      values_made : (row : SourceValues) (scope : List Variable) (env : Environment) (vars : List Tree) → Agree scope env vars → (nodes : List ℕ) (es : List TypeExpr) → AllHold source nodes es → length nodes ≡ count_values row → ProperValues row
           → values_breaches (setting_of source) scope nodes row ≡ [] → (ts : Trees) → makes.ValuesMake R (values_core (setting_of source) scope nodes row) vars ts ↔ ValuesMake source S es env row ts
-      values_made end_of-SourceValue scope env vars agree [] [] h long proper e none = (λ k. tt, λ k. refl)
-      values_made end_of-SourceValue scope env vars agree [] [] h long proper e (more t ts) = (λ k. absurd (none_more (sym k)), λ k. absurd k)
-      values_made end_of-SourceValue scope env vars agree [] (f ∷ es) h long proper e ts = absurd h
-      values_made end_of-SourceValue scope env vars agree (x ∷ nodes) es h long proper e ts = absurd (omega (arith, long))
-      values_made (more_of-SourceValue v rest) scope env vars agree [] es h long proper e ts = absurd (omega (arith, long))
-      values_made (more_of-SourceValue v rest) scope env vars agree (x ∷ nodes) [] h long proper e ts = absurd h
-      values_made (more_of-SourceValue v rest) scope env vars agree (x ∷ nodes) (f ∷ es) h long proper e none = (λ k. absurd (none_more k.4), λ k. absurd k)
-      values_made (more_of-SourceValue v rest) scope env vars agree (x ∷ nodes) (f ∷ es) h long proper e (more t ts) =
+      values_made no_source_values scope env vars agree [] [] h long proper e none = (λ k. tt, λ k. refl)
+      values_made no_source_values scope env vars agree [] [] h long proper e (more t ts) = (λ k. absurd (none_more (sym k)), λ k. absurd k)
+      values_made no_source_values scope env vars agree [] (f ∷ es) h long proper e ts = absurd h
+      values_made no_source_values scope env vars agree (x ∷ nodes) es h long proper e ts = absurd (omega (arith, long))
+      values_made (a_source_value v rest) scope env vars agree [] es h long proper e ts = absurd (omega (arith, long))
+      values_made (a_source_value v rest) scope env vars agree (x ∷ nodes) [] h long proper e ts = absurd h
+      values_made (a_source_value v rest) scope env vars agree (x ∷ nodes) (f ∷ es) h long proper e none = (λ k. absurd (none_more k.4), λ k. absurd k)
+      values_made (a_source_value v rest) scope env vars agree (x ∷ nodes) (f ∷ es) h long proper e (more t ts) =
           let s = setting_of source in
           let one = value_made v scope env vars agree x f h.0 proper.0 (nil_left (value_breaches s scope (Some x) v) (values_breaches s scope nodes rest) e) t in
           let others = values_made rest scope env vars agree nodes es h.1 (omega (arith, long)) proper.1 (nil_right (value_breaches s scope (Some x) v) (values_breaches s scope nodes rest) e) ts in (
@@ -216,16 +216,11 @@ module _ (source : Source) (R : ℕ → Tree → Tree → Type 0) (S : List ℕ 
             λ k. (t, ts, one.1 k.0, others.1 k.1, refl),
           )
 
-      inner_made : {n : _} (row : Row_of-SourceValue n) (scope : List Variable) (env : Environment) (vars : List Tree) → Agree scope env vars → (y : ℕ) (f : TypeExpr) → Holds source y f → 1 ≤ count_values row → ProperValues row
-          → boxed_value_breaches (setting_of source) scope (Some y) row ≡ [] → (r : Tree) → makes.ValueMakes R (boxed_value_core (setting_of source) scope (Some y) row) vars r ↔ InnerMakes source S f env row r
-      inner_made end_of-SourceValue scope env vars agree y f h some proper e r = absurd (omega (arith, some))
-      inner_made (more_of-SourceValue v rest) scope env vars agree y f h some proper e r = value_made v scope env vars agree y f h proper.0 e r
-
-      arms_made : {n : _} (row : Row_of-SourceValueArm n) (ss : List Stand) (var : Name) (x : ℕ) (e : TypeExpr) → Holds source x e → length ss ≡ count_value_arms row → ProperValueArms row
+      arms_made : (row : SourceValueArms) (ss : List Stand) (var : Name) (x : ℕ) (e : TypeExpr) → Holds source x e → length ss ≡ count_value_arms row → ProperValueArms row
           → value_arms_breaches (setting_of source) ss (Some x) var row ≡ [] → (t r : Tree) → makes.ArmsMake R (value_arms_core (setting_of source) ss (Some x) row) t r ↔ ArmsMake source S e row t r
-      arms_made end_of-SourceValueArm ss var x e h l proper clear t r = (λ k. absurd (no_arm t r k), λ k. absurd (no_written_arm e t r k))
-      arms_made (more_of-SourceValueArm pattern v rest) [] var x e h l proper clear t r = absurd (omega (arith, l))
-      arms_made (more_of-SourceValueArm pattern v rest) (stand ∷ ss) var x e h l proper clear t r =
+      arms_made no_source_value_arms ss var x e h l proper clear t r = (λ k. absurd (no_arm t r k), λ k. absurd (no_written_arm e t r k))
+      arms_made (a_source_value_arm pattern v rest) [] var x e h l proper clear t r = absurd (omega (arith, l))
+      arms_made (a_source_value_arm pattern v rest) (stand ∷ ss) var x e h l proper clear t r =
           let s = setting_of source in
           let scope = patterns.bound s stand pattern in
           let inner = value_breaches s scope (Some x) v in

@@ -1,6 +1,5 @@
 -- The walks over multisets and powersets, counted in both forms.
 use Rattle.std.proofs.Common.{◌≡◌, ◌↔◌, ℕ, zero, suc, ◌+◌, List, [], ◌∷◌, length, sum_by, Option, Some, slice_get, refl, sym, ap, ◌∙◌, subst, arith}
-use Rattle.std.specs.Prelude.{flat_map}
 use Rattle.std.proofs.lemmas.List.Sums.{sum_by-cons}
 use Rattle.luo_model.specs.declared.program.Kind.{Kind}
 use Rattle.luo_model.specs.declared.program.Kind.TheVariants.{Sequence, Set, Cycle, Multiset, Powerset}
@@ -14,9 +13,9 @@ use Rattle.luo_model.specs.Scopes.Walks as model
 use Rattle.luo_model.specs.Scopes.Walks.{body_walks, items_walks, arms_walks}
 use Rattle.luo_model.specs.Program.{Value, Values, no_values, value, ValueArms, no_value_arms, value_arm}
 use Rattle.luo_source.specs.declared.names.Name.{Name}
-use Rattle.luo_source.specs.declared.types.TypeExpr.{TypeExpr, Named}
-use Rattle.luo_source.specs.declared.statements.Stmt.{Stmt, Skip, Charge, Call, Block', Case', Forall', Row_of-Stmt, end_of-Stmt, more_of-Stmt, Row_of-SourceArm, end_of-SourceArm, more_of-SourceArm}
-use Rattle.luo_source.specs.declared.source.Source.{Source}
+use Rattle.luo_source.specs.Plain.Types.{TypeExpr, Named}
+use Rattle.luo_source.specs.Plain.Statements.{Stmt, Skip, Charge, Call, Block, Case, Forall, Stmts, no_stmts, a_stmt, SourceArms, no_source_arms, a_source_arm}
+use Rattle.luo_source.specs.Plain.Source.{Source, ProcBody, Statements, ProcDef}
 use Rattle.luo_rules.specs.declared.setting.Variable.{Variable}
 use Rattle.luo_rules.specs.Settings.{found, place_of, case_stands, meant, def_node, type_node, part_meant}
 use Rattle.luo_rules.specs.Patterns as patterns
@@ -25,23 +24,20 @@ use Rattle.luo_rules.specs.Counted.{multiset_of}
 use Rattle.luo_rules.specs.Nodes.{Spot, named_part, setting_of}
 use Rattle.luo_rules.specs.StatementBreaches.{count_arms, walked, stmt_breaches, stmts_breaches, arms_breaches}
 use Rattle.luo_rules.specs.StatementCore.{stmt_sites, stmt_items, stmts_items, arms_core}
-use Rattle.luo_source.specs.declared.source.ProcBody.{ProcBody}
-use Rattle.luo_source.specs.declared.source.ProcBody.TheVariants.{Statements}
-use Rattle.luo_source.specs.declared.source.ProcBody.TheVariants as proc
-use Rattle.luo_source.specs.declared.source.ProcDef.{ProcDef}
+use Rattle.luo_source.specs.Plain.Source as proc
 use Rattle.luo_rules.specs.ValueCore.{value_core}
 use Rattle.luo_rules.specs.Definitions.{definitions, names_of, definition_meant}
 use Rattle.luo_rules.specs.Checks.{IsSource}
 use Rattle.luo_rules.proofs.ProperSource.{ProperBody, ProperProc, source_proper}
 use Rattle.luo_rules.proofs.SourceFacts.{all_get}
 use Rattle.luo_meaning.proofs.RowsKept.{clean_source, named_sits}
-use Rattle.luo_rules.specs.Whole.{core, items_of, breaches, walk_count, parameter, body_breaches, body_core, sites_of, proc_core, procs_core}
+use Rattle.luo_rules.specs.Whole.{core, breaches, walk_count, parameter, body_breaches, body_core, sites_of, proc_core, procs_core}
 use Rattle.luo_rules.proofs.Lists.{some_same, nil_left, nil_right, index_get}
 use Rattle.luo_rules.proofs.PatternFacts.{arm_fits, case_fits}
-use Rattle.luo_rules.proofs.ProperBodies.{ProperStmt, ProperStmts, ProperArms, AllStmts}
+use Rattle.luo_rules.proofs.ProperBodies.{ProperStmt, ProperStmts, ProperArms}
 use Rattle.luo_rules.proofs.CleanSource.{Clean, clean_proc, def_node_is}
 use Rattle.luo_meaning.specs.Types.{Types, IsCollectionOf, collection_of, AreStands, BindsTypes}
-use Rattle.luo_meaning.specs.Walks.{IsWalkOver, walk_over, StmtWalks, StmtsWalk, ArmsWalk, ListWalks, BodyWalks, ProcsWalk}
+use Rattle.luo_meaning.specs.Walks.{IsWalkOver, walk_over, StmtWalks, StmtsWalk, ArmsWalk, BodyWalks, ProcsWalk}
 use Rattle.luo_meaning.proofs.Sits.{shape_at_node}
 use Rattle.luo_meaning.proofs.Typing.{Holds, SameStands, AgreeTypes, down, stands_up, stands_down, component_up, component_down, shape_of_construct}
 use Rattle.luo_meaning.proofs.TypedScopes.{typed_one, bound_typed, types_bound}
@@ -61,14 +57,14 @@ module _ (source : Source) (c : Clean source) where
 
   -- how much a walk counts
   walk_down : (x : ℕ) (e f : TypeExpr) (n : ℕ) → Holds source x e → IsWalkOver source e f n → (n ≡ model.multiset_of (shape_at_node source x)) × IsCollectionOf source e f
-  walk_down x e f n h (walk_over {kind} {size} {part} {bound} {at} one l) =
+  walk_down x e f n h (walk_over {kind} {bound} {at} l) =
       let k = down source c l x h in
-      (sym (ap model.multiset_of (shape_of_construct source c _ x tt k refl) ∙ kind_walks kind _ _ _), collection_of f one l)
+      (sym (ap model.multiset_of (shape_of_construct source c _ x tt k refl) ∙ kind_walks kind _ _ _), collection_of l)
 
   walk_up : (x : ℕ) (e f : TypeExpr) → Holds source x e → IsCollectionOf source e f → IsWalkOver source e f (model.multiset_of (shape_at_node source x))
-  walk_up x e f h (collection_of {kind} {size} {part} {bound} {at} g one l) =
+  walk_up x e f h (collection_of {kind} {bound} {at} l) =
       let k = down source c l x h in
-      subst (IsWalkOver source e g) (sym (ap model.multiset_of (shape_of_construct source c _ x tt k refl) ∙ kind_walks kind _ _ _)) (walk_over one l)
+      subst (IsWalkOver source e f) (sym (ap model.multiset_of (shape_of_construct source c _ x tt k refl) ∙ kind_walks kind _ _ _)) (walk_over l)
 
   part_is : (vars : List Part) (scope : List Variable) (name : Name) (v : ℕ × Part) → found scope name ≡ Some v → slice_get vars v.0 ≡ Some v.1 → part_at vars (place_of (found scope name)) ≡ v.1
   part_is vars scope name v e t = ap (λ o. part_at vars (place_of o)) e ∙ index_get vars v.0 v.1 no_part t
@@ -79,8 +75,8 @@ module _ (source : Source) (c : Clean source) where
     stmt_walks Skip scope types vars agree first p e n = (λ h. h, λ h. h)
     stmt_walks (Charge measure) scope types vars agree first p e n = (λ h. h, λ h. h)
     stmt_walks (Call callee arg) scope types vars agree first p e n = (λ h. omega (arith, h), λ h. omega (arith, h))
-    stmt_walks (Block' size stmts) scope types vars agree first p e n = stmts_walks stmts scope types vars agree first p e n
-    stmt_walks (Case' var size arms) scope types vars agree first p e n =
+    stmt_walks (Block stmts) scope types vars agree first p e n = stmts_walks stmts scope types vars agree first p e n
+    stmt_walks (Case var arms) scope types vars agree first p e n =
         let s = setting_of source in
         let o = found scope var in
         let k = case_fits s o var (count_arms arms) (arms_breaches s (case_stands s o) var arms) e in
@@ -103,11 +99,11 @@ module _ (source : Source) (c : Clean source) where
               let m = (inner h.1 (subst (λ z. AreStands source z h.1) one h.3)).1 h.4 in
               omega (arith, m, same),
         )
-    stmt_walks (Forall' var over size body) scope types vars agree first p e n =
+    stmt_walks (Forall var over body) scope types vars agree first p e n =
         let s = setting_of source in
         let o = found scope over in
         let inside : List Variable = record { name = var.text; part = walked s o } ∷ [] in
-        let w = walk_there s o over (stmts_breaches s inside body) e in
+        let w = walk_there s o over (stmt_breaches s inside body) e in
         let v = w.v in
         let t = agree over v w.is in
         let part = part_is vars scope over v w.is t.there in
@@ -116,10 +112,10 @@ module _ (source : Source) (c : Clean source) where
         let y_is : y ≡ component (shape_at_node source v.1.node) = ap (λ (n : Part). component (shape_at_node source n.node)) part in
         let y_walked : y ≡ walked s o = y_is ∙ sym (ap (walked s) w.is) in
         let count : model.multiset_of (shape_at_node source x.node) ≡ model.multiset_of (shape_at_node source v.1.node) = ap (λ (n : Part). model.multiset_of (shape_at_node source n.node)) part in
-        let inner : (f : TypeExpr) → IsCollectionOf source t.e f → (m : ℕ) → (m ≡ items_walks (core source) (y ∷ []) (stmts_items s inside first body)) ↔ StmtsWalk source ((var.text, f) ∷ []) body m =
-        λ f is m. stmts_walks body inside ((var.text, f) ∷ []) (y ∷ []) (typed_one source c var.text y (walked s o) f y_walked (subst (λ (n : Part). Holds source n.node f) (sym y_is) (component_down source c v.1.node t.e f t.holds is))) first p w.none m in
+        let inner : (f : TypeExpr) → IsCollectionOf source t.e f → (m : ℕ) → (m ≡ items_walks (core source) (y ∷ []) (stmt_items s inside first body)) ↔ StmtWalks source ((var.text, f) ∷ []) body m =
+        λ f is m. stmt_walks body inside ((var.text, f) ∷ []) (y ∷ []) (typed_one source c var.text y (walked s o) f y_walked (subst (λ (n : Part). Holds source n.node f) (sym y_is) (component_down source c v.1.node t.e f t.holds is))) first p w.none m in
         let up = component_up source c v.1.node t.e t.holds w.collection in
-        let walks = items_walks (core source) (y ∷ []) (stmts_items s inside first body) in (
+        let walks = items_walks (core source) (y ∷ []) (stmt_items s inside first body) in (
           λ h. (t.e, up.0, model.multiset_of (shape_at_node source v.1.node), walks, t.type, walk_up v.1.node t.e up.0 t.holds up.1, (inner up.0 up.1 walks).0 refl, omega (arith, h, count)),
           λ h.
               let one : h.0 ≡ t.e = some_same h.0 t.e (sym h.4 ∙ t.type) in
@@ -128,10 +124,10 @@ module _ (source : Source) (c : Clean source) where
               omega (arith, h.7, m, d.0, count),
         )
 
-    stmts_walks : {k : _} (row : Row_of-Stmt k) (scope : List Variable) (types : Types) (vars : List Part) → AgreeTypes source scope types vars → (first : ℕ) → ProperStmts row → stmts_breaches (setting_of source) scope row ≡ [] → (n : ℕ)
+    pub stmts_walks : (row : Stmts) (scope : List Variable) (types : Types) (vars : List Part) → AgreeTypes source scope types vars → (first : ℕ) → ProperStmts row → stmts_breaches (setting_of source) scope row ≡ [] → (n : ℕ)
         → (n ≡ items_walks (core source) vars (stmts_items (setting_of source) scope first row)) ↔ StmtsWalk source types row n
-    stmts_walks end_of-Stmt scope types vars agree first p e n = (λ h. h, λ h. h)
-    stmts_walks (more_of-Stmt stmt rest) scope types vars agree first p e n =
+    stmts_walks no_stmts scope types vars agree first p e n = (λ h. h, λ h. h)
+    stmts_walks (a_stmt stmt rest) scope types vars agree first p e n =
         let s = setting_of source in
         let one = stmt_walks stmt scope types vars agree first p.0 (nil_left (stmt_breaches s scope stmt) (stmts_breaches s scope rest) e) in
         let more = stmts_walks rest scope types vars agree (first + stmt_sites stmt) p.1 (nil_right (stmt_breaches s scope stmt) (stmts_breaches s scope rest) e) in
@@ -142,13 +138,13 @@ module _ (source : Source) (c : Clean source) where
           λ h. let a = (one h.0).1 h.2 in let b = (more h.1).1 h.3 in omega (arith, h.4, a, b, join),
         )
 
-    arms_walks_kept : {k : _} (row : Row_of-SourceArm k) (ss : List Stand) (es : List TypeExpr) (var : Name) → SameStands source ss es → (first : ℕ) → ProperArms row → length ss ≡ count_arms row → arms_breaches (setting_of source) ss var row ≡ [] → (n : ℕ)
+    arms_walks_kept : (row : SourceArms) (ss : List Stand) (es : List TypeExpr) (var : Name) → SameStands source ss es → (first : ℕ) → ProperArms row → length ss ≡ count_arms row → arms_breaches (setting_of source) ss var row ≡ [] → (n : ℕ)
         → (n ≡ arms_walks (core source) ss (arms_core (setting_of source) ss first row)) ↔ ArmsWalk source es row n
-    arms_walks_kept end_of-SourceArm [] es var stand first p l e n = (λ h. h, λ h. h)
-    arms_walks_kept end_of-SourceArm (t ∷ ss) es var stand first p l e n = absurd (omega (arith, l))
-    arms_walks_kept (more_of-SourceArm pattern body rest) [] es var stand first p l e n = absurd (omega (arith, l))
-    arms_walks_kept (more_of-SourceArm pattern body rest) (t ∷ ss) [] var stand first p l e n = absurd stand
-    arms_walks_kept (more_of-SourceArm pattern body rest) (t ∷ ss) (f ∷ es) var stand first p l e n =
+    arms_walks_kept no_source_arms [] es var stand first p l e n = (λ h. h, λ h. h)
+    arms_walks_kept no_source_arms (t ∷ ss) es var stand first p l e n = absurd (omega (arith, l))
+    arms_walks_kept (a_source_arm pattern body rest) [] es var stand first p l e n = absurd (omega (arith, l))
+    arms_walks_kept (a_source_arm pattern body rest) (t ∷ ss) [] var stand first p l e n = absurd stand
+    arms_walks_kept (a_source_arm pattern body rest) (t ∷ ss) (f ∷ es) var stand first p l e n =
         let s = setting_of source in
         let inner = stmt_breaches s (patterns.bound s t pattern) body in
         let a = arm_fits s t var pattern inner (nil_left (arm_breaches s t var pattern inner) (arms_breaches s ss var rest) e) in
@@ -161,20 +157,6 @@ module _ (source : Source) (c : Clean source) where
           λ h. (up.0, items_walks (core source) vars is, arms_walks (core source) ss (arms_core s ss (first + stmt_sites body) rest), up.1, (one up.0 up.1 _).0 refl, (more _).0 refl, h),
           λ h. let x = (one h.0 h.3 h.1).1 h.4 in let y = (more h.2).1 h.5 in omega (arith, h.6, x, y),
         )
-
-  pub list_walks : (stmts : List Stmt) (scope : List Variable) (types : Types) (vars : List Part) → AgreeTypes source scope types vars → (first : ℕ) → AllStmts stmts → flat_map (stmt_breaches (setting_of source) scope) stmts ≡ [] → (n : ℕ)
-      → (n ≡ items_walks (core source) vars (items_of (setting_of source) scope first stmts)) ↔ ListWalks source types stmts n
-  list_walks [] scope types vars agree first p e n = (λ h. h, λ h. h)
-  list_walks (stmt ∷ stmts) scope types vars agree first p e n =
-      let s = setting_of source in
-      let one = stmt_walks stmt scope types vars agree first p.0 (nil_left (stmt_breaches s scope stmt) (flat_map (stmt_breaches s scope) stmts) e) in
-      let more = list_walks stmts scope types vars agree (first + stmt_sites stmt) p.1 (nil_right (stmt_breaches s scope stmt) (flat_map (stmt_breaches s scope) stmts) e) in
-      let is = stmt_items s scope first stmt in
-      let js = items_of s scope (first + stmt_sites stmt) stmts in
-      let join = join_walks vars is js in (
-        λ h. (items_walks (core source) vars is, items_walks (core source) vars js, (one _).0 refl, (more _).0 refl, omega (arith, h, join)),
-        λ h. let a = (one h.0).1 h.2 in let b = (more h.1).1 h.3 in omega (arith, h.4, a, b, join),
-      )
 
   -- values have no walks
   mutual
@@ -201,7 +183,7 @@ module _ (source : Source) (c : Clean source) where
   body_walks_kept p (Statements stmts) n at holds proper e m =
       let s = setting_of source in
       let x = part_meant s (meant s p.on) in
-      list_walks stmts (parameter s p) ((p.param.text, Named p.on) ∷ []) (x ∷ []) (typed_one source c p.param.text x x (Named p.on) refl holds) at proper e m
+      stmts_walks stmts (parameter s p) ((p.param.text, Named p.on) ∷ []) (x ∷ []) (typed_one source c p.param.text x x (Named p.on) refl holds) at proper e m
   body_walks_kept p (proc.Value colon result v) n at holds proper e m =
       let s = setting_of source in
       let none = value_walks (value_core s (parameter s p) (type_node s result) v) at (part_meant s (meant s p.on) ∷ []) in

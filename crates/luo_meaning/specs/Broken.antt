@@ -4,14 +4,10 @@ use Rattle.luo_finite.specs.Listing.{In}
 use Rattle.luo_source.specs.declared.names.Name.{Name}
 use Rattle.luo_source.specs.declared.statements.Pattern.{Pattern}
 use Rattle.luo_source.specs.declared.statements.Pattern.TheVariants as pattern
-use Rattle.luo_source.specs.declared.statements.Stmt.{Stmt, Skip, Charge, Call, Block', Case', Forall', Row_of-Stmt, end_of-Stmt, more_of-Stmt, Row_of-SourceArm, more_of-SourceArm}
-use Rattle.luo_source.specs.declared.values.SourceValue as value
-use Rattle.luo_source.specs.declared.values.SourceValue.{SourceValue, Given, Made, Atom, Tuple', Branch', Row_of-SourceValue, end_of-SourceValue, more_of-SourceValue}
-use Rattle.luo_source.specs.declared.values.SourceValue.{Row_of-SourceValueArm, end_of-SourceValueArm, more_of-SourceValueArm}
-use Rattle.luo_source.specs.declared.source.ProcBody.{ProcBody}
-use Rattle.luo_source.specs.declared.source.ProcBody.TheVariants.{Statements, Value}
-use Rattle.luo_source.specs.declared.source.ProcDef.{ProcDef}
-use Rattle.luo_source.specs.declared.source.Source.{Source}
+use Rattle.luo_source.specs.Plain.Statements.{Stmt, Skip, Charge, Call, Block, Case, Forall, Stmts, no_stmts, a_stmt, SourceArms, a_source_arm}
+use Rattle.luo_source.specs.Plain.Values as value
+use Rattle.luo_source.specs.Plain.Values.{SourceValue, Given, Made, Atom, Tuple, Branch, SourceValues, no_source_values, a_source_value, SourceValueArms, a_source_value_arm}
+use Rattle.luo_source.specs.Plain.Source.{ProcBody, Statements, Value, ProcDef, Source}
 use Rattle.luo_rules.specs.declared.names.Meaning.TheVariants as mean
 use Rattle.luo_rules.specs.declared.rule.Rule.TheVariants.{Y9, Y10, Y11, Y12, Y13, Y15}
 use Rattle.luo_rules.specs.declared.rule.Breach.{Breach}
@@ -114,22 +110,22 @@ module _ (source : Source) where
     StmtBreaks scope Skip b = ⊥
     StmtBreaks scope (Charge measure) b = BreaksNames source (uses a_measure measure) b
     StmtBreaks scope (Call callee arg) b = CallBreaks scope callee arg b
-    StmtBreaks scope (Block' size stmts) b = StmtsBreak scope stmts b
-    StmtBreaks scope (Case' var size arms) b =
+    StmtBreaks scope (Block stmts) b = StmtsBreak scope stmts b
+    StmtBreaks scope (Case var arms) b =
         Unbound scope var b ⊎ OtherCount scope var (count_arms arms) b
         ⊎ ((a : Placed) × (looks : List Look) × (type_at scope var.text ≡ Some a)
         × AreLooks source a looks × (count_arms arms ≡ length looks) × ArmsBreak looks var arms b)
-    StmtBreaks scope (Forall' var over size body) b =
+    StmtBreaks scope (Forall var over body) b =
         Unbound scope over b ⊎ NoCollection scope over b
         ⊎ ((a : Placed) × (f : Placed) × (type_at scope over.text ≡ Some a)
-        × IsCollectionAt source a f × StmtsBreak (one_variable var f) body b)
+        × IsCollectionAt source a f × StmtBreaks (one_variable var f) body b)
 
-    pub StmtsBreak : Scope → {n : _} → Row_of-Stmt n → Breach → Type 0
-    StmtsBreak scope end_of-Stmt b = ⊥
-    StmtsBreak scope (more_of-Stmt stmt rest) b = StmtBreaks scope stmt b ⊎ StmtsBreak scope rest b
+    pub StmtsBreak : Scope → Stmts → Breach → Type 0
+    StmtsBreak scope no_stmts b = ⊥
+    StmtsBreak scope (a_stmt stmt rest) b = StmtBreaks scope stmt b ⊎ StmtsBreak scope rest b
 
-    pub ArmsBreak : List Look → Name → {n : _} → Row_of-SourceArm n → Breach → Type 0
-    ArmsBreak (look ∷ looks) var (more_of-SourceArm pattern body rest) b =
+    pub ArmsBreak : List Look → Name → SourceArms → Breach → Type 0
+    ArmsBreak (look ∷ looks) var (a_source_arm pattern body rest) b =
         PatternBreaks look var pattern b
         ⊎ (Fits source look pattern
         × ((scope : Scope) × BindsScope source pattern (looked_at look) scope
@@ -192,34 +188,30 @@ module _ (source : Source) where
     ValueBreaks scope wanted (Atom charge at) b =
         BreaksSome source (charge_asked charge) b
         ⊎ OtherConstruct (IsAtomAt source) wanted at (codes "atom") b
-    ValueBreaks scope wanted (Tuple' size parts at) b =
+    ValueBreaks scope wanted (Tuple parts at) b =
         OtherConstruct (λ e. HasFactors source e (count_values parts)) wanted at (codes "product") b
         ⊎ ((es : List Placed) × WantedParts wanted (count_values parts) es
         × ValuesBreak scope es parts b)
-    ValueBreaks scope wanted (Branch' number at size inner) b =
+    ValueBreaks scope wanted (Branch number at inner) b =
         OtherConstruct (HasBranch number) wanted at (decimal number) b
-        ⊎ ((w : Option Placed) × WantedInside wanted number w × InnerBreaks scope w inner b)
-    ValueBreaks scope wanted (value.Case' var size arms) b =
+        ⊎ ((w : Option Placed) × WantedInside wanted number w × ValueBreaks scope w inner b)
+    ValueBreaks scope wanted (value.Case var arms) b =
         Unbound scope var b ⊎ OtherCount scope var (count_value_arms arms) b
         ⊎ ((a : Placed) × (looks : List Look) × (type_at scope var.text ≡ Some a)
         × AreLooks source a looks × (count_value_arms arms ≡ length looks)
         × ValueArmsBreak looks wanted var arms b)
 
     -- parts of which these are wanted, and of further ones nothing is known
-    pub ValuesBreak : Scope → List Placed → {n : _} → Row_of-SourceValue n → Breach → Type 0
-    ValuesBreak scope es end_of-SourceValue b = ⊥
-    ValuesBreak scope [] (more_of-SourceValue v rest) b =
+    pub ValuesBreak : Scope → List Placed → SourceValues → Breach → Type 0
+    ValuesBreak scope es no_source_values b = ⊥
+    ValuesBreak scope [] (a_source_value v rest) b =
         ValueBreaks scope None v b ⊎ ValuesBreak scope [] rest b
-    ValuesBreak scope (e ∷ es) (more_of-SourceValue v rest) b =
+    ValuesBreak scope (e ∷ es) (a_source_value v rest) b =
         ValueBreaks scope (Some e) v b ⊎ ValuesBreak scope es rest b
 
-    pub InnerBreaks : Scope → Option Placed → {n : _} → Row_of-SourceValue n → Breach → Type 0
-    InnerBreaks scope wanted end_of-SourceValue b = ⊥
-    InnerBreaks scope wanted (more_of-SourceValue v rest) b = ValueBreaks scope wanted v b
-
-    pub ValueArmsBreak : List Look → Option Placed → Name → {n : _} → Row_of-SourceValueArm n
-        → Breach → Type 0
-    ValueArmsBreak (look ∷ looks) wanted var (more_of-SourceValueArm pattern v rest) b =
+    pub ValueArmsBreak : List Look → Option Placed → Name → SourceValueArms → Breach
+        → Type 0
+    ValueArmsBreak (look ∷ looks) wanted var (a_source_value_arm pattern v rest) b =
         PatternBreaks look var pattern b
         ⊎ (Fits source look pattern
         × ((scope : Scope) × BindsScope source pattern (looked_at look) scope
@@ -229,10 +221,6 @@ module _ (source : Source) where
 
   -- ---- procedures, analyze lines, and the whole source
 
-  abbrev pub ListBreaks : Scope → List Stmt → Breach → Type 0
-  ListBreaks scope [] b = ⊥
-  ListBreaks scope (stmt ∷ stmts) b = StmtBreaks scope stmt b ⊎ ListBreaks scope stmts b
-
   -- the type of a result is wanted where its name means one
   pub data WantedResult (result : Name) : Option Placed → Type 0 where
     the_type : MeansType source result → WantedResult result (Some (of_name result))
@@ -241,7 +229,7 @@ module _ (source : Source) where
   -- what is inside a body is spoken of where the parameter's type is one
   abbrev pub BodyBreaks : ProcDef → ProcBody → Breach → Type 0
   BodyBreaks p (Statements stmts) b =
-      MeansType source p.on × ListBreaks (one_variable p.param (of_name p.on)) stmts b
+      MeansType source p.on × StmtsBreak (one_variable p.param (of_name p.on)) stmts b
   BodyBreaks p (Value colon result v) b =
       BreaksNames source (results colon p.name) b ⊎ BreaksNames source (uses a_type result) b
       ⊎ (MeansType source p.on

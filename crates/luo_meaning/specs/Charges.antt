@@ -2,15 +2,10 @@
 use Rattle.std.specs.Prelude.{◌≡◌, ℕ, zero, suc, ◌+◌, List, [], ◌∷◌, Some, None}
 use Rattle.luo_model.specs.Tree.{Tree, Trees, Inj, Tup, Coll}
 use Rattle.luo_model.specs.Charges.{EachCharges}
-use Rattle.luo_source.specs.declared.statements.Stmt.{Stmt, Skip, Charge, Call, Block', Case', Forall', Row_of-Stmt, end_of-Stmt, more_of-Stmt, Row_of-SourceArm, end_of-SourceArm, more_of-SourceArm}
-use Rattle.luo_source.specs.declared.values.SourceValue as value
-use Rattle.luo_source.specs.declared.values.SourceValue.{SourceValue, Given, Made, Atom, Tuple', Branch'}
-use Rattle.luo_source.specs.declared.values.SourceValue.{Row_of-SourceValue, end_of-SourceValue, more_of-SourceValue}
-use Rattle.luo_source.specs.declared.values.SourceValue.{Row_of-SourceValueArm, end_of-SourceValueArm, more_of-SourceValueArm}
-use Rattle.luo_source.specs.declared.source.ProcBody.{ProcBody}
-use Rattle.luo_source.specs.declared.source.ProcBody.TheVariants.{Statements, Value}
-use Rattle.luo_source.specs.declared.source.ProcDef.{ProcDef}
-use Rattle.luo_source.specs.declared.source.Source.{Source}
+use Rattle.luo_source.specs.Plain.Statements.{Stmt, Skip, Charge, Call, Block, Case, Forall, Stmts, no_stmts, a_stmt, SourceArms, no_source_arms, a_source_arm}
+use Rattle.luo_source.specs.Plain.Values as value
+use Rattle.luo_source.specs.Plain.Values.{SourceValue, Given, Made, Atom, Tuple, Branch, SourceValues, no_source_values, a_source_value, SourceValueArms, no_source_value_arms, a_source_value_arm}
+use Rattle.luo_source.specs.Plain.Source.{ProcBody, Statements, Value, ProcDef, Source}
 use Rattle.luo_meaning.specs.Defined.{DefinesMeasure, DefinesProcedure}
 use Rattle.luo_meaning.specs.Variables.{Environment, structure_of, binds}
 
@@ -26,29 +21,29 @@ module _ (source : Source) (R : List ℕ → Tree → ℕ → Type 0) where
     StmtCharges env (Call callee arg) q =
         (t : Tree) × (structure_of env arg.text ≡ Some t) × R callee.text t q
     -- `begin .. end`: the sum over its statements
-    StmtCharges env (Block' size stmts) q = StmtsCharge env stmts q
+    StmtCharges env (Block stmts) q = StmtsCharge env stmts q
     -- `case x of .. end`: what the arm for the structure of x charges
-    StmtCharges env (Case' var size arms) q =
+    StmtCharges env (Case var arms) q =
         (t : Tree) × (structure_of env var.text ≡ Some t) × ArmsCharge arms t q
     -- `forall v in x do ..`: the sum over the components of x, copies included, of what the body
     -- charges with v alone bound to it
-    StmtCharges env (Forall' var over size body) q =
+    StmtCharges env (Forall var over body) q =
         (ts : Trees) × (structure_of env over.text ≡ Some (Coll ts))
-        × EachCharges (λ t. StmtsCharge ((var.text, t) ∷ []) body) ts q
+        × EachCharges (λ t. StmtCharges ((var.text, t) ∷ []) body) ts q
 
-    pub StmtsCharge : Environment → {n : _} → Row_of-Stmt n → ℕ → Type 0
-    StmtsCharge env end_of-Stmt q = q ≡ 0
-    StmtsCharge env (more_of-Stmt stmt rest) q =
+    pub StmtsCharge : Environment → Stmts → ℕ → Type 0
+    StmtsCharge env no_stmts q = q ≡ 0
+    StmtsCharge env (a_stmt stmt rest) q =
         (a : ℕ) × (b : ℕ) × StmtCharges env stmt a × StmtsCharge env rest b × (q ≡ a + b)
 
     -- on a structure of branch i the arm in place i, from 1, and on a tuple the one arm; its scope
     -- has what its pattern binds, and nothing else
-    pub ArmsCharge : {n : _} → Row_of-SourceArm n → Tree → ℕ → Type 0
-    ArmsCharge (more_of-SourceArm pattern body rest) (Inj (suc zero) t) q =
+    pub ArmsCharge : SourceArms → Tree → ℕ → Type 0
+    ArmsCharge (a_source_arm pattern body rest) (Inj (suc zero) t) q =
         StmtCharges (binds pattern t) body q
-    ArmsCharge (more_of-SourceArm pattern body rest) (Inj (suc (suc i)) t) q =
+    ArmsCharge (a_source_arm pattern body rest) (Inj (suc (suc i)) t) q =
         ArmsCharge rest (Inj (suc i) t) q
-    ArmsCharge (more_of-SourceArm pattern body end_of-SourceArm) (Tup ts) q =
+    ArmsCharge (a_source_arm pattern body no_source_arms) (Tup ts) q =
         StmtCharges (binds pattern (Tup ts)) body q
     ArmsCharge _ _ q = ⊥
 
@@ -63,41 +58,31 @@ module _ (source : Source) (R : List ℕ → Tree → ℕ → Type 0) where
     ValueCharges env (Atom None at) q = q ≡ 0
     ValueCharges env (Atom (Some measure) at) q = DefinesMeasure source measure.text q
     -- `product(..)`: the sum over its parts
-    ValueCharges env (Tuple' size parts at) q = ValuesCharge env parts q
+    ValueCharges env (Tuple parts at) q = ValuesCharge env parts q
     -- `i : v`: what v does
-    ValueCharges env (Branch' number at size inner) q = InnerCharges env inner q
+    ValueCharges env (Branch number at inner) q = ValueCharges env inner q
     -- `case x of .. end`: what the arm for the structure of x charges
-    ValueCharges env (value.Case' var size arms) q =
+    ValueCharges env (value.Case var arms) q =
         (t : Tree) × (structure_of env var.text ≡ Some t) × ValueArmsCharge arms t q
 
-    pub ValuesCharge : Environment → {n : _} → Row_of-SourceValue n → ℕ → Type 0
-    ValuesCharge env end_of-SourceValue q = q ≡ 0
-    ValuesCharge env (more_of-SourceValue v rest) q =
+    pub ValuesCharge : Environment → SourceValues → ℕ → Type 0
+    ValuesCharge env no_source_values q = q ≡ 0
+    ValuesCharge env (a_source_value v rest) q =
         (a : ℕ) × (b : ℕ) × ValueCharges env v a × ValuesCharge env rest b × (q ≡ a + b)
 
-    -- the one value inside a branch
-    pub InnerCharges : Environment → {n : _} → Row_of-SourceValue n → ℕ → Type 0
-    InnerCharges env end_of-SourceValue q = q ≡ 0
-    InnerCharges env (more_of-SourceValue v rest) q = ValueCharges env v q
-
     -- arms with values: as those with statements
-    pub ValueArmsCharge : {n : _} → Row_of-SourceValueArm n → Tree → ℕ → Type 0
-    ValueArmsCharge (more_of-SourceValueArm pattern body rest) (Inj (suc zero) t) q =
+    pub ValueArmsCharge : SourceValueArms → Tree → ℕ → Type 0
+    ValueArmsCharge (a_source_value_arm pattern body rest) (Inj (suc zero) t) q =
         ValueCharges (binds pattern t) body q
-    ValueArmsCharge (more_of-SourceValueArm pattern body rest) (Inj (suc (suc i)) t) q =
+    ValueArmsCharge (a_source_value_arm pattern body rest) (Inj (suc (suc i)) t) q =
         ValueArmsCharge rest (Inj (suc i) t) q
-    ValueArmsCharge (more_of-SourceValueArm pattern body end_of-SourceValueArm) (Tup ts) q =
+    ValueArmsCharge (a_source_value_arm pattern body no_source_value_arms) (Tup ts) q =
         ValueCharges (binds pattern (Tup ts)) body q
     ValueArmsCharge _ _ q = ⊥
 
-  abbrev pub ListCharges : Environment → List Stmt → ℕ → Type 0
-  ListCharges env [] q = q ≡ 0
-  ListCharges env (stmt ∷ stmts) q =
-      (a : ℕ) × (b : ℕ) × StmtCharges env stmt a × ListCharges env stmts b × (q ≡ a + b)
-
   -- the body of a procedure: statements, or the value of its result
   abbrev pub BodyCharges : Environment → ProcBody → ℕ → Type 0
-  BodyCharges env (Statements stmts) q = ListCharges env stmts q
+  BodyCharges env (Statements stmts) q = StmtsCharge env stmts q
   BodyCharges env (Value colon result v) q = ValueCharges env v q
 
 -- the procedure of this name charges q on t, where calls go at most so deep

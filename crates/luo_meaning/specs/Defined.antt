@@ -2,11 +2,9 @@
 use Rattle.std.specs.Prelude.{◌≡◌, ℕ, List}
 use Rattle.luo_finite.specs.Listing.{In}
 use Rattle.luo_source.specs.declared.names.Name.{Name}
-use Rattle.luo_source.specs.declared.types.TypeExpr.{TypeExpr}
-use Rattle.luo_source.specs.declared.types.TypeDef.{TypeDef}
+use Rattle.luo_source.specs.Plain.Types.{TypeExpr, TypeDef}
 use Rattle.luo_source.specs.declared.types.MeasureDef.{MeasureDef}
-use Rattle.luo_source.specs.declared.source.ProcDef.{ProcDef}
-use Rattle.luo_source.specs.declared.source.Source.{Source}
+use Rattle.luo_source.specs.Plain.Source.{ProcDef, Source}
 
 -- the text is that of one of the names
 abbrev pub IsNamedIn : List ℕ → List Name → Type 0

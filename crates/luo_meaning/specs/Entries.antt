@@ -6,9 +6,8 @@ use Rattle.luo_model.specs.declared.table.Entry.{Entry}
 use Rattle.luo_model.specs.declared.table.Entry.TheVariants.{Count, Total}
 use Rattle.luo_model.specs.declared.table.Fill.{Fill}
 use Rattle.luo_model.specs.declared.table.Fill.TheVariants.{All}
-use Rattle.luo_source.specs.declared.types.TypeExpr.{TypeExpr}
-use Rattle.luo_source.specs.declared.source.ProcDef.{ProcDef}
-use Rattle.luo_source.specs.declared.source.Source.{Source}
+use Rattle.luo_source.specs.Plain.Types.{TypeExpr}
+use Rattle.luo_source.specs.Plain.Source.{ProcDef, Source}
 use Rattle.luo_rules.specs.Definitions.{Definition, definitions}
 use Rattle.luo_meaning.specs.Places.{Placed, constructs_in}
 use Rattle.luo_meaning.specs.Ranks.{IsRankOf}

@@ -3,11 +3,10 @@ use Rattle.std.specs.Prelude.{[], ◌∷◌, codes, Some}
 use Rattle.luo_model.specs.declared.program.Universe.TheVariants.{Unlabelled}
 use Rattle.luo_model.specs.declared.program.Kind.TheVariants.{Multiset, Powerset}
 use Rattle.luo_source.specs.declared.types.Range.TheVariants.{AtMost}
-use Rattle.luo_source.specs.declared.types.TypeExpr.{Named, Atom, Union', Coll', end_of-TypeExpr, more_of-TypeExpr}
+use Rattle.luo_source.specs.Plain.Types.{Named, Atom, Union, Coll, no_exprs, an_expr}
 use Rattle.luo_source.specs.declared.statements.Pattern.TheVariants as pattern
-use Rattle.luo_source.specs.declared.statements.Stmt.{Skip, Charge, Call, Block', Case', Forall', end_of-Stmt, more_of-Stmt, end_of-SourceArm, more_of-SourceArm}
-use Rattle.luo_source.specs.declared.source.ProcBody.TheVariants.{Statements}
-use Rattle.luo_source.specs.declared.source.Source.{Source}
+use Rattle.luo_source.specs.Plain.Statements.{Skip, Charge, Call, Block, Case, Forall, no_stmts, a_stmt, no_source_arms, a_source_arm}
+use Rattle.luo_source.specs.Plain.Source.{Statements, Source}
 use Rattle.luo_rules.specs.Sources.{name, binary_source}
 
 -- type a, b = atom(1); type z = a | b; type u = powerset(z, card <= 2); type x = multiset(z, card
@@ -19,20 +18,20 @@ choices = record {
       record { names = name (codes "a") 1 ∷ name (codes "b") 3 ∷ []; body = Atom 1 7 5 }
       ∷ record {
         names = name (codes "z") 11 ∷ [];
-        body = Union' (tt ∷ tt ∷ [])
-            (more_of-TypeExpr (Named (name (codes "a") 13))
-            (more_of-TypeExpr (Named (name (codes "b") 15)) end_of-TypeExpr));
+        body =
+            Union (an_expr (Named (name (codes "a") 13))
+            (an_expr (Named (name (codes "b") 15)) no_exprs));
       }
       ∷ record {
         names = name (codes "u") 18 ∷ [];
         body =
-            Coll' Powerset _ (more_of-TypeExpr (Named (name (codes "z") 22)) end_of-TypeExpr)
+            Coll Powerset (Named (name (codes "z") 22))
             (Some (record { range = AtMost 2; at = 24 })) 20;
       }
       ∷ record {
         names = name (codes "x") 30 ∷ [];
         body =
-            Coll' Multiset _ (more_of-TypeExpr (Named (name (codes "z") 34)) end_of-TypeExpr)
+            Coll Multiset (Named (name (codes "z") 34))
             (Some (record { range = AtMost 2; at = 36 })) 32;
       }
       ∷ [];
@@ -43,8 +42,10 @@ choices = record {
         param = name (codes "s") 49;
         on = name (codes "u") 51;
         body =
-            Statements (Forall' (name (codes "y") 56) (name (codes "s") 58) _
-            (more_of-Stmt (Charge (name (codes "m") 60)) end_of-Stmt) ∷ []);
+            Statements
+            (a_stmt
+            (Forall (name (codes "y") 56) (name (codes "s") 58)
+            (Charge (name (codes "m") 60))) no_stmts);
       }
       ∷ [];
   analyses = name (codes "p") 64 ∷ [];
@@ -60,16 +61,18 @@ spines = record binary_source {
         param = name (codes "t") 35;
         on = name (codes "tree") 37;
         body =
-            Statements (Case' (name (codes "t") 42) (tt ∷ tt ∷ [])
-            (more_of-SourceArm (pattern.Named (name (codes "leaf") 44)) Skip
-            (more_of-SourceArm
+            Statements
+            (a_stmt
+            (Case (name (codes "t") 42)
+            (a_source_arm (pattern.Named (name (codes "leaf") 44)) Skip
+            (a_source_arm
             (pattern.Parts
             (name (codes "n") 49 ∷ name (codes "l") 51 ∷ name (codes "r") 53 ∷ []) 48)
-            (Block' (tt ∷ tt ∷ [])
-            (more_of-Stmt (Charge (name (codes "step") 57))
-            (more_of-Stmt
-            (Call (name (codes "spine") 59) (name (codes "l") 61)) end_of-Stmt))) end_of-SourceArm))
-            ∷ []);
+            (Block
+            (a_stmt (Charge (name (codes "step") 57))
+            (a_stmt
+            (Call (name (codes "spine") 59) (name (codes "l") 61)) no_stmts)))
+            no_source_arms))) no_stmts);
       }
       ∷ [];
   analyses = name (codes "spine") 68 ∷ [];

@@ -2,9 +2,9 @@
 use Rattle.std.specs.Prelude.{◌≡◌, ℕ, List, [], ◌∷◌, codes, map}
 use Rattle.luo_finite.specs.Listing.{Lists}
 use Rattle.luo_model.specs.Tree.{Tree, Atom, Inj, Tup, Coll, none, more}
-use Rattle.luo_source.specs.declared.types.TypeExpr.{Named}
-use Rattle.luo_source.specs.declared.source.Source.{Source}
-use Rattle.luo_source.specs.declared.statements.Stmt.{Call}
+use Rattle.luo_source.specs.Plain.Types.{Named}
+use Rattle.luo_source.specs.Plain.Source.{Source}
+use Rattle.luo_source.specs.Plain.Statements.{Call}
 use Rattle.luo_rules.specs.declared.rule.Rule.TheVariants.{Y9}
 use Rattle.luo_rules.specs.declared.rule.Breach.{Breach}
 use Rattle.luo_rules.specs.Sources.{name, binary_source, permutations_source, few_cycles, copying}

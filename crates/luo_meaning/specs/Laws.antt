@@ -14,9 +14,8 @@ use Rattle.luo_model.specs.Member.{Member}
 use Rattle.luo_model.specs.Charges.{Charges}
 use Rattle.luo_model.specs.Tables.{IsCount, IsTotal, IsRow}
 use Rattle.luo_source.specs.declared.names.Name.{Name}
-use Rattle.luo_source.specs.declared.types.TypeExpr.{TypeExpr, Named}
-use Rattle.luo_source.specs.declared.source.ProcDef.{ProcDef}
-use Rattle.luo_source.specs.declared.source.Source.{Source}
+use Rattle.luo_source.specs.Plain.Types.{TypeExpr, Named}
+use Rattle.luo_source.specs.Plain.Source.{ProcDef, Source}
 use Rattle.luo_rules.specs.declared.rule.Breach.{Breach}
 use Rattle.luo_rules.specs.Checks.{IsSource, IsChecked, BreaksFirst}
 use Rattle.luo_rules.specs.Whole.{IsCore, walk_count, breaches}

@@ -2,15 +2,10 @@
 use Rattle.std.specs.Prelude.{◌≡◌, ℕ, zero, suc, List, [], ◌∷◌, Some, slice_get}
 use Rattle.luo_model.specs.Tree as tree
 use Rattle.luo_model.specs.Tree.{Tree, Trees, Inj, Tup, none, more}
-use Rattle.luo_source.specs.declared.types.TypeExpr as type
-use Rattle.luo_source.specs.declared.types.TypeExpr.{TypeExpr}
-use Rattle.luo_source.specs.declared.values.SourceValue.{SourceValue, Given, Made, Atom, Tuple', Branch', Case'}
-use Rattle.luo_source.specs.declared.values.SourceValue.{Row_of-SourceValue, end_of-SourceValue, more_of-SourceValue}
-use Rattle.luo_source.specs.declared.values.SourceValue.{Row_of-SourceValueArm, end_of-SourceValueArm, more_of-SourceValueArm}
-use Rattle.luo_source.specs.declared.source.ProcBody.{ProcBody}
-use Rattle.luo_source.specs.declared.source.ProcBody.TheVariants.{Statements, Value}
-use Rattle.luo_source.specs.declared.source.ProcDef.{ProcDef}
-use Rattle.luo_source.specs.declared.source.Source.{Source}
+use Rattle.luo_source.specs.Plain.Types as type
+use Rattle.luo_source.specs.Plain.Types.{TypeExpr}
+use Rattle.luo_source.specs.Plain.Values.{SourceValue, Given, Made, Atom, Tuple, Branch, Case, SourceValues, no_source_values, a_source_value, SourceValueArms, no_source_value_arms, a_source_value_arm}
+use Rattle.luo_source.specs.Plain.Source.{ProcBody, Statements, Value, ProcDef, Source}
 use Rattle.luo_meaning.specs.Defined.{DefinesProcedure}
 use Rattle.luo_meaning.specs.Structures.{IsOf}
 use Rattle.luo_meaning.specs.Types.{IsUnionOf, IsProductOf}
@@ -31,37 +26,32 @@ module _ (source : Source) (R : List ℕ → Tree → Tree → Type 0) where
         (weight : ℕ) × (r ≡ tree.Atom weight 0) × IsOf source e (tree.Atom weight 0)
     -- `product(..)`, where e leads to a product: a tuple of what its parts make, each for its
     -- factor
-    ValueMakes e env (Tuple' size parts at) r =
+    ValueMakes e env (Tuple parts at) r =
         (es : List TypeExpr) × (ts : Trees) × IsProductOf source e es × ValuesMake es env parts ts
         × (r ≡ Tup ts)
     -- `i : v`, where e leads to a union: what v makes for branch i, under this number
-    ValueMakes e env (Branch' number at size inner) r =
+    ValueMakes e env (Branch number at inner) r =
         (es : List TypeExpr) × (i : ℕ) × (f : TypeExpr) × (t : Tree) × IsUnionOf source e es
         × (number ≡ suc i)
-        × (slice_get es i ≡ Some f) × InnerMakes f env inner t × (r ≡ Inj number t)
+        × (slice_get es i ≡ Some f) × ValueMakes f env inner t × (r ≡ Inj number t)
     -- `case x of .. end`: what the arm for the structure of x makes
-    ValueMakes e env (Case' var size arms) r =
+    ValueMakes e env (Case var arms) r =
         (t : Tree) × (structure_of env var.text ≡ Some t) × ArmsMake e arms t r
 
     -- as many parts as factors and trees, each part makes its tree
-    pub ValuesMake : List TypeExpr → Environment → {n : _} → Row_of-SourceValue n → Trees → Type 0
-    ValuesMake [] env end_of-SourceValue none = Unit {0}
-    ValuesMake (e ∷ es) env (more_of-SourceValue v rest) (more t ts) =
+    pub ValuesMake : List TypeExpr → Environment → SourceValues → Trees → Type 0
+    ValuesMake [] env no_source_values none = Unit {0}
+    ValuesMake (e ∷ es) env (a_source_value v rest) (more t ts) =
         ValueMakes e env v t × ValuesMake es env rest ts
     ValuesMake _ env _ _ = ⊥
 
-    -- the one value inside a branch
-    pub InnerMakes : TypeExpr → Environment → {n : _} → Row_of-SourceValue n → Tree → Type 0
-    InnerMakes e env end_of-SourceValue r = ⊥
-    InnerMakes e env (more_of-SourceValue v rest) r = ValueMakes e env v r
-
     -- arms by their places, as where they charge
-    pub ArmsMake : TypeExpr → {n : _} → Row_of-SourceValueArm n → Tree → Tree → Type 0
-    ArmsMake e (more_of-SourceValueArm pattern v rest) (Inj (suc zero) t) r =
+    pub ArmsMake : TypeExpr → SourceValueArms → Tree → Tree → Type 0
+    ArmsMake e (a_source_value_arm pattern v rest) (Inj (suc zero) t) r =
         ValueMakes e (binds pattern t) v r
-    ArmsMake e (more_of-SourceValueArm pattern v rest) (Inj (suc (suc i)) t) r =
+    ArmsMake e (a_source_value_arm pattern v rest) (Inj (suc (suc i)) t) r =
         ArmsMake e rest (Inj (suc i) t) r
-    ArmsMake e (more_of-SourceValueArm pattern v end_of-SourceValueArm) (Tup ts) r =
+    ArmsMake e (a_source_value_arm pattern v no_source_value_arms) (Tup ts) r =
         ValueMakes e (binds pattern (Tup ts)) v r
     ArmsMake e _ _ r = ⊥
 

@@ -1,7 +1,7 @@
 -- All counts and totals that a source has at a size, and whether one is too large.
 use Rattle.std.specs.Prelude.{◌⊎◌, ℕ, ◌<◌, ◌≤◌}
-use Rattle.luo_source.specs.declared.types.TypeExpr.{TypeExpr}
-use Rattle.luo_source.specs.declared.source.Source.{Source}
+use Rattle.luo_source.specs.Plain.Types.{TypeExpr}
+use Rattle.luo_source.specs.Plain.Source.{Source}
 use Rattle.luo_meaning.specs.Constructs.{IsConstructOf}
 use Rattle.luo_meaning.specs.Rows.{IsCountOf, IsTotalOf}
 use Rattle.luo_meaning.specs.Sites.{SomeSiteOf}

@@ -2,9 +2,9 @@
 use Rattle.std.specs.Prelude.{◌≡◌, ℕ, suc, ◌+◌, ◌++◌, List, [], ◌∷◌, length}
 use Rattle.luo_finite.specs.Listing.{In}
 use Rattle.luo_source.specs.declared.names.Name.{Name}
-use Rattle.luo_source.specs.declared.types.TypeExpr as type
-use Rattle.luo_source.specs.declared.types.TypeExpr.{TypeExpr, Named, Epsilon, Union', Product', Coll', Row_of-TypeExpr, end_of-TypeExpr, more_of-TypeExpr}
-use Rattle.luo_source.specs.declared.source.Source.{Source}
+use Rattle.luo_source.specs.Plain.Types as type
+use Rattle.luo_source.specs.Plain.Types.{TypeExpr, Named, Epsilon, Union, Product, Coll, TypeExprs, no_exprs, an_expr}
+use Rattle.luo_source.specs.Plain.Source.{Source}
 use Rattle.luo_rules.specs.Definitions.{Definition, definitions}
 use Rattle.luo_meaning.specs.Constructs.{IsConstruct}
 
@@ -14,14 +14,13 @@ abbrev mutual
   constructs_in (Named name) = []
   constructs_in (Epsilon at) = Epsilon at ∷ []
   constructs_in (type.Atom weight weight_at at) = type.Atom weight weight_at at ∷ []
-  constructs_in (Union' size parts) = Union' size parts ∷ constructs_among parts
-  constructs_in (Product' size parts at) = Product' size parts at ∷ constructs_among parts
-  constructs_in (Coll' kind size part bound at) =
-      Coll' kind size part bound at ∷ constructs_among part
+  constructs_in (Union parts) = Union parts ∷ constructs_among parts
+  constructs_in (Product parts at) = Product parts at ∷ constructs_among parts
+  constructs_in (Coll kind part bound at) = Coll kind part bound at ∷ constructs_in part
 
-  pub constructs_among : {n : _} → Row_of-TypeExpr n → List TypeExpr
-  constructs_among end_of-TypeExpr = []
-  constructs_among (more_of-TypeExpr e rest) = constructs_in e ++ constructs_among rest
+  pub constructs_among : TypeExprs → List TypeExpr
+  constructs_among no_exprs = []
+  constructs_among (an_expr e rest) = constructs_in e ++ constructs_among rest
 
 -- a type expression with the name of the definition in whose right side it stands, and the number
 -- of constructs before it there
@@ -38,10 +37,10 @@ of_name name = record { name = []; place = 0; form = Named name }
 abbrev pub right_of : Definition → Placed
 right_of d = record { name = d.name.text; place = 0; form = d.right }
 
--- type expressions of a row, the first behind so many constructs
-abbrev pub parts_from : List ℕ → ℕ → {n : _} → Row_of-TypeExpr n → List Placed
-parts_from text place end_of-TypeExpr = []
-parts_from text place (more_of-TypeExpr e rest) =
+-- type expressions in their places, the first behind so many constructs
+abbrev pub parts_from : List ℕ → ℕ → TypeExprs → List Placed
+parts_from text place no_exprs = []
+parts_from text place (an_expr e rest) =
     record { name = text; place = place; form = e }
     ∷ parts_from text (place + length (constructs_in e)) rest
 
@@ -67,21 +66,20 @@ pub record IsSameType (source : Source) (a b : Placed) : Type 0 where
 -- it leads to a union of these branches, a product of these factors, or a collection of this
 -- component, each in its place
 pub data IsUnionAt (source : Source) (a : Placed) : List Placed → Type 0 where
-  union_at : {text : List ℕ} {place : ℕ} {size : _} {parts : _}
-      → LeadsAt source (record { name = text; place = place; form = Union' size parts }) a
+  union_at : {text : List ℕ} {place : ℕ} {parts : _}
+      → LeadsAt source (record { name = text; place = place; form = Union parts }) a
       → IsUnionAt source a (parts_from text (suc place) parts)
 
 pub data IsProductAt (source : Source) (a : Placed) : List Placed → Type 0 where
-  product_at : {text : List ℕ} {place : ℕ} {size : _} {parts : _} {at : ℕ}
-      → LeadsAt source (record { name = text; place = place; form = Product' size parts at }) a
+  product_at : {text : List ℕ} {place : ℕ} {parts : _} {at : ℕ}
+      → LeadsAt source (record { name = text; place = place; form = Product parts at }) a
       → IsProductAt source a (parts_from text (suc place) parts)
 
 pub data IsCollectionAt (source : Source) (a : Placed) : Placed → Type 0 where
-  collection_at : {text : List ℕ} {place : ℕ} {kind : _} {size : _} {part : _} {bound : _} {at : ℕ}
-      (f : Placed) → parts_from text (suc place) part ≡ f ∷ []
+  collection_at : {text : List ℕ} {place : ℕ} {kind : _} {part : _} {bound : _} {at : ℕ}
       → LeadsAt source
-      (record { name = text; place = place; form = Coll' kind size part bound at }) a
-      → IsCollectionAt source a f
+      (record { name = text; place = place; form = Coll kind part bound at }) a
+      → IsCollectionAt source a (record { name = text; place = suc place; form = part })
 
 -- it leads to an atom or `epsilon`
 pub data IsAtomAt (source : Source) (a : Placed) : Type 0 where

@@ -8,16 +8,15 @@ use Rattle.luo_source.specs.declared.names.Name.{Name}
 use Rattle.luo_source.specs.declared.types.Range.{Range}
 use Rattle.luo_source.specs.declared.types.Range.TheVariants.{Exactly, AtMost, AtLeast, Between}
 use Rattle.luo_source.specs.declared.types.Bound.{Bound}
-use Rattle.luo_source.specs.declared.types.TypeExpr as type
-use Rattle.luo_source.specs.declared.types.TypeExpr.{TypeExpr, Named, Epsilon, Union', Product', Coll', Row_of-TypeExpr, end_of-TypeExpr, more_of-TypeExpr}
-use Rattle.luo_source.specs.declared.source.Source.{Source}
+use Rattle.luo_source.specs.Plain.Types as type
+use Rattle.luo_source.specs.Plain.Types.{TypeExpr, Named, Epsilon, Union, Product, Coll, TypeExprs, no_exprs, an_expr}
+use Rattle.luo_source.specs.Plain.Source.{Source}
 use Rattle.luo_meaning.specs.Defined.{DefinesType}
 
--- the type expressions of a row, from the left: branches, factors, or the one component of a
--- collection
-abbrev pub exprs_in : {n : _} → Row_of-TypeExpr n → List TypeExpr
-exprs_in end_of-TypeExpr = []
-exprs_in (more_of-TypeExpr e rest) = e ∷ exprs_in rest
+-- the type expressions of a list, from the left: branches or factors
+abbrev pub exprs_in : TypeExprs → List TypeExpr
+exprs_in no_exprs = []
+exprs_in (an_expr e rest) = e ∷ exprs_in rest
 
 -- a cycle has a component, the other collections may have none
 abbrev pub least_count : Kind → ℕ
@@ -49,18 +48,17 @@ mutual
     atom : {weight weight_at at label : ℕ} → IsLabel source.universe weight label
         → IsOf source (type.Atom weight weight_at at) (Atom weight label)
     -- `e0 | e1 | ..`: a structure of one of the branches, under the number of that branch, from 1
-    branch : {size : _} {parts : _} {t : Tree} (i : ℕ) (e : TypeExpr)
+    branch : {parts : _} {t : Tree} (i : ℕ) (e : TypeExpr)
         → slice_get (exprs_in parts) i ≡ Some e → IsOf source e t
-        → IsOf source (Union' size parts) (Inj (suc i) t)
+        → IsOf source (Union parts) (Inj (suc i) t)
     -- `product(e0, e1, ..)`: a tuple with a structure of each factor, in order
-    tuple : {size : _} {parts : _} {at : ℕ} {ts : Trees} → AreOf source (exprs_in parts) ts
-        → IsOf source (Product' size parts at) (Tup ts)
+    tuple : {parts : _} {at : ℕ} {ts : Trees} → AreOf source (exprs_in parts) ts
+        → IsOf source (Product parts at) (Tup ts)
     -- `sequence(e, bound)`, `set`, `cycle`, `multiset`, `powerset`: structures of e, of a number
     -- that is allowed, standing as the kind says
-    collection : {kind : Kind} {size : _} {part : _} {bound : Option Bound} {at : ℕ} {ts : Trees}
-        (e : TypeExpr)
-        → exprs_in part ≡ e ∷ [] → AllowsCount kind bound (length (to_list ts)) → EachOf source e ts
-        → ComponentsStand kind (to_list ts) → IsOf source (Coll' kind size part bound at) (Coll ts)
+    collection : {kind : Kind} {e : TypeExpr} {bound : Option Bound} {at : ℕ} {ts : Trees}
+        → AllowsCount kind bound (length (to_list ts)) → EachOf source e ts
+        → ComponentsStand kind (to_list ts) → IsOf source (Coll kind e bound at) (Coll ts)
 
   -- as many trees as type expressions, each of its own
   pub data AreOf (source : Source) : List TypeExpr → Trees → Type 0 where

@@ -4,11 +4,11 @@ use Rattle.std.specs.Str.{bytes_eq}
 use Rattle.luo_model.specs.declared.program.Kind.{Kind}
 use Rattle.luo_source.specs.declared.names.Name.{Name}
 use Rattle.luo_source.specs.declared.types.Bound.{Bound}
-use Rattle.luo_source.specs.declared.types.TypeExpr.{TypeExpr, Union', Product', Coll'}
-use Rattle.luo_source.specs.declared.types.TypeExpr as type
+use Rattle.luo_source.specs.Plain.Types.{TypeExpr, Union, Product, Coll}
+use Rattle.luo_source.specs.Plain.Types as type
 use Rattle.luo_source.specs.declared.statements.Pattern.{Pattern}
 use Rattle.luo_source.specs.declared.statements.Pattern.TheVariants.{Named, NamedWhole, NamedParts, Parts, Any, AnyWhole}
-use Rattle.luo_source.specs.declared.source.Source.{Source}
+use Rattle.luo_source.specs.Plain.Source.{Source}
 use Rattle.luo_meaning.specs.Defined.{DefinesType}
 use Rattle.luo_meaning.specs.Structures.{exprs_in}
 
@@ -20,19 +20,18 @@ pub data LeadsTo (source : Source) (c : TypeExpr) : TypeExpr → Type 0 where
 
 -- it leads to a union of these branches
 pub data IsUnionOf (source : Source) (e : TypeExpr) : List TypeExpr → Type 0 where
-  union_of : {size : _} {parts : _} → LeadsTo source (Union' size parts) e
+  union_of : {parts : _} → LeadsTo source (Union parts) e
       → IsUnionOf source e (exprs_in parts)
 
 -- it leads to a product of these factors
 pub data IsProductOf (source : Source) (e : TypeExpr) : List TypeExpr → Type 0 where
-  product_of : {size : _} {parts : _} {at : ℕ} → LeadsTo source (Product' size parts at) e
+  product_of : {parts : _} {at : ℕ} → LeadsTo source (Product parts at) e
       → IsProductOf source e (exprs_in parts)
 
 -- it leads to a collection of this component
 pub data IsCollectionOf (source : Source) (e : TypeExpr) : TypeExpr → Type 0 where
-  collection_of : {kind : Kind} {size : _} {part : _} {bound : Option Bound} {at : ℕ} (f : TypeExpr)
-      → exprs_in part ≡ f ∷ []
-      → LeadsTo source (Coll' kind size part bound at) e → IsCollectionOf source e f
+  collection_of : {kind : Kind} {f : TypeExpr} {bound : Option Bound} {at : ℕ}
+      → LeadsTo source (Coll kind f bound at) e → IsCollectionOf source e f
 
 -- the variables of a scope: names with types
 abbrev pub Types : Type 0

@@ -2,7 +2,7 @@ use Rattle.std.proofs.Common.{◌↔◌, ℕ, ◌<◌, length, sym, subst}
 use Rattle.luo_model.specs.Program.{Program}
 use Rattle.luo_model.specs.Tree.{Tree}
 use Rattle.luo_model.specs.Member.{Member}
-use Rattle.luo_source.specs.declared.types.TypeExpr.{TypeExpr}
+use Rattle.luo_source.specs.Plain.Types.{TypeExpr}
 use Rattle.luo_meaning.specs.Structures.{IsOf}
 use Rattle.luo_meaning.specs.Constructs.{IsConstructOf}
 use Rattle.luo_meaning.proofs.OverKept.{constructs_kept, constructs_there}

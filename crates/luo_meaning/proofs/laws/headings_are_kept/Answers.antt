@@ -1,7 +1,7 @@
 use Rattle.std.proofs.Common.{◌≡◌, ℕ, Some, slice_get, sym, subst}
 use Rattle.luo_model.specs.declared.program.Def.{Def}
 use Rattle.luo_model.specs.Program.{Program, Procedure}
-use Rattle.luo_source.specs.declared.source.ProcDef.{ProcDef}
+use Rattle.luo_source.specs.Plain.Source.{ProcDef}
 use Rattle.luo_meaning.proofs.RowsKept.{clean_source}
 use Rattle.luo_meaning.proofs.TablesKept.{heading_kept}
 use Rattle.luo_meaning.proofs.laws.headings_are_kept.Goals as goal

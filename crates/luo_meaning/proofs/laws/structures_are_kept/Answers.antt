@@ -4,7 +4,7 @@ use Rattle.luo_model.specs.Program.{Program}
 use Rattle.luo_model.specs.Tree.{Tree}
 use Rattle.luo_model.specs.Member.{Member}
 use Rattle.luo_source.specs.declared.names.Name.{Name}
-use Rattle.luo_source.specs.declared.types.TypeExpr.{Named}
+use Rattle.luo_source.specs.Plain.Types.{Named}
 use Rattle.luo_meaning.specs.Structures.{IsOf}
 use Rattle.luo_meaning.proofs.RowsKept.{clean_source, definition_kept}
 use Rattle.luo_meaning.proofs.laws.structures_are_kept.Goals as goal
