@@ -9,7 +9,7 @@ use Rattle.luo_model.specs.Program.{Program}
 use Rattle.luo_model.specs.Invariant.{IsProgram}
 use Rattle.luo_model.specs.Tree.{Tree}
 use Rattle.luo_model.proofs.ChargeLemmas.{charges_one}
-use Rattle.luo_top.proofs.OneText.{refusal_one, reads_one}
+use Rattle.luo_answer.proofs.OneText.{refusal_one, reads_one}
 use Rattle.luo_model.specs.Founded.{IsFounded}
 use Rattle.luo_model.proofs.TableLemmas.{totals_are_single}
 use Rattle.luo_model.proofs.WorkLemmas.{sites_are_apart}
@@ -26,29 +26,31 @@ use Rattle.luo_source.proofs.OneProgram.{program_one}
 use Rattle.luo_rules.specs.declared.rule.Breach.{Breach}
 use Rattle.luo_rules.specs.Counted.{limits_passed}
 use Rattle.luo_rules.specs.Whole.{IsCore, breaches}
-use Rattle.luo_top.specs.declared.status.Status.TheVariants.{Refused, Limit, Overflow}
-use Rattle.luo_top.specs.Answer.{Refusal}
-use Rattle.luo_top.specs.Commands.Analyse.{report}
-use Rattle.luo_top.specs.Commands.Audit.{few, audited}
-use Rattle.luo_top.specs.Commands.List.{type_of, counted}
-use Rattle.luo_top.specs.Commands.Run.{procedure_of, parameter_node, structure_of, charge_of}
-use Rattle.luo_top.specs.Commands.Sample.{text_program, summary}
+use Rattle.luo_answer.specs.declared.status.Status.TheVariants.{Refused, Limit, Overflow}
+use Rattle.luo_answer.specs.Answer.{Refusal}
+use Rattle.luo_answer.specs.Commands.Analyse.{report}
+use Rattle.luo_answer.specs.Commands.Audit.{few, audited}
+use Rattle.luo_answer.specs.Commands.List.{type_of, counted}
+use Rattle.luo_answer.specs.Commands.Run.{procedure_of, parameter_node, structure_of, charge_of}
+use Rattle.luo_answer.specs.Commands.Sample.{summary}
+use Rattle.luo_top.specs.Commands.Sample.{text_program}
 use Rattle.luo_founded.proofs.OneAnswer.{first_once}
-use Rattle.luo_top.specs.FoundedRefusals.{founded_line, FoundedRefusal}
+use Rattle.luo_answer.specs.FoundedRefusals.{founded_line, FoundedRefusal}
 use Rattle.luo_top.specs.Outcome.{Outcome, steps_of}
-use Rattle.luo_top.specs.Overflows.{overflow_line, OverflowRefusal}
+use Rattle.luo_answer.specs.Overflows.{overflow_line, OverflowRefusal}
 use Rattle.luo_top.specs.Refusals.{LexicalRefusal, SyntaxRefusal, LimitRefusal, RuleRefusal, WalksRefusal, refusal_of_fault, refusal_of_error, byte_of_token, limit_line, rule_line}
-use Rattle.luo_top.specs.Steps.{tokens_of, source_of, core_of, file_source, file_program, founded, sized, list_sized, workers_of, tables}
-use Rattle.luo_top.specs.Told.{Told, ReadingRefusal, reading}
-use Rattle.luo_top.specs.Words.{Command, Analyse, Format, Run, Sample, command_of, WordsRefusal, asked_by, Listing, Audit}
-use Rattle.luo_top.specs.WordRefusals.{refusal_of_structure}
-use Rattle.luo_top.proofs.AuditLemmas.{audit_refusal_one}
+use Rattle.luo_answer.specs.Steps.{founded, sized, list_sized, workers_of, tables}
+use Rattle.luo_top.specs.Steps.{tokens_of, source_of, core_of, file_source, file_program}
+use Rattle.luo_answer.specs.Told.{Told, ReadingRefusal, reading}
+use Rattle.luo_answer.specs.Words.{Command, Analyse, Format, Run, Sample, command_of, WordsRefusal, asked_by, Listing, Audit}
+use Rattle.luo_answer.specs.WordRefusals.{refusal_of_structure}
+use Rattle.luo_answer.proofs.AuditLemmas.{audit_refusal_one}
 use Rattle.luo_top.proofs.ProgramFacts.{program_is, text_program_is}
-use Rattle.luo_top.proofs.ListLemmas.{type_single, list_text_single}
-use Rattle.luo_top.proofs.RunLemmas.{named_single, taken, run_text_single}
-use Rattle.luo_top.proofs.SoleSteps.{IsSole, or_makes-sole, and_then-sole, makes-sole, ends-single, refused-single}
-use Rattle.luo_top.proofs.OneReport.{reports_one}
-use Rattle.luo_top.proofs.Summaries.{summary_one}
+use Rattle.luo_answer.proofs.ListLemmas.{type_single, list_text_single}
+use Rattle.luo_answer.proofs.RunLemmas.{named_single, taken, run_text_single}
+use Rattle.luo_answer.proofs.SoleSteps.{IsSole, or_makes-sole, and_then-sole, makes-sole, ends-single, refused-single}
+use Rattle.luo_answer.proofs.OneReport.{reports_one}
+use Rattle.luo_answer.proofs.Summaries.{summary_one}
 
 -- the first lexical fault is one
 lexical-single : (text : List ℕ) → IsSingle (LexicalRefusal text)

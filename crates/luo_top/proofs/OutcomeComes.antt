@@ -20,22 +20,23 @@ use Rattle.luo_rules.specs.Whole.{IsCore, breaches, core}
 use Rattle.luo_founded.proofs.Charged.{one_charge}
 use Rattle.luo_founded.proofs.SomeAnswer.{founded_or_first}
 use Rattle.luo_interp.specs.Takes.{Takes}
-use Rattle.luo_top.proofs.SomeText.{read_or_refused}
-use Rattle.luo_top.specs.Answer.{Answer, Output, Untold}
-use Rattle.luo_top.specs.Commands.List.{type_of}
-use Rattle.luo_top.specs.Commands.Run.{procedure_of, parameter_node, structure_of, charge_of}
+use Rattle.luo_answer.proofs.SomeText.{read_or_refused}
+use Rattle.luo_answer.specs.Answer.{Answer, Output, Untold}
+use Rattle.luo_answer.specs.Commands.List.{type_of}
+use Rattle.luo_answer.specs.Commands.Run.{procedure_of, parameter_node, structure_of, charge_of}
 use Rattle.luo_top.specs.Commands.Sample.{text_program}
 use Rattle.luo_top.specs.Outcome.{Outcome, steps_of}
 use Rattle.luo_top.specs.Refusals.{LimitRefusal}
-use Rattle.luo_top.specs.Step.{Step, HasNone, ◌or_makes◌, ◌and_then◌, ends}
-use Rattle.luo_top.specs.Steps.{tokens_of, source_of, core_of, CoreRefusal, file_source, file_program, founded, tables}
-use Rattle.luo_top.specs.Told.{Told, ReadingRefusal, reading}
-use Rattle.luo_top.specs.Words.{Command, Analyse, Format, Run, Sample, command_of, WordsRefusal, asked_by, Listing, Audit}
+use Rattle.luo_answer.specs.Step.{Step, HasNone, ◌or_makes◌, ◌and_then◌, ends}
+use Rattle.luo_answer.specs.Steps.{founded, tables}
+use Rattle.luo_top.specs.Steps.{tokens_of, source_of, core_of, CoreRefusal, file_source, file_program}
+use Rattle.luo_answer.specs.Told.{Told, ReadingRefusal, reading}
+use Rattle.luo_answer.specs.Words.{Command, Analyse, Format, Run, Sample, command_of, WordsRefusal, asked_by, Listing, Audit}
 use Rattle.luo_top.proofs.ProgramFacts.{program_is, text_program_is}
-use Rattle.luo_top.proofs.ListLemmas.{ordered_listing}
-use Rattle.luo_top.proofs.ReportComes.{report_comes}
-use Rattle.luo_top.proofs.RunLemmas.{taken, run_text_comes}
-use Rattle.luo_top.proofs.Summaries.{summary_comes}
+use Rattle.luo_answer.proofs.ListLemmas.{ordered_listing}
+use Rattle.luo_answer.proofs.ReportComes.{report_comes}
+use Rattle.luo_answer.proofs.RunLemmas.{taken, run_text_comes}
+use Rattle.luo_answer.proofs.Summaries.{summary_comes}
 
 -- where nothing refuses, something is handed on
 abbrev GoesOn : {X : Type 0} → Step X → Type 0

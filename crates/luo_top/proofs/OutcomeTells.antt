@@ -6,26 +6,27 @@ use Rattle.luo_scan.specs.declared.token.Token.{Token}
 use Rattle.luo_scan.specs.Tokens.{bad_byte, long_name, large_number}
 use Rattle.luo_syntax.specs.declared.error.SyntaxError.TheVariants.{Grammar, Depth, NoMemory}
 use Rattle.luo_source.specs.declared.source.Source.{Source}
-use Rattle.luo_top.specs.declared.status.Status.{Status}
-use Rattle.luo_top.specs.Answer.{Answer, Output, Refusal, Untold}
+use Rattle.luo_answer.specs.declared.status.Status.{Status}
+use Rattle.luo_answer.specs.Answer.{Answer, Output, Refusal, Untold}
 use Rattle.luo_model.specs.declared.table.Fill.{Fill}
 use Rattle.luo_model.specs.declared.table.Fill.TheVariants.{All, Counts}
 use Rattle.luo_model.specs.Program.{Program}
 use Rattle.luo_model.specs.Tree.{Tree}
 use Rattle.luo_read.specs.declared.answers.StructError.TheVariants as structure
-use Rattle.luo_top.specs.Commands.Audit.{few, audited}
-use Rattle.luo_top.specs.Commands.List.{type_of, counted}
-use Rattle.luo_top.specs.Commands.Run.{StructureRefusal, ChargeRefusal, procedure_of, parameter_node, structure_of, charge_of}
+use Rattle.luo_answer.specs.Commands.Audit.{few, audited}
+use Rattle.luo_answer.specs.Commands.List.{type_of, counted}
+use Rattle.luo_answer.specs.Commands.Run.{StructureRefusal, ChargeRefusal, procedure_of, parameter_node, structure_of, charge_of}
 use Rattle.luo_top.specs.Commands.Sample.{text_program, sampled}
-use Rattle.luo_top.specs.FoundedRefusals.{FoundedRefusal}
+use Rattle.luo_answer.specs.FoundedRefusals.{FoundedRefusal}
 use Rattle.luo_top.specs.Laws.{FilesAreTold}
 use Rattle.luo_top.specs.Outcome.{Outcome, steps_of}
-use Rattle.luo_top.specs.Overflows.{OverflowRefusal}
+use Rattle.luo_answer.specs.Overflows.{OverflowRefusal}
 use Rattle.luo_top.specs.Refusals.{LexicalRefusal, SyntaxRefusal}
-use Rattle.luo_top.specs.Step.{Step, ◌and_then◌}
-use Rattle.luo_top.specs.Steps.{text_of, tokens_of, source_of, core_of, CoreRefusal, file_source, file_program, founded, sized, list_sized, workers_of, tables}
-use Rattle.luo_top.specs.Told.{Told, ReadingRefusal}
-use Rattle.luo_top.specs.Words.{Command, Analyse, Format, Run, Sample, command_of, files_of, WordsRefusal, Listing, Audit}
+use Rattle.luo_answer.specs.Step.{Step, ◌and_then◌}
+use Rattle.luo_answer.specs.Steps.{founded, sized, list_sized, workers_of, tables}
+use Rattle.luo_top.specs.Steps.{text_of, tokens_of, source_of, core_of, CoreRefusal, file_source, file_program}
+use Rattle.luo_answer.specs.Told.{Told, ReadingRefusal}
+use Rattle.luo_answer.specs.Words.{Command, Analyse, Format, Run, Sample, command_of, files_of, WordsRefusal, Listing, Audit}
 
 untold : (s : Status) (bytes : List ℕ) → Untold ≡ Refusal s bytes → ⊥
 untold s bytes e = cc

@@ -21,12 +21,12 @@ use Rattle.luo_meaning.proofs.ConstructPlaces.{node_is, construct_there}
 use Rattle.luo_meaning.proofs.EntriesKept.{count_kept, total_kept, level_kept, node_rank, site_rank, node_name_kept, site_name_kept}
 use Rattle.luo_meaning.proofs.RowsKept.{clean_source}
 use Rattle.luo_meaning.proofs.SitePlaces.{site_is, site_there}
-use Rattle.luo_top.specs.declared.status.Status.TheVariants.{Overflow}
-use Rattle.luo_top.specs.Answer.{Answer, Refusal}
+use Rattle.luo_answer.specs.declared.status.Status.TheVariants.{Overflow}
+use Rattle.luo_answer.specs.Answer.{Answer, Refusal}
 use Rattle.luo_top.specs.AsWritten.Overflows.{OverflowRefusalOf}
-use Rattle.luo_top.specs.Names.{name_of_definition, name_of_node, name_of_procedure, name_of_site}
-use Rattle.luo_top.specs.Overflows.{entry_text, OverflowRefusal}
-use Rattle.luo_top.specs.Refusals.{line}
+use Rattle.luo_answer.specs.Names.{name_of_definition, name_of_node, name_of_procedure, name_of_site}
+use Rattle.luo_answer.specs.Overflows.{entry_text, OverflowRefusal}
+use Rattle.luo_answer.specs.Lines.{line}
 
 module _ (source : Source) (is : IsSource source) (checked : IsChecked source (core source)) where
   c : Clean source

@@ -12,21 +12,22 @@ use Rattle.luo_rules.specs.Whole.{core}
 use Rattle.luo_sample.specs.Laws.{IsGood}
 use Rattle.luo_sample.specs.Number.{Sample}
 use Rattle.luo_sample.proofs.Good.{each_is_good}
-use Rattle.luo_top.specs.Answer.{Answer}
+use Rattle.luo_answer.specs.Answer.{Answer}
 use Rattle.luo_top.specs.AsWritten.Outcome.{OutcomeAsWritten}
 use Rattle.luo_top.specs.Commands.Sample.{sampled, sample, text_program}
 use Rattle.luo_top.specs.Laws.{IsTaken}
 use Rattle.luo_top.specs.Outcome.{Outcome, steps_of}
-use Rattle.luo_top.specs.Told.{Told}
-use Rattle.luo_top.specs.Words as words'
-use Rattle.luo_top.specs.Words.{Command, command_of, LimitOfSample, WordsRefusal}
-use Rattle.luo_top.specs.inner.Passes.{Passes}
-use Rattle.luo_top.specs.declared.refusal.Refusal.{Refusal}
+use Rattle.luo_answer.specs.Told.{Told}
+use Rattle.luo_answer.specs.Words as words'
+use Rattle.luo_answer.specs.Words.{Command, command_of, LimitOfSample, WordsRefusal}
+use Rattle.luo_answer.specs.inner.Passes.{Passes}
+use Rattle.luo_answer.specs.declared.refusal.Refusal.{Refusal}
 use Rattle.luo_model.specs.Program.{Program}
 use Rattle.std.specs.Prelude.{Result}
 use Rattle.luo_top.specs.Refusals.{SyntaxRefusal}
-use Rattle.luo_top.specs.Step.{HasNone, ◌and_then◌}
-use Rattle.luo_top.specs.Steps.{CoreRefusal, founded}
+use Rattle.luo_answer.specs.Step.{HasNone, ◌and_then◌}
+use Rattle.luo_answer.specs.Steps.{founded}
+use Rattle.luo_top.specs.Steps.{CoreRefusal}
 use Rattle.luo_top.proofs.NoRefusal.{no_fault}
 use Rattle.luo_top.proofs.OneOutcome.{text_program-sole}
 use Rattle.luo_top.proofs.OutcomeKept.{outcome_kept}

@@ -23,8 +23,8 @@ use Rattle.luo_meaning.proofs.ProceduresKept.{procedure_number}
 use Rattle.luo_meaning.proofs.RowsKept.{row_kept}
 use Rattle.luo_sample.specs.Number.{Sample}
 use Rattle.luo_top.specs.AsWritten.Sample.{AreLinesOf, IsSummaryOf}
-use Rattle.luo_top.specs.Commands.Sample.{AreRowsAt, row_lines, head_text, IsSummary}
-use Rattle.luo_top.specs.Names.{name_of_procedure, procedure_name}
+use Rattle.luo_answer.specs.Commands.Sample.{AreRowsAt, row_lines, head_text, IsSummary}
+use Rattle.luo_answer.specs.Names.{name_of_procedure, procedure_name}
 
 module _ (source : Source) (c : Clean source) (none : measures_breaches (names_of source) 0 (measures source) ≡ []) (is : IsProgram (core source)) (n : ℕ) where
   -- the name of procedure f

@@ -1,9 +1,9 @@
 // `format FILE`
 ghost use Rattle.std.specs.Prelude.{[], ◌∷◌};
 ghost use Rattle.luo_top.specs.Commands.Format as steps;
-ghost use Rattle.luo_top.specs.inner.Passes.{PassesOver, seen, itself};
+ghost use Rattle.luo_answer.specs.inner.Passes.{PassesOver, seen, itself};
 
-use crate::refusal::Refusal;
+use luo_answer::Refusal;
 use crate::steps::file_source;
 use luo_num::{Items, Text};
 use luo_outside::Files;

@@ -1,8 +1,8 @@
 use Rattle.std.proofs.Common.{◌∙◌, ap, subst, inr, Some}
-use Rattle.luo_top.specs.Step.{HasNone}
-use Rattle.luo_top.specs.Words.{Command, Sample, Listing, LimitOfWords}
-use Rattle.luo_top.proofs.Asked.{sample_within}
-use Rattle.luo_top.proofs.StepLemmas.{no_file}
+use Rattle.luo_answer.specs.Step.{HasNone}
+use Rattle.luo_answer.specs.Words.{Command, Sample, Listing, LimitOfWords}
+use Rattle.luo_answer.proofs.AskedLemmas.{sample_within}
+use Rattle.luo_answer.proofs.StepLemmas.{no_file}
 use Rattle.luo_top.proofs.answer.answer.Goals as goal
 
 pub sample_summary-requires-clause-number : goal.sample_summary-requires-clause-number

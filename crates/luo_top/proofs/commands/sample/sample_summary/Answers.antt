@@ -1,7 +1,7 @@
 use Rattle.std.proofs.Common.{◌≤◌, List, ℕ, length, sym, ap, subst, ◌∙◌, arith}
 use Rattle.luo_num.specs.declared.limits.TheConstants.{TEXT_LIMIT}
 use Rattle.luo_sample.proofs.Good.{each_is_good}
-use Rattle.luo_top.proofs.StepLemmas.{go, stop, starved}
+use Rattle.luo_answer.proofs.StepLemmas.{go, stop, starved}
 use Rattle.luo_top.proofs.SampleTaken.{of_text}
 use Rattle.luo_top.proofs.commands.sample.sample_summary.Goals as goal
 
