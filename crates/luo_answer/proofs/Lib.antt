@@ -6,6 +6,7 @@ pub mod ListLemmas
 pub mod ListedLines
 pub mod NumberWords
 pub mod Numbers
+pub mod OneAnswer
 pub mod OneReport
 pub mod OneText
 pub mod ReportComes
@@ -14,7 +15,9 @@ pub mod RunLemmas
 pub mod SameSteps
 pub mod SampleRows
 pub mod SoleSteps
+pub mod SomeAnswer
 pub mod SomeText
 pub mod StepLemmas
 pub mod Summaries
+pub mod ToldAnswer
 pub mod TypeNames

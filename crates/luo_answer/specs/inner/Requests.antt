@@ -9,7 +9,7 @@ use Rattle.luo_answer.specs.declared.status.Status.TheVariants as way
 use Rattle.luo_answer.specs.Answer as answer
 use Rattle.luo_answer.specs.Step.{HasNone}
 use Rattle.luo_answer.specs.Words as words'
-use Rattle.luo_answer.specs.Words.{number_of, command_of, files_of, HasNoForm, LimitOfWords}
+use Rattle.luo_answer.specs.Words.{number_of, command_of, HasNoForm, LimitOfWords}
 use Rattle.luo_answer.specs.inner.Passes.{bytes_of}
 
 -- the number of a word up to the cap, where it has one
