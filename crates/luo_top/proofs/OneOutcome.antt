@@ -17,15 +17,15 @@ use Rattle.luo_rules.specs.Counted.{limits_passed}
 use Rattle.luo_rules.specs.Whole.{IsCore, breaches}
 use Rattle.luo_answer.specs.declared.status.Status.TheVariants.{Refused, Limit}
 use Rattle.luo_answer.specs.Answer.{Refusal}
+use Rattle.luo_answer.specs.Told.{Told}
+use Rattle.luo_answer.specs.Words.{Command, Analyse, Format, Run, Sample, Listing, Audit}
+use Rattle.luo_answer.proofs.OneAnswer.{reading-sole, analyse-sole, run-sole, sample-sole, list-sole, audit-sole, asked-sole}
+use Rattle.luo_answer.proofs.SoleSteps.{IsSole, or_makes-sole, and_then-sole, makes-sole, ends-single}
 use Rattle.luo_top.specs.Commands.Sample.{text_program}
 use Rattle.luo_top.specs.Outcome.{Outcome, steps_of}
 use Rattle.luo_top.specs.Refusals.{LexicalRefusal, SyntaxRefusal, LimitRefusal, RuleRefusal, WalksRefusal, refusal_of_fault, refusal_of_error, byte_of_token, limit_line, rule_line}
 use Rattle.luo_top.specs.Steps.{tokens_of, source_of, core_of, file_source, file_program}
-use Rattle.luo_answer.specs.Told.{Told}
-use Rattle.luo_answer.specs.Words.{Command, Analyse, Format, Run, Sample, Listing, Audit}
 use Rattle.luo_top.proofs.ProgramFacts.{program_is, text_program_is}
-use Rattle.luo_answer.proofs.OneAnswer.{reading-sole, analyse-sole, run-sole, sample-sole, list-sole, audit-sole, asked-sole}
-use Rattle.luo_answer.proofs.SoleSteps.{IsSole, or_makes-sole, and_then-sole, makes-sole, ends-single}
 
 -- the first lexical fault is one
 lexical-single : (text : List ℕ) → IsSingle (LexicalRefusal text)

@@ -12,14 +12,14 @@ use Rattle.luo_rules.specs.declared.error.CountLimit.{CountLimit}
 use Rattle.luo_rules.specs.Counted.{limits_passed}
 use Rattle.luo_rules.specs.Whole.{IsCore, breaches, core}
 use Rattle.luo_answer.specs.Answer.{Answer}
-use Rattle.luo_top.specs.Commands.Sample.{text_program}
-use Rattle.luo_top.specs.Outcome.{Outcome, steps_of}
-use Rattle.luo_top.specs.Refusals.{LimitRefusal}
 use Rattle.luo_answer.specs.Step.{HasNone, ◌or_makes◌, ◌and_then◌}
-use Rattle.luo_top.specs.Steps.{tokens_of, source_of, core_of, CoreRefusal, file_source, file_program}
 use Rattle.luo_answer.specs.Told.{Told}
 use Rattle.luo_answer.specs.Words.{Command, Analyse, Format, Run, Sample, Listing, Audit}
 use Rattle.luo_answer.proofs.SomeAnswer.{GoesOn, or_makes-goes_on, and_then-goes_on, ends-comes, reading-goes_on, analyse-goes_on, run-goes_on, sample-goes_on, list-goes_on, audit-goes_on, asked-goes_on}
+use Rattle.luo_top.specs.Commands.Sample.{text_program}
+use Rattle.luo_top.specs.Outcome.{Outcome, steps_of}
+use Rattle.luo_top.specs.Refusals.{LimitRefusal}
+use Rattle.luo_top.specs.Steps.{tokens_of, source_of, core_of, CoreRefusal, file_source, file_program}
 use Rattle.luo_top.proofs.ProgramFacts.{program_is, text_program_is}
 
 tokens-goes_on : (text : List ℕ) → GoesOn (tokens_of text)

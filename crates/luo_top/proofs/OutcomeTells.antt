@@ -8,15 +8,15 @@ use Rattle.luo_syntax.specs.declared.error.SyntaxError.TheVariants.{Grammar, Dep
 use Rattle.luo_source.specs.declared.source.Source.{Source}
 use Rattle.luo_answer.specs.declared.status.Status.{Status}
 use Rattle.luo_answer.specs.Answer.{Answer, Output, Refusal, Untold}
-use Rattle.luo_top.specs.Commands.Sample.{text_program, sampled}
-use Rattle.luo_top.specs.Laws.{FilesAreTold}
 use Rattle.luo_answer.proofs.ToldAnswer.{tells_both, reading-tells, analyse-tells, run-tells, sample-tells, list-tells, audit-tells, words-tell}
-use Rattle.luo_top.specs.Outcome.{Outcome, steps_of}
-use Rattle.luo_top.specs.Refusals.{LexicalRefusal, SyntaxRefusal}
 use Rattle.luo_answer.specs.Step.{Step, ◌and_then◌}
-use Rattle.luo_top.specs.Steps.{text_of, tokens_of, source_of, core_of, CoreRefusal, file_source, file_program}
 use Rattle.luo_answer.specs.Told.{Told}
 use Rattle.luo_answer.specs.Words.{Command, Analyse, Format, Run, Sample, command_of, files_of, Listing, Audit}
+use Rattle.luo_top.specs.Commands.Sample.{text_program, sampled}
+use Rattle.luo_top.specs.Laws.{FilesAreTold}
+use Rattle.luo_top.specs.Outcome.{Outcome, steps_of}
+use Rattle.luo_top.specs.Refusals.{LexicalRefusal, SyntaxRefusal}
+use Rattle.luo_top.specs.Steps.{text_of, tokens_of, source_of, core_of, CoreRefusal, file_source, file_program}
 
 untold : (s : Status) (bytes : List ℕ) → Untold ≡ Refusal s bytes → ⊥
 untold s bytes e = cc

@@ -23,10 +23,10 @@ use Rattle.luo_meaning.proofs.RowsKept.{clean_source}
 use Rattle.luo_meaning.proofs.SitePlaces.{site_is, site_there}
 use Rattle.luo_answer.specs.declared.status.Status.TheVariants.{Overflow}
 use Rattle.luo_answer.specs.Answer.{Answer, Refusal}
-use Rattle.luo_top.specs.AsWritten.Overflows.{OverflowRefusalOf}
 use Rattle.luo_answer.specs.Names.{name_of_definition, name_of_node, name_of_procedure, name_of_site}
 use Rattle.luo_answer.specs.Overflows.{entry_text, OverflowRefusal}
 use Rattle.luo_answer.specs.Lines.{line}
+use Rattle.luo_top.specs.AsWritten.Overflows.{OverflowRefusalOf}
 
 module _ (source : Source) (is : IsSource source) (checked : IsChecked source (core source)) where
   c : Clean source

@@ -2,10 +2,10 @@
 use Rattle.std.proofs.Common.{ℕ, List}
 use Rattle.luo_finite.specs.Steps.{IsSingle}
 use Rattle.luo_answer.specs.Answer.{Untold}
-use Rattle.luo_top.specs.AsWritten.Outcome.{OutcomeAsWritten}
-use Rattle.luo_top.specs.Laws.{FilesAreTold}
 use Rattle.luo_answer.specs.Step.{HasNone}
 use Rattle.luo_answer.specs.Told.{Told}
+use Rattle.luo_top.specs.AsWritten.Outcome.{OutcomeAsWritten}
+use Rattle.luo_top.specs.Laws.{FilesAreTold}
 use Rattle.luo_top.proofs.OneOutcome.{outcome_single}
 use Rattle.luo_top.proofs.OutcomeComes.{outcome_comes}
 use Rattle.luo_top.proofs.OutcomeKept.{outcome_kept}

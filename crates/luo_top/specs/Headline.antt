@@ -7,11 +7,11 @@ use Rattle.luo_outside.specs.Causes.{Rose}
 use Rattle.luo_answer.specs.declared.status.Status.{Status}
 use Rattle.luo_answer.specs.declared.status.Status.TheVariants.{Done, Usage, Refused, Limit, Overflow, ReadFault, WriteFault, NoMemory}
 use Rattle.luo_answer.specs.Answer.{Answer, Output, Refusal, Untold}
-use Rattle.luo_top.specs.AsWritten.Outcome.{OutcomeAsWritten}
 use Rattle.luo_answer.specs.Lines.{line}
 use Rattle.luo_answer.specs.Step.{HasNone}
 use Rattle.luo_answer.specs.Told.{Told, without}
 use Rattle.luo_answer.specs.Words.{Command, command_of, files_of, HasNoForm, WordsRefusal}
+use Rattle.luo_top.specs.AsWritten.Outcome.{OutcomeAsWritten}
 
 -- what a run has to do with a sink, before it and now
 pub record Sinking (S : Type 0) : Type 0 where

@@ -5,12 +5,12 @@ use Rattle.luo_finite.specs.Steps.{IsSingle}
 use Rattle.luo_num.specs.declared.limits.TheConstants.{SIZE_LIMIT, SAMPLE_LIMIT}
 use Rattle.luo_answer.specs.declared.status.Status.TheVariants.{Overflow}
 use Rattle.luo_answer.specs.Answer.{Answer, Output, Refusal, Untold}
-use Rattle.luo_top.specs.AsWritten.Outcome.{OutcomeAsWritten}
 use Rattle.luo_answer.specs.NumberWords.{IsNumberWord}
-use Rattle.luo_top.specs.Outcome.{Outcome}
 use Rattle.luo_answer.specs.Step.{HasNone}
 use Rattle.luo_answer.specs.Told.{Told}
 use Rattle.luo_answer.specs.Words.{Command, Analyse, Format, Run, Sample, command_of, files_of, number_of, Listing, Audit}
+use Rattle.luo_top.specs.AsWritten.Outcome.{OutcomeAsWritten}
+use Rattle.luo_top.specs.Outcome.{Outcome}
 
 -- at most one answer is the outcome
 abbrev pub OutcomeIsOne : Type 0

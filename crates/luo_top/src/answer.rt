@@ -1,7 +1,7 @@
 // The answer to the words.
 ghost use Rattle.luo_answer.specs.inner.Passes.{seen};
-ghost use Rattle.luo_top.specs.inner.Answered.{IsAnswer};
 ghost use Rattle.luo_answer.specs.Words.{texts};
+ghost use Rattle.luo_top.specs.inner.Answered.{IsAnswer};
 
 use crate::commands;
 use luo_answer::{Refusal, Request, asked};

@@ -6,9 +6,9 @@ ghost use Rattle.luo_syntax.specs.Viable.{Explains};
 ghost use Rattle.luo_source.specs.declared.source.Source.{Source};
 ghost use Rattle.luo_rules.specs.Checks.{IsUnchecked};
 ghost use Rattle.luo_answer.specs.Lines.{line};
+ghost use Rattle.luo_answer.specs.inner.Passes.{RefusedBy};
 ghost use Rattle.luo_top.specs.Refusals.{at_token, byte_of_token, limit_line, rule_text, spaced, rule_line, LexicalRefusal, SyntaxRefusal};
 ghost use Rattle.luo_top.specs.Steps.{CoreRefusal};
-ghost use Rattle.luo_answer.specs.inner.Passes.{RefusedBy};
 
 use itoa::Buffer;
 use luo_answer::{Line, Refusal, line_at};

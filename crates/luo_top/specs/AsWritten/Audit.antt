@@ -11,12 +11,12 @@ use Rattle.luo_meaning.specs.Defined.{DefinesProcedure}
 use Rattle.luo_meaning.specs.Rows.{IsCountOf, IsTotalOf}
 use Rattle.luo_answer.specs.declared.status.Status.TheVariants.{Limit, Overflow}
 use Rattle.luo_answer.specs.Answer.{Answer, Refusal}
-use Rattle.luo_top.specs.AsWritten.Steps.{sound_source, founded_source, counts, report_of}
 use Rattle.luo_answer.specs.Overflows.{IsEarlier, audit_line}
 use Rattle.luo_answer.specs.Step.{Step, ◌or_makes◌, ◌and_then◌, refused_where}
 use Rattle.luo_answer.specs.Steps.{list_sized, workers_of}
 use Rattle.luo_answer.specs.Told.{Told}
 use Rattle.luo_answer.specs.WordRefusals.{structures_line}
+use Rattle.luo_top.specs.AsWritten.Steps.{sound_source, founded_source, counts, report_of}
 
 -- d is the procedure of analyze line k
 abbrev pub IsAnalyzed : Source → ℕ → ProcDef → Type 0

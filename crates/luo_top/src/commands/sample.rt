@@ -1,9 +1,9 @@
 // `sample NUMBER N`
 ghost use Rattle.std.specs.Prelude.{◌≡◌, ◌≤◌, length, IfOk};
-ghost use Rattle.luo_answer.specs.inner.Passes.{Passes, itself};
 ghost use Rattle.luo_model.specs.View.{plain_of};
 ghost use Rattle.luo_num.specs.declared.limits.TheConstants.{SAMPLE_LIMIT, SIZE_LIMIT, TEXT_LIMIT};
 ghost use Rattle.luo_sample.specs.Number.{Sample};
+ghost use Rattle.luo_answer.specs.inner.Passes.{Passes, itself};
 ghost use Rattle.luo_top.specs.Commands.Sample as steps;
 
 use crate::steps::{core_of, source_of, tokens_of};
