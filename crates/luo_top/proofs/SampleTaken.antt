@@ -93,6 +93,6 @@ pub of_text : {Z : Type 0} {view : Z → Program} {r : Result Z Refusal} (number
 of_text {view = view} {r = r} number e h = subst (λ t. Passes view (text_program t) r) e h
 
 -- and the steps from it on, with the length of that text
-pub of_length : {r : Result (List ℕ) Refusal} (number bytes n : ℕ) {p : Program} → bytes ≡ length (Sample number) → Passes itself (sample_of number bytes n p) r
+pub of_length : {r : Result (List ℕ) Refusal} (number bytes n : ℕ) (p : Program) → bytes ≡ length (Sample number) → Passes itself (sample_of number bytes n p) r
     → Passes itself (sample_of number (length (Sample number)) n p) r
-of_length {r = r} number bytes n {p = p} e h = subst (λ k. Passes itself (sample_of number k n p) r) e h
+of_length {r = r} number bytes n p e h = subst (λ k. Passes itself (sample_of number k n p) r) e h

@@ -15,4 +15,4 @@ pub returns-in_err-program : goal.returns-in_err-program
 returns-in_err-program c = stop _ (of_text c.args.number c.in_ok-text.ensures c.in_err-program.ensures) c.from_residual-in_err-program.ensures.1
 
 pub returns : goal.returns
-returns c = go _ (of_text c.args.number c.in_ok-text.ensures c.in_ok-program.ensures) (of_length c.args.number _ c.args.n (c.len.ensures ∙ ap length c.in_ok-text.ensures) c.sample_of.ensures)
+returns c = go _ (of_text c.args.number c.in_ok-text.ensures c.in_ok-program.ensures) (of_length c.args.number _ c.args.n _ (c.len.ensures ∙ ap length c.in_ok-text.ensures) c.sample_of.ensures)
