@@ -12,7 +12,7 @@ use Rattle.luo_rules.specs.declared.error.CountLimit.{CountLimit}
 use Rattle.luo_rules.specs.Counted.{limits_passed}
 use Rattle.luo_rules.specs.Whole.{IsCore, breaches, core}
 use Rattle.luo_answer.specs.Answer.{Answer}
-use Rattle.luo_answer.specs.Step.{HasNone, ◌or_makes◌, ◌and_then◌}
+use Rattle.luo_answer.specs.Step.{HasNone}
 use Rattle.luo_answer.specs.Told.{Told}
 use Rattle.luo_answer.specs.Words.{Command, Analyse, Format, Run, Sample, Listing, Audit}
 use Rattle.luo_answer.proofs.SomeAnswer.{GoesOn, or_makes-goes_on, and_then-goes_on, ends-comes, reading-goes_on, analyse-goes_on, run-goes_on, sample-goes_on, list-goes_on, audit-goes_on, asked-goes_on}
