@@ -241,6 +241,9 @@ fn within(request: Request<'_>) -> Result<Request<'_>, Refusal>
 }
 
 /// What the words ask for. It takes no memory.
+///
+/// `Usage` says that the words have the form of no command, and `Limit` that a number of theirs is too large, where no file
+/// has to be read to say so: of `sample` the number, or else the size. There is no other refusal.
 pub fn asked(words: &[String]) -> Result<Request<'_>, Refusal>
     ensures { Asks (texts words.now) result }
 {
