@@ -26,13 +26,13 @@ use Rattle.luo_meaning.specs.Charges.{ProcCharges}
 use Rattle.luo_meaning.specs.Rows.{IsStructureOf, IsCountOf, IsTotalOf}
 use Rattle.luo_meaning.proofs.Named.{procedure_named, named_procedure}
 use Rattle.luo_meaning.proofs.RowsKept.{clean_source, measures_none, counts_same, structure_same, row_kept}
-use Rattle.luo_top.specs.declared.status.Status.TheVariants.{Overflow}
-use Rattle.luo_top.specs.Answer.{Answer, Refusal}
+use Rattle.luo_answer.specs.declared.status.Status.TheVariants.{Overflow}
+use Rattle.luo_answer.specs.Answer.{Answer, Refusal}
+use Rattle.luo_answer.specs.Commands.Audit.{HasTooMany, few, IsTotalOver, AuditRefusal, audited}
+use Rattle.luo_answer.specs.Names.{name_of_procedure, procedure_name}
+use Rattle.luo_answer.specs.Overflows.{audit_line}
+use Rattle.luo_answer.proofs.SameSteps.{Match, same_makes}
 use Rattle.luo_top.specs.AsWritten.Audit.{IsAnalyzed, HasTooManyOf, few_of, IsTotalOverOf, AuditRefusalOf, audited_of}
-use Rattle.luo_top.specs.Commands.Audit.{HasTooMany, few, IsTotalOver, AuditRefusal, audited}
-use Rattle.luo_top.specs.Names.{name_of_procedure, procedure_name}
-use Rattle.luo_top.specs.Overflows.{audit_line}
-use Rattle.luo_top.proofs.SameSteps.{Match, same_makes}
 
 module _ (source : Source) (is : IsSource source) (unbroken : breaches source ≡ []) (q : IsProgram (core source)) (founded : IsFounded (core source)) where
   c : Clean source

@@ -4,18 +4,18 @@ use Rattle.luo_model.specs.Invariant.{IsProgram}
 use Rattle.luo_model.specs.Program.{Program}
 use Rattle.luo_model.proofs.TableLemmas.{totals_are_single}
 use Rattle.luo_model.proofs.WorkLemmas.{sites_are_apart}
-use Rattle.luo_top.specs.Answer.{Output}
+use Rattle.luo_answer.specs.Answer.{Output}
+use Rattle.luo_answer.specs.Report.{IsReport}
+use Rattle.luo_answer.specs.Step.{◌and_then◌}
+use Rattle.luo_answer.specs.Told.{Told}
+use Rattle.luo_answer.specs.Words.{Analyse, Audit, command_of}
+use Rattle.luo_answer.proofs.OneReport.{reports_one}
 use Rattle.luo_top.specs.AsWritten.Outcome.{OutcomeAsWritten}
 use Rattle.luo_top.specs.Commands.Analyse.{analyse}
 use Rattle.luo_top.specs.Commands.Audit.{audit}
 use Rattle.luo_top.specs.Laws.{AuditsAgree, AuditsReport}
-use Rattle.luo_top.specs.Report.{IsReport}
-use Rattle.luo_top.specs.Step.{◌and_then◌}
 use Rattle.luo_top.specs.Steps.{file_program}
-use Rattle.luo_top.specs.Told.{Told}
-use Rattle.luo_top.specs.Words.{Analyse, Audit, command_of}
 use Rattle.luo_top.proofs.OneOutcome.{program-sole}
-use Rattle.luo_top.proofs.OneReport.{reports_one}
 use Rattle.luo_top.proofs.OutcomeKept.{outcome_kept}
 use Rattle.luo_top.proofs.OutcomeTells.{handed_on}
 use Rattle.luo_top.proofs.ProgramFacts.{program_is}

@@ -4,21 +4,22 @@ use Rattle.std.specs.Prelude.{codes, ◌⊎◌, ◌↔◌}
 use Rattle.std.specs.Io.KnownBytes.{Appends}
 use Rattle.luo_outside.specs.Bytes.{TookFront}
 use Rattle.luo_outside.specs.Causes.{Rose}
-use Rattle.luo_top.specs.declared.refusal.Refusal.{Refusal}
-use Rattle.luo_top.specs.declared.refusal.Refusal.TheVariants as why
-use Rattle.luo_top.specs.declared.status.Status.{Status}
-use Rattle.luo_top.specs.declared.status.Status.TheVariants.{Done, Usage, Refused, Limit, Overflow, ReadFault, WriteFault, NoMemory}
-use Rattle.luo_top.specs.Answer as answer
+use Rattle.luo_answer.specs.declared.refusal.Refusal.{Refusal}
+use Rattle.luo_answer.specs.declared.refusal.Refusal.TheVariants as why
+use Rattle.luo_answer.specs.declared.status.Status.{Status}
+use Rattle.luo_answer.specs.declared.status.Status.TheVariants.{Done, Usage, Refused, Limit, Overflow, ReadFault, WriteFault, NoMemory}
+use Rattle.luo_answer.specs.Answer as answer
+use Rattle.luo_answer.specs.Lines.{line, usage_line}
+use Rattle.luo_answer.specs.Step.{◌and_then◌, HasNone}
+use Rattle.luo_answer.specs.Told.{Told, without}
+use Rattle.luo_answer.specs.Words.{Command, command_of, files_of, HasNoForm, LimitOfWords, WordsRefusal}
+use Rattle.luo_answer.specs.inner.Passes.{Seen, StopsOver, Tells, bytes_of, status_of, line_of}
+use Rattle.luo_answer.specs.inner.Requests.{RefusedByWords}
+use Rattle.luo_answer.proofs.OneAnswer.{words-single}
 use Rattle.luo_top.specs.AsWritten.Outcome.{OutcomeAsWritten}
 use Rattle.luo_top.specs.Headline.{Run, Sinking, IsRight, Answers, IsUntouched, Took, TookPart, TookLine, FileFailed, IsRefusal, WordsRefuse}
 use Rattle.luo_top.specs.Outcome.{Outcome, steps_of}
-use Rattle.luo_top.specs.Refusals.{line, usage_line}
-use Rattle.luo_top.specs.Step.{◌and_then◌, HasNone}
-use Rattle.luo_top.specs.Told.{Told, without}
-use Rattle.luo_top.specs.Words.{Command, command_of, files_of, HasNoForm, LimitOfWords, WordsRefusal}
-use Rattle.luo_top.specs.inner.Passes.{Seen, StopsOver, Tells, bytes_of, status_of, line_of}
-use Rattle.luo_top.specs.inner.Requests.{IsAnswer, RefusedByWords}
-use Rattle.luo_top.proofs.OneOutcome.{words-single}
+use Rattle.luo_top.specs.inner.Answered.{IsAnswer}
 use Rattle.luo_top.proofs.OutcomeKept.{outcome_kept}
 use Rattle.luo_top.proofs.WrittenOutcome.{written_single}
 

@@ -27,15 +27,15 @@ use Rattle.luo_meaning.proofs.Named.{named_type, type_named}
 use Rattle.luo_meaning.proofs.NamesMean.{names_mean}
 use Rattle.luo_meaning.proofs.OverKept.{counts_kept}
 use Rattle.luo_meaning.proofs.RowsKept.{clean_source, definition_kept}
-use Rattle.luo_top.specs.Answer.{Answer}
+use Rattle.luo_answer.specs.Answer.{Answer}
+use Rattle.luo_answer.specs.Commands.List.{IsTypeNamed, type_of, counted, IsListText, listed, list_of}
+use Rattle.luo_answer.specs.Overflows.{OverflowRefusal}
+use Rattle.luo_answer.specs.Step.{◌and_then◌}
+use Rattle.luo_answer.specs.Steps.{list_sized, tables}
+use Rattle.luo_answer.proofs.SameSteps.{Match, same_makes, same_both, same_first}
 use Rattle.luo_top.specs.AsWritten.List.{IsTypeName, defined_type, IsListTextOf, listed_of, list_by}
 use Rattle.luo_top.specs.AsWritten.Steps.{HasCountOver, CountOverflowOf, counts}
-use Rattle.luo_top.specs.Commands.List.{IsTypeNamed, type_of, counted, IsListText, listed, list_of}
-use Rattle.luo_top.specs.Overflows.{OverflowRefusal}
-use Rattle.luo_top.specs.Step.{◌and_then◌}
-use Rattle.luo_top.specs.Steps.{list_sized, tables}
 use Rattle.luo_top.proofs.OverflowKept.{overflow_kept}
-use Rattle.luo_top.proofs.SameSteps.{Match, same_makes, same_both, same_first}
 
 no_totals : Counts ≡ All → ⊥
 no_totals e = cc

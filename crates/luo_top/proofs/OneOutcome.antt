@@ -1,19 +1,8 @@
 -- There is at most one outcome.
-use Rattle.std.proofs.Common.{◌≡◌, ℕ, ◌+◌, ◌<◌, ◌≤◌, List, ◌∷◌, refl, sym, ap, ◌∙◌, arith, ⊎_elim, Option, None, Some}
+use Rattle.std.proofs.Common.{◌≡◌, ℕ, ◌+◌, ◌<◌, ◌≤◌, List, ◌∷◌, refl, sym, ap, ◌∙◌, arith, ⊎_elim}
 use Rattle.std.specs.Prelude.{◌⊎◌}
 use Rattle.luo_finite.specs.Steps.{IsSingle}
 use Rattle.luo_finite.proofs.Steps.{or_else-single}
-use Rattle.luo_model.specs.declared.table.Fill.{Fill}
-use Rattle.luo_model.specs.declared.table.Fill.TheVariants.{All, Counts}
-use Rattle.luo_model.specs.Program.{Program}
-use Rattle.luo_model.specs.Invariant.{IsProgram}
-use Rattle.luo_model.specs.Tree.{Tree}
-use Rattle.luo_model.proofs.ChargeLemmas.{charges_one}
-use Rattle.luo_top.proofs.OneText.{refusal_one, reads_one}
-use Rattle.luo_model.specs.Founded.{IsFounded}
-use Rattle.luo_model.proofs.TableLemmas.{totals_are_single}
-use Rattle.luo_model.proofs.WorkLemmas.{sites_are_apart}
-use Rattle.luo_engine.proofs.FirstOver.{first_over_is_one}
 use Rattle.luo_scan.specs.declared.token.Token.{Token}
 use Rattle.luo_scan.specs.Lexemes.{lexemes, Lexeme}
 use Rattle.luo_scan.specs.Tokens.{Tokens}
@@ -26,29 +15,17 @@ use Rattle.luo_source.proofs.OneProgram.{program_one}
 use Rattle.luo_rules.specs.declared.rule.Breach.{Breach}
 use Rattle.luo_rules.specs.Counted.{limits_passed}
 use Rattle.luo_rules.specs.Whole.{IsCore, breaches}
-use Rattle.luo_top.specs.declared.status.Status.TheVariants.{Refused, Limit, Overflow}
-use Rattle.luo_top.specs.Answer.{Refusal}
-use Rattle.luo_top.specs.Commands.Analyse.{report}
-use Rattle.luo_top.specs.Commands.Audit.{few, audited}
-use Rattle.luo_top.specs.Commands.List.{type_of, counted}
-use Rattle.luo_top.specs.Commands.Run.{procedure_of, parameter_node, structure_of, charge_of}
-use Rattle.luo_top.specs.Commands.Sample.{text_program, summary}
-use Rattle.luo_founded.proofs.OneAnswer.{first_once}
-use Rattle.luo_top.specs.FoundedRefusals.{founded_line, FoundedRefusal}
+use Rattle.luo_answer.specs.declared.status.Status.TheVariants.{Refused, Limit}
+use Rattle.luo_answer.specs.Answer.{Refusal}
+use Rattle.luo_answer.specs.Told.{Told}
+use Rattle.luo_answer.specs.Words.{Command, Analyse, Format, Run, Sample, Listing, Audit}
+use Rattle.luo_answer.proofs.OneAnswer.{reading-sole, analyse-sole, run-sole, sample-sole, list-sole, audit-sole, asked-sole}
+use Rattle.luo_answer.proofs.SoleSteps.{IsSole, or_makes-sole, and_then-sole, makes-sole, ends-single}
+use Rattle.luo_top.specs.Commands.Sample.{text_program}
 use Rattle.luo_top.specs.Outcome.{Outcome, steps_of}
-use Rattle.luo_top.specs.Overflows.{overflow_line, OverflowRefusal}
 use Rattle.luo_top.specs.Refusals.{LexicalRefusal, SyntaxRefusal, LimitRefusal, RuleRefusal, WalksRefusal, refusal_of_fault, refusal_of_error, byte_of_token, limit_line, rule_line}
-use Rattle.luo_top.specs.Steps.{tokens_of, source_of, core_of, file_source, file_program, founded, sized, list_sized, workers_of, tables}
-use Rattle.luo_top.specs.Told.{Told, ReadingRefusal, reading}
-use Rattle.luo_top.specs.Words.{Command, Analyse, Format, Run, Sample, command_of, WordsRefusal, asked_by, Listing, Audit}
-use Rattle.luo_top.specs.WordRefusals.{refusal_of_structure}
-use Rattle.luo_top.proofs.AuditLemmas.{audit_refusal_one}
+use Rattle.luo_top.specs.Steps.{tokens_of, source_of, core_of, file_source, file_program}
 use Rattle.luo_top.proofs.ProgramFacts.{program_is, text_program_is}
-use Rattle.luo_top.proofs.ListLemmas.{type_single, list_text_single}
-use Rattle.luo_top.proofs.RunLemmas.{named_single, taken, run_text_single}
-use Rattle.luo_top.proofs.SoleSteps.{IsSole, or_makes-sole, and_then-sole, makes-sole, ends-single, refused-single}
-use Rattle.luo_top.proofs.OneReport.{reports_one}
-use Rattle.luo_top.proofs.Summaries.{summary_one}
 
 -- the first lexical fault is one
 lexical-single : (text : List ℕ) → IsSingle (LexicalRefusal text)
@@ -108,23 +85,6 @@ walks-single s a b p q = p.1 ∙ sym q.1
 core-single : (s : Source) → IsSingle (IsCore s)
 core-single s p q a b = a.1 ∙ sym b.1
 
-some_one : {A : Type 0} (o : Option A) → IsSingle (λ (x : A). o ≡ Some x)
-some_one None x y p q = absurd (none_some x p)
-  where
-    none_some : {A : Type 0} (x : A) → None ≡ Some x → ⊥
-    none_some x e = cc
-some_one (Some z) x y p q = same x y (sym p ∙ q)
-  where
-    same : {A : Type 0} (x y : A) → Some x ≡ Some y → x ≡ y
-    same x y e = cc
-
-reading-refusal : (most : ℕ) (bytes : List ℕ) (o : Option (List ℕ)) → IsSingle (ReadingRefusal most bytes o)
-reading-refusal most bytes None a b p q = p ∙ sym q
-reading-refusal most bytes (Some text) a b p q = p.1 ∙ sym q.1
-
-reading-sole : (most : ℕ) (bytes file : List ℕ) (told : Told) → IsSole (reading most bytes file told)
-reading-sole most bytes file told = or_makes-sole _ _ (reading-refusal most bytes (told file)) (λ none. some_one (told file))
-
 tokens-sole : (text : List ℕ) → IsSole (tokens_of text)
 tokens-sole text = or_makes-sole _ _ (lexical-single text) (λ none. tokens-single text)
 
@@ -145,89 +105,13 @@ program-sole file told =
 pub text_program-sole : (text : List ℕ) → IsSole (text_program text)
 text_program-sole text = and_then-sole _ _ (tokens-sole text) (λ ts _. and_then-sole _ _ (source-sole text ts) (λ s _. core-sole text ts s))
 
-founded-single : (p : Program) → IsSingle (FoundedRefusal p)
-founded-single p a b (d, h, e) (c, k, g) = e ∙ ap (λ x. Refusal Refused (founded_line p x)) (first_once p d c h k) ∙ sym g
-
-founded-sole : (p : Program) → IsSole (founded p)
-founded-sole p = or_makes-sole _ _ (founded-single p) (λ none x y _ _. refl)
-
-sized-sole : (n : ℕ) → IsSole (sized n)
-sized-sole n = or_makes-sole _ _ (refused-single _ _ _) (λ none x y e d. e ∙ sym d)
-
-overflow-single : (fill : Fill) (p : Program) (n : ℕ) → IsProgram p → IsFounded p → IsSingle (OverflowRefusal p fill n)
-overflow-single fill p n q f a b (x, k, h, e) (y, m, g, d) =
-    let same = first_over_is_one p q f n fill x y k m h g in
-    e ∙ (λ i. Refusal Overflow (overflow_line p (same.0 i) (same.1 i))) ∙ sym d
-
-tables-sole : (fill : Fill) (p : Program) (n : ℕ) → IsProgram p → IsFounded p → IsSole (tables fill p n)
-tables-sole fill p n q f = or_makes-sole _ _ (overflow-single fill p n q f) (λ none x y _ _. refl)
-
-report-sole : (p : Program) (n : ℕ) → IsProgram p → IsSole (report p n)
-report-sole p n q = makes-sole _ (reports_one p (totals_are_single p (sites_are_apart p q)) n)
-
-summary-sole : (number : ℕ) (p : Program) (n : ℕ) → IsProgram p → IsSole (summary number p n)
-summary-sole number p n q = makes-sole _ (summary_one p n number q)
-
-procedure-sole : (p : Program) (name : List ℕ) → IsProgram p → IsSole (procedure_of p name)
-procedure-sole p name q = or_makes-sole _ _ (refused-single _ _ _) (λ none. named_single p q name)
-
-structure-sole : (p : Program) (x : ℕ) (text : List ℕ) → IsProgram p → IsSole (structure_of p x text)
-structure-sole p x text q =
-    or_makes-sole _ _ (λ a b (d, h, e) (c, k, g). e ∙ ap refusal_of_structure (refusal_one p q x text d c h k) ∙ sym g) (λ none. reads_one p q x text)
-
-charge-sole : (p : Program) (f : ℕ) (t : Tree) → IsSole (charge_of p f t)
-charge-sole p f t = or_makes-sole _ _ (λ a b (m, h, l, e) (n, k, o, d). e ∙ sym d) (λ none. charges_one p f t)
-
-type-sole : (p : Program) (name : List ℕ) → IsProgram p → IsSole (type_of p name)
-type-sole p name q = or_makes-sole _ _ (refused-single _ _ _) (λ none. type_single p q name)
-
-list_sized-sole : (n : ℕ) → IsSole (list_sized n)
-list_sized-sole n = or_makes-sole _ _ (refused-single _ _ _) (λ none x y e d. e ∙ sym d)
-
-counted-sole : (k : ℕ) → IsSole (counted k)
-counted-sole k = or_makes-sole _ _ (refused-single _ _ _) (λ none x y e d. e ∙ sym d)
-
-workers-sole : (w : ℕ) → IsSole (workers_of w)
-workers-sole w = or_makes-sole _ _ (refused-single _ _ _) (λ none x y e d. e ∙ sym d)
-
-few-sole : (p : Program) (n : ℕ) → IsSole (few p n)
-few-sole p n = or_makes-sole _ _ (refused-single _ _ _) (λ none x y _ _. refl)
-
-audited-sole : (p : Program) (n : ℕ) → IsSole (audited p n)
-audited-sole p n = or_makes-sole _ _ (audit_refusal_one p n) (λ none x y _ _. refl)
-
 steps-sole : (c : Command) (told : Told) → IsSole (steps_of c told)
-steps-sole (Analyse file n) told = and_then-sole _ _ (program-sole file told) (λ p h.
-    let is = program_is file told p h in
-    and_then-sole _ _ (founded-sole p) (λ _ k. and_then-sole _ _ (sized-sole n) (λ m _. and_then-sole _ _ (tables-sole All p m is k.1) (λ _ _. report-sole p m is))))
+steps-sole (Analyse file n) told = and_then-sole _ _ (program-sole file told) (λ p h. analyse-sole n p (program_is file told p h))
 steps-sole (Format file) told = and_then-sole _ _ (source_file-sole file told) (λ s _. makes-sole _ (λ x y p q. p ∙ sym q))
-steps-sole (Run file procedure structure) told = and_then-sole _ _ (program-sole file told) (λ p h.
-    let is = program_is file told p h in
-    and_then-sole _ _ (founded-sole p) (λ _ k. and_then-sole _ _ (procedure-sole p procedure is) (λ f n. and_then-sole _ _ (structure-sole p (parameter_node p f) structure is) (λ t r.
-    and_then-sole _ _ (charge-sole p f t) (λ q _. makes-sole _ (run_text_single p is k.1 f t (taken p f (n.1.0, n.1.1) structure t r.1) q))))))
-steps-sole (Sample number n) told = and_then-sole _ _ (text_program-sole _) (λ p h.
-    let is = text_program_is _ p h in
-    and_then-sole _ _ (founded-sole p) (λ _ k. and_then-sole _ _ (tables-sole All p n is k.1) (λ _ _. summary-sole number p n is)))
-steps-sole (Listing file name n start k) told = and_then-sole _ _ (program-sole file told) (λ p h.
-    let is = program_is file told p h in
-    and_then-sole _ _ (founded-sole p) (λ _ f. and_then-sole _ _ (type-sole p name is) (λ x _. and_then-sole _ _ (list_sized-sole n) (λ m _. and_then-sole _ _ (counted-sole k) (λ j _.
-    and_then-sole _ _ (tables-sole Counts p m is f.1) (λ _ _. makes-sole _ (list_text_single p x m start j)))))))
-steps-sole (Audit file n w) told = and_then-sole _ _ (program-sole file told) (λ p h.
-    let is = program_is file told p h in
-    and_then-sole _ _ (founded-sole p) (λ _ f. and_then-sole _ _ (list_sized-sole n) (λ m _. and_then-sole _ _ (workers-sole w) (λ _ _. and_then-sole _ _ (tables-sole Counts p m is f.1) (λ _ _.
-    and_then-sole _ _ (few-sole p m) (λ _ _. and_then-sole _ _ (audited-sole p m) (λ _ _. report-sole p m is)))))))
-
-pub words-single : (o : Option Command) → IsSingle (WordsRefusal o)
-words-single None a b p q = p ∙ sym q
-words-single (Some (Analyse file n)) a b p q = absurd p
-words-single (Some (Format file)) a b p q = absurd p
-words-single (Some (Run file procedure structure)) a b p q = absurd p
-words-single (Some (Sample number n)) a b p q = or_else-single _ _ (refused-single _ _ _) (refused-single _ _ _) a b p q
-words-single (Some (Listing file name n start k)) a b p q = absurd p
-words-single (Some (Audit file n w)) a b p q = absurd p
-
-asked-sole : (words : List (List ℕ)) → IsSole (asked_by words)
-asked-sole words = or_makes-sole _ _ (words-single (command_of words)) (λ none. some_one (command_of words))
+steps-sole (Run file procedure structure) told = and_then-sole _ _ (program-sole file told) (λ p h. run-sole procedure structure p (program_is file told p h))
+steps-sole (Sample number n) told = and_then-sole _ _ (text_program-sole _) (λ p h. sample-sole number _ n p (text_program_is _ p h))
+steps-sole (Listing file name n start k) told = and_then-sole _ _ (program-sole file told) (λ p h. list-sole name n start k p (program_is file told p h))
+steps-sole (Audit file n w) told = and_then-sole _ _ (program-sole file told) (λ p h. audit-sole n w p (program_is file told p h))
 
 -- there is at most one outcome
 pub outcome_single : (told : Told) (words : List (List ℕ)) → IsSingle (Outcome told words)

@@ -1,5 +1,5 @@
 -- The outcome by the core form of a source is that by the source as it is written, step by step.
-use Rattle.std.proofs.Common.{◌≡◌, ◌⊎◌, ◌↔◌, ℕ, ◌<◌, ◌≤◌, List, [], ◌∷◌, refl, sym, subst, inl, inr, arith}
+use Rattle.std.proofs.Common.{◌≡◌, ◌⊎◌, ◌↔◌, ℕ, ◌<◌, ◌≤◌, List, [], ◌∷◌, length, refl, sym, subst, inl, inr, arith}
 use Rattle.std.specs.Prelude.{⊤}
 use Rattle.luo_num.specs.declared.TheConstants.{MAX}
 use Rattle.luo_num.specs.declared.limits.TheConstants.{WALK_LIMIT}
@@ -21,7 +21,20 @@ use Rattle.luo_meaning.proofs.CheckedSource.{checked_program}
 use Rattle.luo_meaning.proofs.OverKept.{over_kept}
 use Rattle.luo_meaning.proofs.RowsKept.{clean_source, measures_none}
 use Rattle.luo_meaning.proofs.WalksKept.{walks_kept}
-use Rattle.luo_top.specs.Answer.{Answer}
+use Rattle.luo_sample.specs.Number as of_number
+use Rattle.luo_answer.specs.Answer.{Answer}
+use Rattle.luo_answer.specs.Commands.Analyse.{report}
+use Rattle.luo_answer.specs.Commands.Audit.{few, audited, audit_counted, audit_of}
+use Rattle.luo_answer.specs.Commands.List.{type_of, list_of}
+use Rattle.luo_answer.specs.Commands.Run.{procedure_of, run_on}
+use Rattle.luo_answer.specs.Commands.Sample.{IsSummary, summary}
+use Rattle.luo_answer.specs.Overflows.{OverflowRefusal}
+use Rattle.luo_answer.specs.Report.{IsReport}
+use Rattle.luo_answer.specs.Step.{Step, HasNone, ◌and_then◌}
+use Rattle.luo_answer.specs.Steps.{founded, sized, list_sized, workers_of, tables}
+use Rattle.luo_answer.specs.Told.{Told}
+use Rattle.luo_answer.specs.Words.{Command, Analyse, Format, Run, Sample, asked_by, Listing, Audit}
+use Rattle.luo_answer.proofs.SameSteps.{Match, same_rest, same_else, same_step, same_makes, same_both, same_first, same_ends}
 use Rattle.luo_top.specs.AsWritten.Audit.{few_of, audited_of, audit_counted_of, audit_by, audit_source}
 use Rattle.luo_top.specs.AsWritten.Outcome.{OutcomeAsWritten, steps_as_written}
 use Rattle.luo_top.specs.AsWritten.Report.{IsReportOf}
@@ -29,26 +42,20 @@ use Rattle.luo_top.specs.AsWritten.List.{defined_type, list_by, list_source}
 use Rattle.luo_top.specs.AsWritten.Run.{defined_procedure, run_by, run_source}
 use Rattle.luo_top.specs.AsWritten.Sample.{sound_text, sound_sample, IsSummaryOf, summary_of, sample_source}
 use Rattle.luo_top.specs.AsWritten.Steps.{RuleRefusalOf, WalksRefusalOf, SourceRefusal, sound, sound_source, OverflowOf, numbers, counts, report_of, analyse_source}
-use Rattle.luo_top.specs.Commands.Analyse.{report, analyse}
-use Rattle.luo_top.specs.Commands.Audit.{few, audited, audit_counted, audit_of, audit}
-use Rattle.luo_top.specs.Commands.List.{type_of, list_of, list}
-use Rattle.luo_top.specs.Commands.Run.{procedure_of, run_on, run}
-use Rattle.luo_top.specs.Commands.Sample.{text_program, sampled, IsSummary, summary, sample}
+use Rattle.luo_top.specs.Commands.Analyse.{analyse}
+use Rattle.luo_top.specs.Commands.Audit.{audit}
+use Rattle.luo_top.specs.Commands.List.{list}
+use Rattle.luo_top.specs.Commands.Run.{run}
+use Rattle.luo_top.specs.Commands.Sample.{text_program, sampled, sample}
 use Rattle.luo_top.specs.Outcome.{Outcome, steps_of}
-use Rattle.luo_top.specs.Overflows.{OverflowRefusal}
 use Rattle.luo_top.specs.Refusals.{LimitRefusal, RuleRefusal, WalksRefusal}
-use Rattle.luo_top.specs.Report.{IsReport}
-use Rattle.luo_top.specs.Step.{Step, HasNone, ◌and_then◌}
-use Rattle.luo_top.specs.Steps.{text_of, tokens_of, source_of, core_of, CoreRefusal, file_program, founded, sized, list_sized, workers_of, tables}
-use Rattle.luo_top.specs.Told.{Told}
-use Rattle.luo_top.specs.Words.{Command, Analyse, Format, Run, Sample, asked_by, Listing, Audit}
+use Rattle.luo_top.specs.Steps.{text_of, tokens_of, source_of, core_of, CoreRefusal, file_program}
 use Rattle.luo_top.proofs.AuditKept.{few_same, audited_same}
 use Rattle.luo_top.proofs.ListKept.{counts_same, list_rest_same}
 use Rattle.luo_top.proofs.OverflowKept.{overflow_kept}
 use Rattle.luo_top.proofs.ReportKept.{report_kept}
 use Rattle.luo_top.proofs.RunKept.{run_rest_same}
 use Rattle.luo_top.proofs.SummaryKept.{summary_kept}
-use Rattle.luo_top.proofs.SameSteps.{Match, same_rest, same_else, same_step, same_makes, same_both, same_first, same_ends}
 
 no_elements : {A : Type 0} (l : List A) → ((x : A) (rest : List A) → l ≡ x ∷ rest → ⊥) → l ≡ []
 no_elements [] h = refl
@@ -145,10 +152,10 @@ module _ (source : Source) (is : IsSource source) (is_checked : IsChecked source
       kept : (bytes : List ℕ) → IsReport (core source) n bytes ↔ IsReportOf source n bytes
       kept = report_kept source (clean_source source is is_checked.1.0) (measures_none source is_checked.1.0) (checked_program source (core source) is is_checked) n
 
-  summary_same : (number : ℕ) → Match (λ x y. x ≡ y) (summary number (core source) n) (summary_of number source n)
-  summary_same number = same_makes (λ x y. x ≡ y) _ _ (IsSummary number (core source) n) (IsSummaryOf number source n) (λ a. (λ h. h, λ h. h)) (λ none x h. (x, (kept x).0 h, refl)) (λ none y h. (y, (kept y).1 h, refl))
+  summary_same : (number : ℕ) → Match (λ x y. x ≡ y) (summary number (length (of_number.Sample number)) (core source) n) (summary_of number source n)
+  summary_same number = same_makes (λ x y. x ≡ y) _ _ (IsSummary number (length (of_number.Sample number)) (core source) n) (IsSummaryOf number source n) (λ a. (λ h. h, λ h. h)) (λ none x h. (x, (kept x).0 h, refl)) (λ none y h. (y, (kept y).1 h, refl))
     where
-      kept : (bytes : List ℕ) → IsSummary number (core source) n bytes ↔ IsSummaryOf number source n bytes
+      kept : (bytes : List ℕ) → IsSummary number (length (of_number.Sample number)) (core source) n bytes ↔ IsSummaryOf number source n bytes
       kept = summary_kept source (clean_source source is is_checked.1.0) (measures_none source is_checked.1.0) (checked_program source (core source) is is_checked) n number
 
 analyse_same : (file : List ℕ) (n : ℕ) (told : Told) → Match (λ x y. x ≡ y) (analyse file n told) (analyse_source file n told)
@@ -187,7 +194,7 @@ sample_same number n =
     (λ p source is. subst (λ q. Match (λ x y. x ≡ y) (from q) (from_source source)) (sym is.1.1.1) (rest source is.0 (subst (IsChecked source) is.1.1.1 is.1)))
   where
     from : Program → Step (List ℕ)
-    from p = founded p and_then λ _. tables All p n and_then λ _. summary number p n
+    from p = founded p and_then λ _. tables All p n and_then λ _. summary number (length (of_number.Sample number)) p n
 
     from_source : Source → Step (List ℕ)
     from_source source = founded (core source) and_then λ _. numbers source n and_then λ _. summary_of number source n

@@ -10,7 +10,7 @@ use Rattle.luo_model.specs.declared.table.Fill.{Fill}
 use Rattle.luo_model.specs.Program.{Procedure}
 use Rattle.luo_model.specs.Founded.{IsFounded}
 use Rattle.luo_engine.specs.Entries as entries
-use Rattle.luo_engine.specs.Entries.{IsThere, IsNumber, LessOr}
+use Rattle.luo_engine.specs.Entries.{IsThere, IsNumber}
 use Rattle.luo_source.specs.declared.source.Source.{Source}
 use Rattle.luo_rules.specs.Checks.{IsSource, IsChecked}
 use Rattle.luo_rules.specs.Whole.{core}
@@ -21,12 +21,12 @@ use Rattle.luo_meaning.proofs.ConstructPlaces.{node_is, construct_there}
 use Rattle.luo_meaning.proofs.EntriesKept.{count_kept, total_kept, level_kept, node_rank, site_rank, node_name_kept, site_name_kept}
 use Rattle.luo_meaning.proofs.RowsKept.{clean_source}
 use Rattle.luo_meaning.proofs.SitePlaces.{site_is, site_there}
-use Rattle.luo_top.specs.declared.status.Status.TheVariants.{Overflow}
-use Rattle.luo_top.specs.Answer.{Answer, Refusal}
+use Rattle.luo_answer.specs.declared.status.Status.TheVariants.{Overflow}
+use Rattle.luo_answer.specs.Answer.{Answer, Refusal}
+use Rattle.luo_answer.specs.Names.{name_of_definition, name_of_node, name_of_procedure, name_of_site}
+use Rattle.luo_answer.specs.Overflows.{entry_text, OverflowRefusal}
+use Rattle.luo_answer.specs.Lines.{line}
 use Rattle.luo_top.specs.AsWritten.Overflows.{OverflowRefusalOf}
-use Rattle.luo_top.specs.Names.{name_of_definition, name_of_node, name_of_procedure, name_of_site}
-use Rattle.luo_top.specs.Overflows.{entry_text, OverflowRefusal}
-use Rattle.luo_top.specs.Refusals.{line}
 
 module _ (source : Source) (is : IsSource source) (checked : IsChecked source (core source)) where
   c : Clean source

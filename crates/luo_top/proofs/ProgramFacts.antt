@@ -12,10 +12,10 @@ use Rattle.luo_rules.specs.Checks.{IsSource}
 use Rattle.luo_rules.specs.Counted.{limits_passed}
 use Rattle.luo_rules.specs.Whole.{core, walk_count}
 use Rattle.luo_rules.proofs.CoreIsProgram.{core_is_program}
+use Rattle.luo_answer.specs.Step.{◌and_then◌}
+use Rattle.luo_answer.specs.Told.{Told}
 use Rattle.luo_top.specs.Commands.Sample.{text_program}
-use Rattle.luo_top.specs.Step.{◌and_then◌}
 use Rattle.luo_top.specs.Steps.{core_of, file_program}
-use Rattle.luo_top.specs.Told.{Told}
 
 core_is : (text : List ℕ) (ts : List Token) (s : Source) (p : Program) → Tokens text ts → Derives text ts s → (core_of text ts s).hands p → IsProgram p
 core_is text ts s p scanned derived (none, c) =

@@ -27,8 +27,8 @@ use Rattle.luo_meaning.proofs.Named.{procedure_named, named_procedure}
 use Rattle.luo_meaning.proofs.ProceduresKept.{procedure_number}
 use Rattle.luo_meaning.proofs.RowsKept.{row_kept}
 use Rattle.luo_meaning.proofs.TablesKept.{heading_kept}
+use Rattle.luo_answer.specs.Report.{AreRowsFrom, AreTables, IsReport}
 use Rattle.luo_top.specs.AsWritten.Report.{equation_lines, heading_of, AreSections, IsReportOf}
-use Rattle.luo_top.specs.Report.{AreRowsFrom, AreTables, IsReport}
 
 module _ (source : Source) (c : Clean source) (none : measures_breaches (names_of source) 0 (measures source) ≡ []) (is : IsProgram (core source)) where
   -- the heading of procedure f

@@ -22,10 +22,10 @@ use Rattle.luo_meaning.specs.Defined.{DefinesProcedure}
 use Rattle.luo_meaning.proofs.Named.{named_procedure}
 use Rattle.luo_meaning.proofs.ProceduresMade.{maker_kept}
 use Rattle.luo_meaning.proofs.RowsKept.{clean_source, measures_none, procedure_kept, structure_same}
+use Rattle.luo_answer.specs.Commands.Run.{IsProcedureNamed, node_on, parameter_node, procedure_of, structure_of, charge_of, IsTail, HasTail, run_text, run_on}
+use Rattle.luo_answer.specs.Step.{◌and_then◌}
+use Rattle.luo_answer.proofs.SameSteps.{Match, same_makes, same_both}
 use Rattle.luo_top.specs.AsWritten.Run.{defined_procedure, IsNamedOf, ReadsOf, IsNoStructure, named_structure, procedure_charge, IsTailOf, run_text_of, run_by}
-use Rattle.luo_top.specs.Commands.Run.{IsProcedureNamed, node_on, parameter_node, procedure_of, structure_of, charge_of, IsTail, HasTail, run_text, run_on}
-use Rattle.luo_top.specs.Step.{◌and_then◌}
-use Rattle.luo_top.proofs.SameSteps.{Match, same_makes, same_both}
 
 module _ (source : Source) (is : IsSource source) (unbroken : breaches source ≡ []) (program : IsProgram (core source)) where
   c : Clean source

@@ -1,5 +1,5 @@
 -- A sample within its limits is taken: no step to its program, nor its being founded, is refused, and then only a number that is too large.
-use Rattle.std.proofs.Common.{◌≡◌, ◌<◌, ◌≤◌, ◌^◌, ℕ, List, [], ◌∷◌, refl, sym, ◌∙◌, subst, inl, inr, arith, Option, Some}
+use Rattle.std.proofs.Common.{◌≡◌, ◌<◌, ◌≤◌, ◌^◌, ℕ, List, [], ◌∷◌, length, refl, sym, ◌∙◌, subst, inl, inr, arith, Option, Some}
 use Rattle.luo_num.specs.declared.limits.TheConstants.{SIZE_LIMIT, SAMPLE_LIMIT}
 use Rattle.luo_model.specs.Founded.{IsFounded}
 use Rattle.luo_scan.specs.declared.token.Token.{Token}
@@ -12,25 +12,27 @@ use Rattle.luo_rules.specs.Whole.{core}
 use Rattle.luo_sample.specs.Laws.{IsGood}
 use Rattle.luo_sample.specs.Number.{Sample}
 use Rattle.luo_sample.proofs.Good.{each_is_good}
-use Rattle.luo_top.specs.Answer.{Answer}
+use Rattle.luo_model.specs.Program.{Program}
+use Rattle.std.specs.Prelude.{Result}
+use Rattle.luo_founded.proofs.OneAnswer.{founded_keeps}
+use Rattle.luo_answer.specs.Answer.{Answer}
+use Rattle.luo_answer.specs.Commands.Sample.{sample_of}
+use Rattle.luo_answer.specs.Told.{Told}
+use Rattle.luo_answer.specs.Words as words'
+use Rattle.luo_answer.specs.Words.{Command, command_of, LimitOfSample, WordsRefusal}
+use Rattle.luo_answer.specs.inner.Passes.{Passes, itself}
+use Rattle.luo_answer.specs.declared.refusal.Refusal.{Refusal}
+use Rattle.luo_answer.specs.Step.{HasNone, ◌and_then◌}
+use Rattle.luo_answer.specs.Steps.{founded}
 use Rattle.luo_top.specs.AsWritten.Outcome.{OutcomeAsWritten}
 use Rattle.luo_top.specs.Commands.Sample.{sampled, sample, text_program}
 use Rattle.luo_top.specs.Laws.{IsTaken}
 use Rattle.luo_top.specs.Outcome.{Outcome, steps_of}
-use Rattle.luo_top.specs.Told.{Told}
-use Rattle.luo_top.specs.Words as words'
-use Rattle.luo_top.specs.Words.{Command, command_of, LimitOfSample, WordsRefusal}
-use Rattle.luo_top.specs.inner.Passes.{Passes}
-use Rattle.luo_top.specs.declared.refusal.Refusal.{Refusal}
-use Rattle.luo_model.specs.Program.{Program}
-use Rattle.std.specs.Prelude.{Result}
 use Rattle.luo_top.specs.Refusals.{SyntaxRefusal}
-use Rattle.luo_top.specs.Step.{HasNone, ◌and_then◌}
-use Rattle.luo_top.specs.Steps.{CoreRefusal, founded}
+use Rattle.luo_top.specs.Steps.{CoreRefusal}
 use Rattle.luo_top.proofs.NoRefusal.{no_fault}
 use Rattle.luo_top.proofs.OneOutcome.{text_program-sole}
 use Rattle.luo_top.proofs.OutcomeKept.{outcome_kept}
-use Rattle.luo_founded.proofs.OneAnswer.{founded_keeps}
 
 head : {A : Type 0} (x : A) (xs : List A) → [] ≡ x ∷ xs → ⊥
 head x xs e = cc
@@ -89,3 +91,8 @@ samples_taken told words number n e l m a h = outcome_taken told words number n 
 -- the steps to the program of a text, where it is that of a sample
 pub of_text : {Z : Type 0} {view : Z → Program} {r : Result Z Refusal} (number : ℕ) {text : List ℕ} → text ≡ Sample number → Passes view (text_program text) r → Passes view (sampled number) r
 of_text {view = view} {r = r} number e h = subst (λ t. Passes view (text_program t) r) e h
+
+-- and the steps from it on, with the length of that text
+pub of_length : {r : Result (List ℕ) Refusal} (number bytes n : ℕ) (p : Program) → bytes ≡ length (Sample number) → Passes itself (sample_of number bytes n p) r
+    → Passes itself (sample_of number (length (Sample number)) n p) r
+of_length {r = r} number bytes n p e h = subst (λ k. Passes itself (sample_of number k n p) r) e h

@@ -22,9 +22,9 @@ use Rattle.luo_meaning.proofs.Named.{procedure_named, named_procedure}
 use Rattle.luo_meaning.proofs.ProceduresKept.{procedure_number}
 use Rattle.luo_meaning.proofs.RowsKept.{row_kept}
 use Rattle.luo_sample.specs.Number.{Sample}
+use Rattle.luo_answer.specs.Commands.Sample.{AreRowsAt, row_lines, head_text, IsSummary}
+use Rattle.luo_answer.specs.Names.{name_of_procedure, procedure_name}
 use Rattle.luo_top.specs.AsWritten.Sample.{AreLinesOf, IsSummaryOf}
-use Rattle.luo_top.specs.Commands.Sample.{AreRowsAt, row_lines, head_text, IsSummary}
-use Rattle.luo_top.specs.Names.{name_of_procedure, procedure_name}
 
 module _ (source : Source) (c : Clean source) (none : measures_breaches (names_of source) 0 (measures source) ≡ []) (is : IsProgram (core source)) (n : ℕ) where
   -- the name of procedure f
@@ -89,7 +89,7 @@ module _ (source : Source) (c : Clean source) (none : measures_breaches (names_o
             h.7 ∙ (ap (λ x. x ++ codes " " ++ row_text h.1 ++ h.2) (sym (name_same f h.0 there)) ∙ ap (λ x. procedure_name (core source) f ++ codes " " ++ row_text h.1 ++ x) r.2),
           )
 
-  pub summary_kept : (number : ℕ) (bytes : List ℕ) → IsSummary number (core source) n bytes ↔ IsSummaryOf number source n bytes
+  pub summary_kept : (number : ℕ) (bytes : List ℕ) → IsSummary number (length (Sample number)) (core source) n bytes ↔ IsSummaryOf number source n bytes
   summary_kept number bytes = (
     λ h.
         let text = row_lines (core source) (core source).analyses h.0 in

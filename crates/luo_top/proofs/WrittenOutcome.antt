@@ -1,11 +1,11 @@
 -- What holds of every outcome by the core form of a source holds of that by the source as it is written.
 use Rattle.std.proofs.Common.{ℕ, List}
 use Rattle.luo_finite.specs.Steps.{IsSingle}
-use Rattle.luo_top.specs.Answer.{Untold}
+use Rattle.luo_answer.specs.Answer.{Untold}
+use Rattle.luo_answer.specs.Step.{HasNone}
+use Rattle.luo_answer.specs.Told.{Told}
 use Rattle.luo_top.specs.AsWritten.Outcome.{OutcomeAsWritten}
 use Rattle.luo_top.specs.Laws.{FilesAreTold}
-use Rattle.luo_top.specs.Step.{HasNone}
-use Rattle.luo_top.specs.Told.{Told}
 use Rattle.luo_top.proofs.OneOutcome.{outcome_single}
 use Rattle.luo_top.proofs.OutcomeComes.{outcome_comes}
 use Rattle.luo_top.proofs.OutcomeKept.{outcome_kept}

@@ -4,14 +4,14 @@ use Rattle.std.specs.Io.KnownBytes.{Appends}
 use Rattle.luo_finite.specs.Listing.{In}
 use Rattle.luo_outside.specs.Bytes.{TookFront}
 use Rattle.luo_outside.specs.Causes.{Rose}
-use Rattle.luo_top.specs.declared.status.Status.{Status}
-use Rattle.luo_top.specs.declared.status.Status.TheVariants.{Done, Usage, Refused, Limit, Overflow, ReadFault, WriteFault, NoMemory}
-use Rattle.luo_top.specs.Answer.{Answer, Output, Refusal, Untold}
+use Rattle.luo_answer.specs.declared.status.Status.{Status}
+use Rattle.luo_answer.specs.declared.status.Status.TheVariants.{Done, Usage, Refused, Limit, Overflow, ReadFault, WriteFault, NoMemory}
+use Rattle.luo_answer.specs.Answer.{Answer, Output, Refusal, Untold}
+use Rattle.luo_answer.specs.Lines.{line}
+use Rattle.luo_answer.specs.Step.{HasNone}
+use Rattle.luo_answer.specs.Told.{Told, without}
+use Rattle.luo_answer.specs.Words.{Command, command_of, files_of, HasNoForm, WordsRefusal}
 use Rattle.luo_top.specs.AsWritten.Outcome.{OutcomeAsWritten}
-use Rattle.luo_top.specs.Refusals.{line}
-use Rattle.luo_top.specs.Step.{HasNone}
-use Rattle.luo_top.specs.Told.{Told, without}
-use Rattle.luo_top.specs.Words.{Command, command_of, files_of, HasNoForm, WordsRefusal}
 
 -- what a run has to do with a sink, before it and now
 pub record Sinking (S : Type 0) : Type 0 where

@@ -1,18 +1,16 @@
 -- What holds of every outcome.
 use Rattle.std.specs.Prelude.{◌≡◌, ◌⊎◌, ◌↔◌, ◌≤◌, ℕ, List, [], ◌∷◌, codes, None, Some}
-use Rattle.std.specs.List.{AllByRecursion}
 use Rattle.luo_finite.specs.Listing.{In}
 use Rattle.luo_finite.specs.Steps.{IsSingle}
 use Rattle.luo_num.specs.declared.limits.TheConstants.{SIZE_LIMIT, SAMPLE_LIMIT}
-use Rattle.luo_scan.specs.Bytes.{IsDigit}
-use Rattle.luo_scan.specs.Spellings.{value_after}
-use Rattle.luo_top.specs.declared.status.Status.TheVariants.{Overflow}
-use Rattle.luo_top.specs.Answer.{Answer, Output, Refusal, Untold}
+use Rattle.luo_answer.specs.declared.status.Status.TheVariants.{Overflow}
+use Rattle.luo_answer.specs.Answer.{Answer, Output, Refusal, Untold}
+use Rattle.luo_answer.specs.NumberWords.{IsNumberWord}
+use Rattle.luo_answer.specs.Step.{HasNone}
+use Rattle.luo_answer.specs.Told.{Told}
+use Rattle.luo_answer.specs.Words.{Command, Analyse, Format, Run, Sample, command_of, files_of, number_of, Listing, Audit}
 use Rattle.luo_top.specs.AsWritten.Outcome.{OutcomeAsWritten}
 use Rattle.luo_top.specs.Outcome.{Outcome}
-use Rattle.luo_top.specs.Step.{HasNone}
-use Rattle.luo_top.specs.Told.{Told}
-use Rattle.luo_top.specs.Words.{Command, Analyse, Format, Run, Sample, command_of, files_of, number_of, Listing, Audit}
 
 -- at most one answer is the outcome
 abbrev pub OutcomeIsOne : Type 0
@@ -39,12 +37,6 @@ abbrev pub OutcomeIsAsWritten : Type 0
 OutcomeIsAsWritten =
     (told : Told) (words : List (List ℕ)) (answer : Answer)
     → Outcome told words answer ↔ OutcomeAsWritten told words answer
-
--- `0`, or a digit from 1 to 9 followed by digits, and the number that they give
-abbrev pub IsNumberWord : List ℕ → ℕ → Type 0
-IsNumberWord [] n = ⊥
-IsNumberWord (d ∷ ds) n =
-    AllByRecursion IsDigit (d ∷ ds) × (d ≡ 48 → ds ≡ []) × (n ≡ value_after 0 (d ∷ ds))
 
 -- these and no others are the number words
 abbrev pub NumbersAreSpelled : Type 0

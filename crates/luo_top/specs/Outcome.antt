@@ -1,15 +1,15 @@
 -- The one answer to these words over what the source tells, where nothing outside fails.
 use Rattle.std.specs.Prelude.{ℕ, List}
-use Rattle.luo_top.specs.Answer.{Answer}
+use Rattle.luo_answer.specs.Answer.{Answer}
+use Rattle.luo_answer.specs.Step.{Step, ◌and_then◌, ends}
+use Rattle.luo_answer.specs.Told.{Told}
+use Rattle.luo_answer.specs.Words.{Command, Analyse, Format, Run, Sample, asked_by, Listing, Audit}
 use Rattle.luo_top.specs.Commands.Analyse.{analyse}
 use Rattle.luo_top.specs.Commands.Audit.{audit}
 use Rattle.luo_top.specs.Commands.Format.{format}
 use Rattle.luo_top.specs.Commands.List.{list}
 use Rattle.luo_top.specs.Commands.Run.{run}
 use Rattle.luo_top.specs.Commands.Sample.{sample}
-use Rattle.luo_top.specs.Step.{Step, ◌and_then◌, ends}
-use Rattle.luo_top.specs.Told.{Told}
-use Rattle.luo_top.specs.Words.{Command, Analyse, Format, Run, Sample, asked_by, Listing, Audit}
 
 -- the steps of a command
 abbrev pub steps_of : Command → Told → Step (List ℕ)

@@ -1,6 +1,1 @@
-pub mod Audited
-pub mod Filled
-pub mod Found
-pub mod Listed
-pub mod Passes
-pub mod Requests
+pub mod Answered

@@ -1,11 +1,10 @@
 // The answer to the words.
-ghost use Rattle.luo_top.specs.inner.Passes.{seen};
-ghost use Rattle.luo_top.specs.inner.Requests.{IsAnswer};
-ghost use Rattle.luo_top.specs.Words.{texts};
+ghost use Rattle.luo_answer.specs.inner.Passes.{seen};
+ghost use Rattle.luo_answer.specs.Words.{texts};
+ghost use Rattle.luo_top.specs.inner.Answered.{IsAnswer};
 
 use crate::commands;
-use crate::refusal::Refusal;
-use crate::words::{Request, asked};
+use luo_answer::{Refusal, Request, asked};
 use luo_num::Text;
 use luo_outside::{Files, Gate};
 use std::alloc::Global;

@@ -1,16 +1,17 @@
-// The lines of refusals, and the refusals of a text.
+// The refusals of a text, and their lines.
 ghost use Rattle.std.specs.Prelude.{◌≡◌, ◌++◌, flat_map, IfOk, OnOk};
 ghost use Rattle.luo_scan.specs.Faults.{IsFault};
 ghost use Rattle.luo_scan.specs.Lexemes.{lexemes};
 ghost use Rattle.luo_syntax.specs.Viable.{Explains};
 ghost use Rattle.luo_source.specs.declared.source.Source.{Source};
 ghost use Rattle.luo_rules.specs.Checks.{IsUnchecked};
-ghost use Rattle.luo_top.specs.Refusals.{line, at_byte, at_token, byte_of_token, limit_line, rule_text, spaced, rule_line, LexicalRefusal, SyntaxRefusal};
+ghost use Rattle.luo_answer.specs.Lines.{line};
+ghost use Rattle.luo_answer.specs.inner.Passes.{RefusedBy};
+ghost use Rattle.luo_top.specs.Refusals.{at_token, byte_of_token, limit_line, rule_text, spaced, rule_line, LexicalRefusal, SyntaxRefusal};
 ghost use Rattle.luo_top.specs.Steps.{CoreRefusal};
-ghost use Rattle.luo_top.specs.inner.Passes.{RefusedBy};
 
-use crate::refusal::{Line, Refusal};
 use itoa::Buffer;
+use luo_answer::{Line, Refusal, line_at};
 use luo_num::limits::{
     ANALYSIS_LIMIT_LINE, BOUND_LIMIT_LINE, DEFINITION_LIMIT_LINE, DEPTH_LIMIT_HEAD,
     MULTISET_LIMIT_LINE, NAME_LIMIT_HEAD, NODE_LIMIT_LINE, NUMBER_LIMIT_HEAD, PART_LIMIT_LINE,
@@ -21,20 +22,6 @@ use luo_scan::{ScanError, Token};
 use luo_syntax::SyntaxError;
 use luo_types::{CheckError, CountLimit, Rule};
 use std::alloc::Global;
-
-pub const USAGE_LINE: &[u8] = b"usage\n";
-
-/// `HEAD at byte BYTE`, as a line.
-pub fn line_at(alloc: Global, head: &[u8], byte: usize) -> Result<Vec<u8>, NoMemory>
-    ensures { IfOk result (λ text. text.items ≡ line (head.now ++ at_byte byte)) }
-{
-    let mut buffer = Buffer::new();
-    let mut text = Vec::from_slice(alloc, head)?;
-    text.extend_from_slice(b" at byte ")?;
-    text.extend_from_slice(buffer.format(byte).as_bytes())?;
-    text.push(b'\n')?;
-    Ok(text)
-}
 
 // `HEAD at token TOKEN, byte BYTE`, as a line.
 fn line_at_token(alloc: Global, head: &[u8], token: usize, byte: usize) -> Result<Vec<u8>, NoMemory>

@@ -1,21 +1,7 @@
 // The steps that commands share. Each answers the next thing, or a refusal.
-mod auditing;
-mod filling;
-mod founding;
-mod listing;
 mod program;
-mod reporting;
-mod size;
 mod source;
-mod structure;
 mod text;
 
-pub use auditing::few;
-pub use filling::tables;
-pub use founding::founded;
-pub use listing::{counted, type_of};
 pub use program::{core_of, file_program};
-pub use reporting::reported;
-pub use size::{list_sized, sized, workers_of};
 pub use source::{file_source, source_of, tokens_of};
-pub use structure::{procedure_of, structure_of};

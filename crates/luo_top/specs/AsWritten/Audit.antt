@@ -9,14 +9,14 @@ use Rattle.luo_source.specs.declared.types.TypeExpr.{Named}
 use Rattle.luo_meaning.specs.Charges.{ProcCharges}
 use Rattle.luo_meaning.specs.Defined.{DefinesProcedure}
 use Rattle.luo_meaning.specs.Rows.{IsCountOf, IsTotalOf}
-use Rattle.luo_top.specs.declared.status.Status.TheVariants.{Limit, Overflow}
-use Rattle.luo_top.specs.Answer.{Answer, Refusal}
+use Rattle.luo_answer.specs.declared.status.Status.TheVariants.{Limit, Overflow}
+use Rattle.luo_answer.specs.Answer.{Answer, Refusal}
+use Rattle.luo_answer.specs.Overflows.{IsEarlier, audit_line}
+use Rattle.luo_answer.specs.Step.{Step, ◌or_makes◌, ◌and_then◌, refused_where}
+use Rattle.luo_answer.specs.Steps.{list_sized, workers_of}
+use Rattle.luo_answer.specs.Told.{Told}
+use Rattle.luo_answer.specs.WordRefusals.{structures_line}
 use Rattle.luo_top.specs.AsWritten.Steps.{sound_source, founded_source, counts, report_of}
-use Rattle.luo_top.specs.Overflows.{IsEarlier, audit_line}
-use Rattle.luo_top.specs.Step.{Step, ◌or_makes◌, ◌and_then◌, refused_where}
-use Rattle.luo_top.specs.Steps.{list_sized, workers_of}
-use Rattle.luo_top.specs.Told.{Told}
-use Rattle.luo_top.specs.WordRefusals.{structures_line}
 
 -- d is the procedure of analyze line k
 abbrev pub IsAnalyzed : Source → ℕ → ProcDef → Type 0

@@ -8,13 +8,13 @@ use Rattle.luo_source.specs.declared.source.Source.{Source}
 use Rattle.luo_source.specs.declared.types.TypeDef.{TypeDef}
 use Rattle.luo_source.specs.declared.types.TypeExpr.{Named}
 use Rattle.luo_meaning.specs.Rows.{IsStructureOf}
-use Rattle.luo_top.specs.declared.status.Status.TheVariants.{Refused}
+use Rattle.luo_answer.specs.declared.status.Status.TheVariants.{Refused}
+use Rattle.luo_answer.specs.Commands.List.{counted, lines_from}
+use Rattle.luo_answer.specs.Step.{Step, ◌or_makes◌, ◌and_then◌, RefusedWhere, makes}
+use Rattle.luo_answer.specs.Steps.{list_sized}
+use Rattle.luo_answer.specs.Told.{Told}
+use Rattle.luo_answer.specs.WordRefusals.{unknown_line}
 use Rattle.luo_top.specs.AsWritten.Steps.{sound_source, founded_source, counts}
-use Rattle.luo_top.specs.Commands.List.{counted, lines_from}
-use Rattle.luo_top.specs.Step.{Step, ◌or_makes◌, ◌and_then◌, RefusedWhere, makes}
-use Rattle.luo_top.specs.Steps.{list_sized}
-use Rattle.luo_top.specs.Told.{Told}
-use Rattle.luo_top.specs.WordRefusals.{unknown_line}
 
 -- `type .., name, .. = ..;` stands in the source, and the name has this text
 abbrev pub IsTypeName : Source → List ℕ → Name → Type 0

@@ -1,16 +1,16 @@
 -- The one answer to these words over what the source tells, by what programs mean as they are
 -- written.
 use Rattle.std.specs.Prelude.{ℕ, List}
-use Rattle.luo_top.specs.Answer.{Answer}
+use Rattle.luo_answer.specs.Answer.{Answer}
+use Rattle.luo_answer.specs.Step.{Step, ◌and_then◌, ends}
+use Rattle.luo_answer.specs.Told.{Told}
+use Rattle.luo_answer.specs.Words.{Command, Analyse, Format, Run, Sample, asked_by, Listing, Audit}
 use Rattle.luo_top.specs.AsWritten.Audit.{audit_source}
 use Rattle.luo_top.specs.AsWritten.List.{list_source}
 use Rattle.luo_top.specs.AsWritten.Run.{run_source}
 use Rattle.luo_top.specs.AsWritten.Sample.{sample_source}
 use Rattle.luo_top.specs.AsWritten.Steps.{analyse_source}
 use Rattle.luo_top.specs.Commands.Format.{format}
-use Rattle.luo_top.specs.Step.{Step, ◌and_then◌, ends}
-use Rattle.luo_top.specs.Told.{Told}
-use Rattle.luo_top.specs.Words.{Command, Analyse, Format, Run, Sample, asked_by, Listing, Audit}
 
 -- the steps of a command
 abbrev pub steps_as_written : Command → Told → Step (List ℕ)

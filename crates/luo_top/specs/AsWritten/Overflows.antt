@@ -4,9 +4,9 @@ use Rattle.luo_model.specs.declared.table.Entry.{Entry}
 use Rattle.luo_model.specs.declared.table.Fill.{Fill}
 use Rattle.luo_source.specs.declared.source.Source.{Source}
 use Rattle.luo_meaning.specs.Entries.{IsEntryText, IsFirstOver}
-use Rattle.luo_top.specs.declared.status.Status.TheVariants.{Overflow}
-use Rattle.luo_top.specs.Answer.{Answer, Refusal}
-use Rattle.luo_top.specs.Refusals.{line}
+use Rattle.luo_answer.specs.declared.status.Status.TheVariants.{Overflow}
+use Rattle.luo_answer.specs.Answer.{Answer, Refusal}
+use Rattle.luo_answer.specs.Lines.{line}
 
 -- of the counts and totals up to a last size, the first past the last number is named: `overflow:
 -- count of t.0 at size 30`

@@ -9,7 +9,7 @@ use Rattle.luo_rules.specs.Whole.{core}
 use Rattle.luo_system.specs.System.{system}
 use Rattle.luo_meaning.specs.Defined.{DefinesProcedure}
 use Rattle.luo_meaning.specs.Rows.{AreRowsOf}
-use Rattle.luo_top.specs.Report.{EquationsAreTrue}
+use Rattle.luo_answer.specs.Report.{EquationsAreTrue}
 
 -- the lines of the equations, which are those of the core form
 abbrev pub equation_lines : Source → List ℕ

@@ -19,13 +19,13 @@ use Rattle.luo_meaning.specs.Charges.{ProcCharges}
 use Rattle.luo_meaning.specs.Defined.{DefinesProcedure}
 use Rattle.luo_meaning.specs.Made.{ProcMakes}
 use Rattle.luo_meaning.specs.Rows.{IsStructureOf}
-use Rattle.luo_top.specs.declared.status.Status.TheVariants.{Refused, Overflow}
-use Rattle.luo_top.specs.Answer.{Refusal}
+use Rattle.luo_answer.specs.declared.status.Status.TheVariants.{Refused, Overflow}
+use Rattle.luo_answer.specs.Answer.{Refusal}
+use Rattle.luo_answer.specs.Lines.{line}
+use Rattle.luo_answer.specs.WordRefusals.{unknown_line, refusal_of_structure, charge_line}
+use Rattle.luo_answer.specs.Step.{Step, ◌or_makes◌, ◌and_then◌, RefusedWhere, makes}
+use Rattle.luo_answer.specs.Told.{Told}
 use Rattle.luo_top.specs.AsWritten.Steps.{sound_source, founded_source}
-use Rattle.luo_top.specs.Refusals.{line}
-use Rattle.luo_top.specs.WordRefusals.{unknown_line, refusal_of_structure, charge_line}
-use Rattle.luo_top.specs.Step.{Step, ◌or_makes◌, ◌and_then◌, RefusedWhere, makes}
-use Rattle.luo_top.specs.Told.{Told}
 
 -- a word that names no procedure, and else the procedure of this name
 abbrev pub defined_procedure : Source → List ℕ → Step ProcDef

@@ -8,9 +8,9 @@ use Rattle.luo_meaning.specs.Defined.{DefinesProcedure}
 use Rattle.luo_meaning.specs.Rows.{IsRowOf}
 use Rattle.luo_report.specs.Report.{row_text}
 use Rattle.luo_sample.specs.Number.{Sample}
+use Rattle.luo_answer.specs.Commands.Sample.{head_text}
+use Rattle.luo_answer.specs.Step.{Step, ◌and_then◌, makes}
 use Rattle.luo_top.specs.AsWritten.Steps.{sound, founded_source, numbers}
-use Rattle.luo_top.specs.Commands.Sample.{head_text}
-use Rattle.luo_top.specs.Step.{Step, ◌and_then◌, makes}
 use Rattle.luo_top.specs.Steps.{tokens_of, source_of}
 
 -- the source of a text, where it passes no limit and breaks no rule

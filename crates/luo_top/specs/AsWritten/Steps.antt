@@ -13,14 +13,15 @@ use Rattle.luo_rules.specs.Whole.{core}
 use Rattle.luo_meaning.specs.Broken.{IsFirstBrokenIn, BreaksNothingIn}
 use Rattle.luo_meaning.specs.Over.{HasCount, HasOver}
 use Rattle.luo_meaning.specs.Walks.{ProcsWalk}
-use Rattle.luo_top.specs.declared.status.Status.TheVariants.{Refused, Limit}
-use Rattle.luo_top.specs.Answer.{Answer, Refusal}
+use Rattle.luo_answer.specs.declared.status.Status.TheVariants.{Refused, Limit}
+use Rattle.luo_answer.specs.Answer.{Answer, Refusal}
+use Rattle.luo_answer.specs.Step.{Step, ◌or_makes◌, ◌and_then◌, makes}
+use Rattle.luo_answer.specs.Steps.{founded, sized}
+use Rattle.luo_answer.specs.Told.{Told}
 use Rattle.luo_top.specs.AsWritten.Overflows.{OverflowRefusalOf}
 use Rattle.luo_top.specs.AsWritten.Report.{IsReportOf}
 use Rattle.luo_top.specs.Refusals.{LimitRefusal, byte_of_token, limit_line, rule_line}
-use Rattle.luo_top.specs.Step.{Step, ◌or_makes◌, ◌and_then◌, makes}
-use Rattle.luo_top.specs.Steps.{text_of, tokens_of, source_of, founded, sized}
-use Rattle.luo_top.specs.Told.{Told}
+use Rattle.luo_top.specs.Steps.{text_of, tokens_of, source_of}
 
 -- the first breach of a rule is named, with the first byte of its token
 abbrev pub RuleRefusalOf : List ℕ → List Token → Source → Answer → Type 0

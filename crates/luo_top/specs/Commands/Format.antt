@@ -1,9 +1,9 @@
 -- `format FILE`
 use Rattle.std.specs.Prelude.{◌≡◌, ℕ, List}
 use Rattle.luo_print.specs.Canonical.{canonical}
-use Rattle.luo_top.specs.Step.{Step, ◌and_then◌, makes}
+use Rattle.luo_answer.specs.Step.{Step, ◌and_then◌, makes}
+use Rattle.luo_answer.specs.Told.{Told}
 use Rattle.luo_top.specs.Steps.{file_source}
-use Rattle.luo_top.specs.Told.{Told}
 
 -- the canonical text of the source
 abbrev pub format : List ℕ → Told → Step (List ℕ)

@@ -1,10 +1,10 @@
 // `format FILE`
 ghost use Rattle.std.specs.Prelude.{[], ◌∷◌};
+ghost use Rattle.luo_answer.specs.inner.Passes.{PassesOver, seen, itself};
 ghost use Rattle.luo_top.specs.Commands.Format as steps;
-ghost use Rattle.luo_top.specs.inner.Passes.{PassesOver, seen, itself};
 
-use crate::refusal::Refusal;
 use crate::steps::file_source;
+use luo_answer::Refusal;
 use luo_num::{Items, Text};
 use luo_outside::Files;
 use luo_print::print_source;

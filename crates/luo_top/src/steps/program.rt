@@ -3,13 +3,13 @@ ghost use Rattle.std.specs.Prelude.{[], ◌∷◌};
 ghost use Rattle.luo_model.specs.View.{plain_of};
 ghost use Rattle.luo_scan.specs.Tokens.{Tokens};
 ghost use Rattle.luo_source.specs.Grammar.{Derives};
+ghost use Rattle.luo_answer.specs.inner.Passes.{Passes, PassesOver, seen};
 ghost use Rattle.luo_top.specs.Steps as steps;
-ghost use Rattle.luo_top.specs.inner.Passes.{Passes, PassesOver, seen};
 
 use crate::lines::check_refusal;
-use crate::refusal::Refusal;
 use crate::steps::source::{source_of, tokens_of};
 use crate::steps::text::text_of;
+use luo_answer::Refusal;
 use luo_model::Program;
 use luo_num::{Items, Text};
 use luo_outside::Files;

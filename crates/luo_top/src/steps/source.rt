@@ -2,12 +2,12 @@
 ghost use Rattle.std.specs.Prelude.{◌≤◌, [], ◌∷◌, length};
 ghost use Rattle.luo_num.specs.declared.limits.TheConstants.{TEXT_LIMIT};
 ghost use Rattle.luo_scan.specs.Tokens.{Tokens};
+ghost use Rattle.luo_answer.specs.inner.Passes.{Passes, PassesOver, seen, itself};
 ghost use Rattle.luo_top.specs.Steps as steps;
-ghost use Rattle.luo_top.specs.inner.Passes.{Passes, PassesOver, seen, itself};
 
 use crate::lines::{fault_refusal, syntax_refusal};
-use crate::refusal::Refusal;
 use crate::steps::text::text_of;
+use luo_answer::Refusal;
 use luo_num::{Items, Text};
 use luo_outside::Files;
 use luo_scan::{Token, scan};

@@ -1,10 +1,10 @@
 // From a file to its text.
 ghost use Rattle.std.specs.Prelude.{◌≤◌, [], ◌∷◌, length, IfOk};
 ghost use Rattle.luo_num.specs.declared.limits.TheConstants.{TEXT_LIMIT};
+ghost use Rattle.luo_answer.specs.inner.Passes.{PassesOver, seen, itself};
 ghost use Rattle.luo_top.specs.Steps as steps;
-ghost use Rattle.luo_top.specs.inner.Passes.{PassesOver, seen, itself};
 
-use crate::refusal::{Line, Refusal};
+use luo_answer::{Line, Refusal};
 use luo_num::limits::TEXT_LIMIT_LINE;
 use luo_num::{Items, Text};
 use luo_outside::{Files, ReadError, read_all};

@@ -1,6 +1,6 @@
-use Rattle.luo_top.specs.Words.{Analyse, Format, Run, Sample, Listing, Audit}
-use Rattle.luo_top.proofs.CommandWords.{command_spelled, spelled_command}
-use Rattle.luo_top.proofs.NumberWords.{number_word, word_number}
+use Rattle.luo_answer.specs.Words.{Analyse, Format, Run, Sample, Listing, Audit}
+use Rattle.luo_answer.proofs.CommandWords.{command_spelled, spelled_command}
+use Rattle.luo_answer.proofs.NumberWords.{number_word, word_number}
 use Rattle.luo_top.proofs.laws.commands_are_spelled.Goals as goal
 
 pub returns-clause-analyse : goal.returns-clause-analyse

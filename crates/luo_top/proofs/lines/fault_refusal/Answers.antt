@@ -2,9 +2,9 @@ use Rattle.std.proofs.Common.{◌∙◌, ◌++◌, ap, subst}
 use Rattle.luo_num.proofs.LimitLines.{heads-say_limits}
 use Rattle.luo_scan.specs.Faults.{IsFault}
 use Rattle.luo_scan.specs.Tokens.{long_name, large_number}
-use Rattle.luo_top.specs.declared.status.Status.TheVariants.{Limit}
-use Rattle.luo_top.specs.Answer.{Refusal}
-use Rattle.luo_top.specs.Refusals.{line, at_byte}
+use Rattle.luo_answer.specs.declared.status.Status.TheVariants.{Limit}
+use Rattle.luo_answer.specs.Answer.{Refusal}
+use Rattle.luo_answer.specs.Lines.{line, at_byte}
 use Rattle.luo_top.proofs.lines.fault_refusal.Goals as goal
 
 pub returns-in-Ok-line_at : goal.returns-in-Ok-line_at

@@ -4,9 +4,10 @@ use Rattle.luo_num.proofs.LimitLines.{heads-say_limits}
 use Rattle.luo_scan.specs.Lexemes.{lexemes}
 use Rattle.luo_syntax.specs.declared.error.SyntaxError.TheVariants.{Depth, NoMemory}
 use Rattle.luo_syntax.specs.Viable.{Explains}
-use Rattle.luo_top.specs.declared.status.Status.TheVariants.{Limit}
-use Rattle.luo_top.specs.Answer.{Refusal}
-use Rattle.luo_top.specs.Refusals.{line, at_token, byte_of_token}
+use Rattle.luo_answer.specs.declared.status.Status.TheVariants.{Limit}
+use Rattle.luo_answer.specs.Answer.{Refusal}
+use Rattle.luo_answer.specs.Lines.{line}
+use Rattle.luo_top.specs.Refusals.{at_token, byte_of_token}
 use Rattle.luo_top.proofs.lines.syntax_refusal.Goals as goal
 
 deep : (k : ℕ) → Depth k ≡ NoMemory → ⊥

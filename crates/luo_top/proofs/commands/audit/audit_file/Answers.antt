@@ -1,4 +1,4 @@
-use Rattle.luo_top.proofs.StepLemmas.{go_over, stop_over}
+use Rattle.luo_answer.proofs.StepLemmas.{go_over, stop_over}
 use Rattle.luo_top.proofs.commands.audit.audit_file.Goals as goal
 
 pub returns-in_err-program : goal.returns-in_err-program

@@ -1,4 +1,4 @@
-use Rattle.luo_top.proofs.StepLemmas.{go, stop}
+use Rattle.luo_answer.proofs.StepLemmas.{go, stop}
 use Rattle.luo_top.proofs.commands.sample.text_program.Goals as goal
 
 pub returns-in_err-tokens : goal.returns-in_err-tokens

@@ -1,4 +1,4 @@
-use Rattle.luo_top.proofs.StepLemmas.{go, stop, go_over, stop_over}
+use Rattle.luo_answer.proofs.StepLemmas.{go, stop, go_over, stop_over}
 use Rattle.luo_top.proofs.steps.source.file_source.Goals as goal
 
 pub returns-in_err-text : goal.returns-in_err-text

@@ -2,10 +2,10 @@ use Rattle.std.proofs.Common.{◌≡◌, ◌<◌, List, ℕ, length, Option, Non
 use Rattle.std.specs.Prelude.{◌⊎◌, IfSome}
 use Rattle.luo_num.specs.declared.limits.TheConstants.{TEXT_LIMIT}
 use Rattle.luo_num.proofs.LimitLines.{lines-say_limits}
-use Rattle.luo_top.specs.declared.status.Status.TheVariants.{Limit}
-use Rattle.luo_top.specs.Answer.{Refusal, Untold}
-use Rattle.luo_top.specs.Refusals.{bytes_line}
-use Rattle.luo_top.specs.Told.{ReadingRefusal}
+use Rattle.luo_answer.specs.declared.status.Status.TheVariants.{Limit}
+use Rattle.luo_answer.specs.Answer.{Refusal, Untold}
+use Rattle.luo_answer.specs.Lines.{bytes_line}
+use Rattle.luo_answer.specs.Told.{ReadingRefusal}
 use Rattle.luo_top.proofs.steps.text.text_of.Goals as goal
 
 -- a content that is too long, where it is told

@@ -1,0 +1,15 @@
+pub mod Answer
+pub mod Commands
+pub mod Exit
+pub mod FoundedRefusals
+pub mod Lines
+pub mod Names
+pub mod NumberWords
+pub mod Overflows
+pub mod Report
+pub mod Step
+pub mod Steps
+pub mod Told
+pub mod WordRefusals
+pub mod Words
+pub mod inner

@@ -1,5 +1,0 @@
-use Rattle.luo_top.specs.inner.Listed.{HasListed}
-use Rattle.luo_top.proofs.commands.list.lines.Given as goal
-
-abbrev pub invariant-loop-i : goal.invariant-loop-i
-invariant-loop-i l = HasListed l.initial.cursor l.start l.i l.cursor l.text.items

@@ -1,6 +1,0 @@
-use Rattle.luo_model.specs.View.{plain_of}
-use Rattle.luo_top.proofs.RowLemmas.{AreRowsTo}
-use Rattle.luo_top.proofs.rows.rows_of.Given as goal
-
-abbrev pub invariant-loop-n : goal.invariant-loop-n
-invariant-loop-n l = AreRowsTo (plain_of l.program) l.f l.n l.rows

@@ -1,6 +1,0 @@
-use Rattle.luo_model.specs.View.{plain_of}
-use Rattle.luo_top.proofs.AuditLemmas.{AreFewTo}
-use Rattle.luo_top.proofs.steps.auditing.is_few.Given as goal
-
-abbrev pub invariant-loop-n : goal.invariant-loop-n
-invariant-loop-n l = AreFewTo (plain_of l.program) l.f l.n

@@ -1,5 +1,0 @@
-use Rattle.luo_top.specs.inner.Filled.{IsFilledTo}
-use Rattle.luo_top.proofs.steps.filling.tables.Given as goal
-
-abbrev pub invariant-loop-i : goal.invariant-loop-i
-invariant-loop-i l = IsFilledTo l.program l.fn.fill l.last l._i l.engine
