@@ -3,7 +3,6 @@ use Rattle.std.proofs.Common.{◌≡◌, ◌<◌, ◌≤◌, ◌+◌, ◌*◌, �
 use Rattle.std.specs.Prelude.{flat_map, map, slice_index_or, Bool, true, nat_eq, if◌then◌else◌}
 use Rattle.std.proofs.lemmas.Bool.{eq-eqb}
 use Rattle.std.specs.Option.{option_map}
-use denote.Hole.Carrier.{hidden}
 use Rattle.luo_model.specs.declared.program.Universe.{Universe}
 use Rattle.luo_model.specs.declared.program.Universe.TheVariants.{Unlabelled, Labelled}
 use Rattle.luo_model.specs.declared.program.Part.{Part}
@@ -13,14 +12,11 @@ use Rattle.luo_model.specs.declared.program.Shape.TheVariants as shape
 use Rattle.luo_model.specs.Invariant.{bare}
 use Rattle.luo_model.specs.Scopes.Stands.{stands, inside, factors, component}
 use Rattle.luo_source.specs.declared.names.Name.{Name}
-use Rattle.luo_source.specs.declared.types.TypeExpr.TheVariants.{Atom}
-use Rattle.luo_source.specs.declared.types.TypeDef.{TypeDef}
+use Rattle.luo_source.specs.Plain.Types.{Atom, TypeDef}
 use Rattle.luo_source.specs.declared.types.MeasureDef.{MeasureDef}
 use Rattle.luo_source.specs.declared.statements.Pattern.TheVariants as pattern
-use Rattle.luo_source.specs.declared.statements.Stmt.{Stmt}
-use Rattle.luo_source.specs.declared.statements.Stmt.TheVariants.{Skip, Call, Block, Case, Forall}
-use Rattle.luo_source.specs.declared.source.ProcDef.{ProcDef}
-use Rattle.luo_source.specs.declared.source.Source.{Source}
+use Rattle.luo_source.specs.Plain.Statements.{Stmt, Skip, Call, Block, Case, Forall, SourceArms}
+use Rattle.luo_source.specs.Plain.Source.{ProcDef, Source}
 use Rattle.luo_rules.specs.declared.names.Meaning.{Meaning}
 use Rattle.luo_rules.specs.declared.names.Meaning.TheVariants as mean
 use Rattle.luo_rules.specs.declared.rule.Breach.{Breach}
@@ -28,24 +24,21 @@ use Rattle.luo_rules.specs.declared.setting.Setting.{Setting}
 use Rattle.luo_rules.specs.declared.setting.Variable.{Variable}
 use Rattle.luo_rules.specs.Breaches.{◌or_if_none◌, broken_at}
 use Rattle.luo_rules.specs.declared.rule.Rule.TheVariants.{Y1, Y9, Y10}
-use Rattle.luo_source.specs.declared.statements.SourceArm.{SourceArm}
 use Rattle.luo_model.specs.Scopes.Stands.{Stand}
-use Rattle.luo_rules.specs.inner.StatementLists.{one_arm_breaches, arm_list_breaches}
-use Rattle.luo_rules.proofs.StatementForms.{case-breaches, block-breaches, walk-breaches}
 use Rattle.luo_rules.specs.Meanings.{meaning, type_use, measure_use, procedure_use}
 use Rattle.luo_rules.specs.Settings.{meant, def_node, node_meant, signature_meant, shape_at, found, argument_breaches, no_signature}
 use Rattle.luo_rules.specs.Settings as settings
-use Rattle.luo_rules.specs.Patterns.{is_node, has_factors, repeated, variables, fits, misfit, case_breaches}
+use Rattle.luo_rules.specs.Patterns.{is_node, has_factors, repeated, variables, bound, fits, misfit, arm_breaches, case_breaches}
 use Rattle.luo_rules.specs.Definitions.{Definition, values, copies, definitions, definition_meant, names_of}
 use Rattle.luo_rules.specs.inner.Naming.{node_of}
 use Rattle.luo_rules.specs.Nodes.{named_node, defs_from, setting_of, signature_of}
 use Rattle.luo_rules.specs.TypeBreaches.{is_meaning, name_breaches, kind_breaches, expr_breaches, type_breaches, types_breaches, measures_breaches}
-use Rattle.luo_rules.specs.StatementBreaches.{stmt_breaches, walk_into, walk_breaches, walked}
+use Rattle.luo_rules.specs.StatementBreaches.{count_arms, stmt_breaches, stmts_breaches, arms_breaches, walk_into, walk_breaches, walked}
 use Rattle.luo_rules.specs.Whole.{breaches, body_breaches, proc_breaches, procs_breaches, parameter}
 use Rattle.luo_rules.proofs.Lists.{index_get}
 use Rattle.luo_sample.specs.declared.choice.Choice.{Choice}
 use Rattle.luo_sample.specs.Text.{type_name, proc_name, kind_chosen}
-use Rattle.luo_sample.proofs.Form.{at, token, IsSource, AllTypes, AreTypes, AreProcs, AreAnalyzed, OneMeasure, atom_def, type_of, type_def_of, unit_def, proc_of, proc_def_of}
+use Rattle.luo_sample.proofs.Form.{at, token, IsSource, AllTypes, AreTypes, AreProcs, AreAnalyzed, OneMeasure, atom_def, type_of, type_form, unit_def, proc_of, proc_form, two_calls, one_walk, arms_form}
 use Rattle.luo_sample.proofs.Lines.{IsSmallChoice}
 use Rattle.luo_sample.proofs.Nodes.{type_node}
 use Rattle.luo_sample.proofs.Facts as facts
@@ -98,26 +91,24 @@ module _ (st : Setting) where
   walk_clean : (scope : List Variable) (var source : Name) (body : Stmt) (v : ℕ × Part) (kind : Kind) (part : Part) (low : ℕ) (high : Option ℕ) → found scope source ≡ Some v → shape_at st v.1.node ≡ shape.Coll kind part low high
       → stmt_breaches st (record { name = var.text; part = part } ∷ []) body ≡ [] → stmt_breaches st scope (Forall var source body) ≡ []
   walk_clean scope var source body v kind part low high f h b =
-      walk-breaches st scope var source body
-      ∙ (ap (λ o. walk_breaches st o source (stmt_breaches st (record { name = var.text; part = walked st o } ∷ []) body)) f
-      ∙ (ap (λ S. walk_into S source (stmt_breaches st (record { name = var.text; part = component S } ∷ []) body)) h ∙ b))
+      ap (λ o. walk_breaches st o source (stmt_breaches st (record { name = var.text; part = walked st o } ∷ []) body)) f
+      ∙ (ap (λ S. walk_into S source (stmt_breaches st (record { name = var.text; part = component S } ∷ []) body)) h ∙ b)
 
-  case_clean : (scope : List Variable) (var : Name) (arms : List SourceArm) (v : ℕ × Part) (all : List Stand) → found scope var ≡ Some v → stands v.1 (shape_at st v.1.node) ≡ all → length arms ≡ length all
-      → arm_list_breaches st all var arms ≡ [] → stmt_breaches st scope (Case var arms) ≡ []
+  case_clean : (scope : List Variable) (var : Name) (arms : SourceArms) (v : ℕ × Part) (all : List Stand) → found scope var ≡ Some v → stands v.1 (shape_at st v.1.node) ≡ all → count_arms arms ≡ length all
+      → arms_breaches st all var arms ≡ [] → stmt_breaches st scope (Case var arms) ≡ []
   case_clean scope var arms v all f e l b =
-      case-breaches st scope var arms
-      ∙ (ap (λ o. case_breaches st o var (length arms) (arm_list_breaches st (settings.case_stands st o) var arms)) f
-      ∙ chosen (nat_eq (length arms) (length (stands v.1 (shape_at st v.1.node)))) (arm_list_breaches st (stands v.1 (shape_at st v.1.node)) var arms) (broken_at Y10 var) (eq-eqb _ _ (l ∙ sym (ap length e)))
-      (ap (λ L. arm_list_breaches st L var arms) e ∙ b))
+      ap (λ o. case_breaches st o var (count_arms arms) (arms_breaches st (settings.case_stands st o) var arms)) f
+      ∙ chosen (nat_eq (count_arms arms) (length (stands v.1 (shape_at st v.1.node)))) (arms_breaches st (stands v.1 (shape_at st v.1.node)) var arms) (broken_at Y10 var) (eq-eqb _ _ (l ∙ sym (ap length e)))
+      (ap (λ L. arms_breaches st L var arms) e ∙ b)
 
   parts_clean : (y : Part) (parts : List Part) (var : Name) (names : List Name) (k : ℕ) (body : Stmt) → shape_at st y.node ≡ shape.Product parts → length parts ≡ length names → repeated [] names ≡ []
-      → stmt_breaches st (variables names parts) body ≡ [] → one_arm_breaches st (inside y) var (record { pattern = pattern.Parts names k; body = body }) ≡ []
+      → stmt_breaches st (variables names parts) body ≡ [] → arm_breaches st (inside y) var (pattern.Parts names k) (stmt_breaches st (bound st (inside y) (pattern.Parts names k)) body) ≡ []
   parts_clean y parts var names k body e l r b =
       let fit : has_factors (length names) (shape_at st y.node) ≡ true = ap (has_factors (length names)) e ∙ eq-eqb (length parts) (length names) l in
       both _ _ (both _ _ (ap (λ z. misfit z (pattern.Parts names k) var) fit) r)
       (chosen (has_factors (length names) (shape_at st y.node)) (stmt_breaches st (variables names (factors (shape_at st y.node))) body) [] fit (ap (λ S. stmt_breaches st (variables names (factors S)) body) e ∙ b))
 
-  skip_clean : (y : Part) (i : ℕ) (var type : Name) → meant st type ≡ Some (mean.Definition i) → settings.type_node st type ≡ Some y.node → one_arm_breaches st (inside y) var (record { pattern = pattern.Named type; body = Skip }) ≡ []
+  skip_clean : (y : Part) (i : ℕ) (var type : Name) → meant st type ≡ Some (mean.Definition i) → settings.type_node st type ≡ Some y.node → arm_breaches st (inside y) var (pattern.Named type) (stmt_breaches st (bound st (inside y) (pattern.Named type)) Skip) ≡ []
   skip_clean y i var type m e =
       let fit : fits st (inside y) (pattern.Named type) ≡ true = ap (λ o. is_node o y.node) e ∙ same_number y.node in
       both _ _ (both _ [] (either _ _ (type_clean (meant st type) i type m) (ap (λ z. misfit z (pattern.Named type) var) fit)) refl) (ap (λ b. if b then [] else []) fit)
@@ -140,8 +131,7 @@ module _ (u : Universe) (choices : ℕ → Choice) (small : (i : ℕ) → IsSmal
 
   -- definitions
 
-  type_sound : (i : ℕ) → i < 20 → (ks : List ℕ) → type_breaches u names defs (suc i) (type_def_of u i (choices i) ks) ≡ []
-  unfolding Rattle.luo_source.specs.declared.types.TypeExpr.TheBlock.hidden-the_row-TypeExpr-0 Rattle.luo_source.specs.declared.types.TypeExpr.TheBlock.hidden-the_row-TypeExpr-1 hidden
+  type_sound : (i : ℕ) → i < 20 → (ks : List ℕ) → type_breaches u names defs (suc i) (type_form u i (choices i) ks) ≡ []
   type_sound i l ks =
       let z = λ (k : ℕ). type_clean (meaning names (codes "z")) 0 (at (codes "z") k) z_meant in
       let t = λ (j : ℕ) (h : j < 20) (k : ℕ). type_clean (meaning names (type_name j)) (suc j) (at (type_name j) k) (type_meant j h) in
@@ -151,7 +141,7 @@ module _ (u : Universe) (choices : ℕ → Choice) (small : (i : ℕ) → IsSmal
       (either _ _
       (both _ _ (z (token ks 1))
       (both _ _ (both _ _ (z (token ks 2)) (both _ _ (t (choices i).first c.first (token ks 3)) (both _ [] (t (choices i).second c.second (token ks 4)) refl)))
-      (both _ [] (both _ _ (z (token ks 6)) (both _ [] (both _ [] (both _ _ (kind_clean u (choices i).kind (token ks 8)) (both _ [] (t (choices i).inner c.inner (token ks 7)) refl)) refl) refl)) refl)))
+      (both _ [] (both _ _ (z (token ks 6)) (both _ [] (both _ [] (both _ _ (kind_clean u (choices i).kind (token ks 8)) (t (choices i).inner c.inner (token ks 7))) refl) refl)) refl)))
       refl)
 
   types_sound : (i n : ℕ) (ds : List TypeDef) → AreTypes u choices i n ds → i + n ≤ 20 → (o : ℕ) → o ≡ suc i → types_breaches u names defs o ds ≡ []
@@ -159,7 +149,7 @@ module _ (u : Universe) (choices : ℕ → Choice) (small : (i : ℕ) → IsSmal
   types_sound i zero (d ∷ ds) e l o h = absurd e
   types_sound i (suc n) [] e l o h = absurd e
   types_sound i (suc n) (_ ∷ ds) (type_of ks, e) l o h =
-      both _ _ (subst (λ o. type_breaches u names defs o (type_def_of u i (choices i) ks) ≡ []) (sym h) (type_sound i (omega (arith, l)) ks)) (types_sound (suc i) n ds e (omega (arith, l)) (o + 1) (omega (arith, h)))
+      both _ _ (subst (λ o. type_breaches u names defs o (type_form u i (choices i) ks) ≡ []) (sym h) (type_sound i (omega (arith, l)) ks)) (types_sound (suc i) n ds e (omega (arith, l)) (o + 1) (omega (arith, h)))
 
   all_sound : (ds : List TypeDef) → AllTypes u choices ds → types_breaches u names defs 0 ds ≡ []
   all_sound [] e = absurd e
@@ -183,7 +173,6 @@ module _ (u : Universe) (choices : ℕ → Choice) (small : (i : ℕ) → IsSmal
   At ds k x = (d : Def) × (slice_get ds k ≡ Some d) × (d.whole.node ≡ x)
 
   defs_at : (i n : ℕ) (ds : List TypeDef) → AreTypes u choices i n ds → (x k : ℕ) → k < n → At (defs_from names defs x (flat_map copies ds)) k (x + 4 * k)
-  unfolding Rattle.luo_source.specs.declared.types.TypeExpr.TheBlock.hidden-the_row-TypeExpr-0 Rattle.luo_source.specs.declared.types.TypeExpr.TheBlock.hidden-the_row-TypeExpr-1 hidden
   defs_at i zero ds e x k l = absurd (omega (arith, l))
   defs_at i (suc n) [] e x k l = absurd e
   defs_at i (suc n) (_ ∷ ds) (type_of ks, e) x zero l = (record { name = type_name i; whole = bare x }, refl, omega arith)
@@ -222,7 +211,7 @@ module _ (u : Universe) (choices : ℕ → Choice) (small : (i : ℕ) → IsSmal
       ∙ (ap (λ m. option_map (node_of names defs) (definition_meant m)) (type_meant i l)
       ∙ ap Some (type_node u choices names s.types q.types i (omega (arith, l)) ∙ omega arith)))
 
-  proc_sound : (i : ℕ) → i < 20 → (ks : List ℕ) → proc_breaches st i (proc_def_of i (choices i) ks) ≡ []
+  proc_sound : (i : ℕ) → i < 20 → (ks : List ℕ) → proc_breaches st i (proc_form i (choices i) ks) ≡ []
   proc_sound i l ks =
       let c = small i in
       let ch : Choice = choices i in
@@ -237,22 +226,18 @@ module _ (u : Universe) (choices : ℕ → Choice) (small : (i : ℕ) → IsSmal
       let scope3 : List Variable = record { name = codes "a"; part = z } ∷ record { name = codes "b"; part = first } ∷ record { name = codes "c"; part = second } ∷ [] in
       let scope2 : List Variable = record { name = codes "a"; part = z } ∷ record { name = codes "b"; part = bare (y + 3) } ∷ [] in
       let scope1 : List Variable = record { name = codes "u"; part = inner } ∷ [] in
-      let two_calls : Stmt = Block (Call (at (proc_name ch.first) (token ks 10)) (at (codes "b") (token ks 11)) ∷ Call (at (proc_name ch.second) (token ks 12)) (at (codes "c") (token ks 13)) ∷ []) in
-      let one_walk : Stmt = Block (Forall (at (codes "u") (token ks 17)) (at (codes "b") (token ks 18)) (Call (at (proc_name ch.inner) (token ks 19)) (at (codes "u") (token ks 20))) ∷ []) in
-      let calls = block-breaches st scope3 (Call (at (proc_name ch.first) (token ks 10)) (at (codes "b") (token ks 11)) ∷ Call (at (proc_name ch.second) (token ks 12)) (at (codes "c") (token ks 13)) ∷ [])
-      ∙ both _ _ (call scope3 ch.first (token ks 10) c.first (at (codes "b") (token ks 11)) (1, first) refl (facts.type_part u choices small s q ch.first c.first))
+      let calls = both _ _ (call scope3 ch.first (token ks 10) c.first (at (codes "b") (token ks 11)) (1, first) refl (facts.type_part u choices small s q ch.first c.first))
       (both _ [] (call scope3 ch.second (token ks 12) c.second (at (codes "c") (token ks 13)) (2, second) refl (facts.type_part u choices small s q ch.second c.second)) refl) in
-      let walk = block-breaches st scope2 (Forall (at (codes "u") (token ks 17)) (at (codes "b") (token ks 18)) (Call (at (proc_name ch.inner) (token ks 19)) (at (codes "u") (token ks 20))) ∷ [])
-      ∙ both _ [] (walk_clean st scope2 (at (codes "u") (token ks 17)) (at (codes "b") (token ks 18)) (Call (at (proc_name ch.inner) (token ks 19)) (at (codes "u") (token ks 20))) (1, bare (y + 3)) _ inner _ _ refl (facts.many_shape u choices small s q i l)
+      let walk = both _ [] (walk_clean st scope2 (at (codes "u") (token ks 17)) (at (codes "b") (token ks 18)) (Call (at (proc_name ch.inner) (token ks 19)) (at (codes "u") (token ks 20))) (1, bare (y + 3)) _ inner _ _ refl (facts.many_shape u choices small s q i l)
       (call scope1 ch.inner (token ks 19) c.inner (at (codes "u") (token ks 20)) (0, inner) refl (facts.type_part u choices small s q ch.inner c.inner))) refl in
       let skips = skip_clean st z 0 var (at (codes "z") (token ks 5)) z_meant (z_is (token ks 5) ∙ ap Some (sym (facts.z_part u choices small s q))) in
-      let inside_pair = parts_clean st (bare (y + 1)) (z ∷ first ∷ second ∷ []) var (at (codes "a") (token ks 6) ∷ at (codes "b") (token ks 7) ∷ at (codes "c") (token ks 8) ∷ []) (token ks 9) two_calls (facts.pair_shape u choices small s q i l) refl refl calls in
-      let inside_holder = parts_clean st (bare (y + 2)) (z ∷ bare (y + 3) ∷ []) var (at (codes "a") (token ks 14) ∷ at (codes "b") (token ks 15) ∷ []) (token ks 16) one_walk (facts.holder_shape u choices small s q i l) refl refl walk in
-      let cases = case_clean st (parameter st (proc_def_of i ch ks)) var _ (0, x) (inside z ∷ inside (bare (y + 1)) ∷ inside (bare (y + 2)) ∷ []) refl (ap (stands x) (ap (shape_at st) (part_is i l) ∙ facts.whole_shape u choices small s q i l)) refl
+      let inside_pair = parts_clean st (bare (y + 1)) (z ∷ first ∷ second ∷ []) var (at (codes "a") (token ks 6) ∷ at (codes "b") (token ks 7) ∷ at (codes "c") (token ks 8) ∷ []) (token ks 9) (Block (two_calls ch ks)) (facts.pair_shape u choices small s q i l) refl refl calls in
+      let inside_holder = parts_clean st (bare (y + 2)) (z ∷ bare (y + 3) ∷ []) var (at (codes "a") (token ks 14) ∷ at (codes "b") (token ks 15) ∷ []) (token ks 16) (Block (one_walk ch ks)) (facts.holder_shape u choices small s q i l) refl refl walk in
+      let cases = case_clean st (parameter st (proc_form i ch ks)) var (arms_form ch ks) (0, x) (inside z ∷ inside (bare (y + 1)) ∷ inside (bare (y + 2)) ∷ []) refl (ap (stands x) (ap (shape_at st) (part_is i l) ∙ facts.whole_shape u choices small s q i l)) refl
       (both _ _ skips (both _ _ inside_pair (both _ [] inside_holder refl))) in
       both _ _
       (both _ _ (new_clean names (at (proc_name i) (token ks 0)) (mean.Procedure i) (proc_meant i l) (same_number i)) (type_clean (meaning names (type_name i)) (suc i) (at (type_name i) (token ks 2)) (type_meant i l)))
-      (ap (λ o. body_breaches st (proc_def_of i ch ks) o (proc_def_of i ch ks).body) (type_is i (token ks 2) l)
+      (ap (λ o. body_breaches st (proc_form i ch ks) o (proc_form i ch ks).body) (type_is i (token ks 2) l)
       ∙ both _ _ (ap (λ m. measure_use m (at (codes "unit") (token ks 3))) (facts.unit_meant u choices small s q)) (both _ [] cases refl))
 
   procs_sound : (i n : ℕ) (ps : List ProcDef) → AreProcs choices i n ps → i + n ≤ 20 → procs_breaches st i ps ≡ []

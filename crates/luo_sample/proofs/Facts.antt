@@ -1,7 +1,6 @@
 -- The core form of a sample is well-founded.
 use Rattle.std.proofs.Common.{◌≡◌, ◌<◌, ◌≤◌, ◌⊎◌, ◌+◌, ◌*◌, ℕ, zero, suc, List, [], ◌∷◌, length, refl, ap, sym, ◌∙◌, subst, inl, inr, arith, Some, None, slice_get, codes}
 use Rattle.std.specs.Prelude.{slice_index_or}
-use denote.Hole.Carrier.{hidden}
 use Rattle.luo_model.specs.declared.program.Universe.{Universe}
 use Rattle.luo_model.specs.declared.program.Part.{Part}
 use Rattle.luo_model.specs.declared.program.Node.{Node}
@@ -9,8 +8,7 @@ use Rattle.luo_model.specs.declared.program.Shape.{Shape}
 use Rattle.luo_model.specs.declared.program.Shape.TheVariants as shape
 use Rattle.luo_model.specs.Program.{Program, Procedure, shape_of, no_node}
 use Rattle.luo_model.specs.Invariant.{bare}
-use Rattle.luo_source.specs.declared.source.ProcDef.{ProcDef}
-use Rattle.luo_source.specs.declared.source.Source.{Source}
+use Rattle.luo_source.specs.Plain.Source.{ProcDef, Source}
 use Rattle.luo_rules.specs.declared.names.Meaning.{Meaning}
 use Rattle.luo_rules.specs.declared.names.Meaning.TheVariants as mean
 use Rattle.luo_rules.specs.Meanings.{meaning}
@@ -134,7 +132,6 @@ module _ (u : Universe) (choices : ℕ → Choice) (small : (i : ℕ) → IsSmal
       below_or_not x = grind arith
 
   no_calls : (i n first : ℕ) (ps : List ProcDef) → AreProcs choices i n ps → (f : ℕ) (P : Procedure) → slice_get (procs_core (setting_of s) first ps) f ≡ Some P → (g : ℕ) → CallsIn g P.body → ⊥
-  unfolding Rattle.luo_source.specs.declared.statements.Stmt.TheBlock.hidden-the_row-Stmt-0 Rattle.luo_source.specs.declared.statements.Stmt.TheBlock.hidden-the_row-SourceArm-1 Rattle.luo_source.specs.declared.statements.Stmt.TheBlock.hidden-the_row-Stmt-2 hidden
   no_calls i zero first [] e f P get g c = none_some P get
     where
       none_some : (P : Procedure) → None ≡ Some P → ⊥

@@ -3,22 +3,18 @@ use Rattle.std.proofs.Common.{◌≡◌, ◌≤◌, ◌+◌, ◌*◌, max, ℕ, 
 use Rattle.std.specs.Prelude.{sum_by, if◌then◌else◌}
 use Rattle.std.proofs.lemmas.Bool.{le-ltb}
 use Rattle.std.proofs.lemmas.List.Sums.{sum_by-cons}
-use denote.Hole.Carrier.{hidden}
 use Rattle.luo_model.specs.declared.program.Universe.{Universe}
 use Rattle.luo_model.specs.declared.program.Kind.{Kind}
 use Rattle.luo_model.specs.declared.program.Kind.TheVariants.{Sequence, Set, Cycle, Multiset, Powerset}
-use Rattle.luo_source.specs.declared.types.TypeDef.{TypeDef}
+use Rattle.luo_source.specs.Plain.Types.{Atom, TypeDef}
 use Rattle.luo_source.specs.declared.names.Name.{Name}
-use Rattle.luo_source.specs.declared.types.TypeExpr.TheVariants.{Atom}
-use Rattle.luo_source.specs.declared.statements.Stmt.{Stmt, Skip, Charge, Call, Block', Case', Forall', Row_of-Stmt, end_of-Stmt, more_of-Stmt, Row_of-SourceArm, end_of-SourceArm, more_of-SourceArm}
-use Rattle.luo_source.specs.declared.source.ProcDef.{ProcDef}
-use Rattle.luo_source.specs.declared.source.Source.{Source}
+use Rattle.luo_source.specs.Plain.Source.{ProcDef, Source}
 use Rattle.luo_rules.specs.declared.error.CountLimit.{CountLimit}
 use Rattle.luo_rules.specs.declared.error.CountLimit.TheVariants as count
 use Rattle.luo_rules.specs.Counted.{own_nodes, own_multisets, most_parts, greatest_bound, body_statements, greatest_by, definition_count, node_count, multiset_count, statement_count, passed, limits_passed}
 use Rattle.luo_sample.specs.declared.choice.Choice.{Choice}
 use Rattle.luo_sample.specs.Text.{proc_name, kind_chosen}
-use Rattle.luo_sample.proofs.Form.{at, IsSource, EachFrom, AllTypes, atom_def, IsTypeOf, type_of, type_def_with, IsProcOf, proc_of}
+use Rattle.luo_sample.proofs.Form.{at, IsSource, EachFrom, AllTypes, atom_def, IsTypeOf, type_of, type_form_with, IsProcOf, proc_of}
 
 both : {A : Type 0} (xs ys : List A) → xs ≡ [] → ys ≡ [] → xs ++ ys ≡ []
 both xs ys e f = ap (λ z. z ++ ys) e ∙ f
@@ -51,19 +47,15 @@ length_each P i (suc n) [] e = absurd e
 length_each P i (suc n) (x ∷ xs) e = ap suc (length_each P (suc i) n xs e.1)
 
 four_nodes : (u : Universe) (i : ℕ) (c : Choice) (d : TypeDef) → IsTypeOf u i c d → length d.names * own_nodes d.body ≡ 4
-unfolding Rattle.luo_source.specs.declared.types.TypeExpr.TheBlock.hidden-the_row-TypeExpr-0 Rattle.luo_source.specs.declared.types.TypeExpr.TheBlock.hidden-the_row-TypeExpr-1 hidden
 four_nodes u i c _ (type_of ks) = refl
 
 three_parts : (u : Universe) (i : ℕ) (c : Choice) (d : TypeDef) → IsTypeOf u i c d → most_parts d.body ≡ 3
-unfolding Rattle.luo_source.specs.declared.types.TypeExpr.TheBlock.hidden-the_row-TypeExpr-0 Rattle.luo_source.specs.declared.types.TypeExpr.TheBlock.hidden-the_row-TypeExpr-1 hidden
 three_parts u i c _ (type_of ks) = refl
 
 no_bound : (u : Universe) (i : ℕ) (c : Choice) (d : TypeDef) → IsTypeOf u i c d → greatest_bound d.body ≡ 0
-unfolding Rattle.luo_source.specs.declared.types.TypeExpr.TheBlock.hidden-the_row-TypeExpr-0 Rattle.luo_source.specs.declared.types.TypeExpr.TheBlock.hidden-the_row-TypeExpr-1 hidden
 no_bound u i c _ (type_of ks) = refl
 
-few_multisets : (kind : Kind) (i : ℕ) (c : Choice) (ks : List ℕ) → length (type_def_with kind i c ks).names * own_multisets (type_def_with kind i c ks).body ≤ 1
-unfolding Rattle.luo_source.specs.declared.types.TypeExpr.TheBlock.hidden-the_row-TypeExpr-0 Rattle.luo_source.specs.declared.types.TypeExpr.TheBlock.hidden-the_row-TypeExpr-1 hidden
+few_multisets : (kind : Kind) (i : ℕ) (c : Choice) (ks : List ℕ) → length (type_form_with kind i c ks).names * own_multisets (type_form_with kind i c ks).body ≤ 1
 few_multisets Sequence i c ks = omega arith
 few_multisets Set i c ks = omega arith
 few_multisets Cycle i c ks = omega arith
@@ -74,7 +66,6 @@ one_multiset : (u : Universe) (i : ℕ) (c : Choice) (d : TypeDef) → IsTypeOf 
 one_multiset u i c _ (type_of ks) = few_multisets (kind_chosen u c.kind) i c ks
 
 seven : (i : ℕ) (c : Choice) (p : ProcDef) → IsProcOf i c p → body_statements p.body ≡ 7
-unfolding Rattle.luo_source.specs.declared.statements.Stmt.TheBlock.hidden-the_row-Stmt-0 Rattle.luo_source.specs.declared.statements.Stmt.TheBlock.hidden-the_row-SourceArm-1 Rattle.luo_source.specs.declared.statements.Stmt.TheBlock.hidden-the_row-Stmt-2 hidden
 seven i c _ (proc_of ks) = refl
 
 module _ (u : Universe) (choices : ℕ → Choice) where

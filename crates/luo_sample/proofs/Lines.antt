@@ -1,5 +1,6 @@
 -- The lines of a sample are read: each as its definition or procedure, with few brackets open.
 use Rattle.std.proofs.Common.{◌≤◌, ◌<◌, ◌^◌, ℕ, List, [], ◌∷◌, refl, inr, arith, codes}
+use denote.Hole.Carrier.{hidden}
 use Rattle.luo_scan.specs.declared.token.Word.{Word}
 use Rattle.luo_scan.specs.declared.token.Word.TheVariants.{KwType, KwProduct, KwSequence, KwSet, KwCycle, KwMultiset, KwPowerset, KwIn, KwProcedure, KwBegin, KwEnd, KwCase, KwOf, KwForall, KwDo, KwSkip}
 use Rattle.luo_scan.specs.declared.token.Mark.TheVariants.{Semicolon, Comma, Equals, Bar, LeftRound, RightRound, Colon}
@@ -10,6 +11,7 @@ use Rattle.luo_model.specs.declared.program.Kind.{Kind}
 use Rattle.luo_model.specs.declared.program.Kind.TheVariants.{Sequence, Set, Cycle, Multiset, Powerset}
 use Rattle.luo_source.specs.declared.types.TypeDef.{TypeDef}
 use Rattle.luo_source.specs.declared.source.ProcDef.{ProcDef}
+use Rattle.luo_source.specs.View.{type_def_of, proc_def_of}
 use Rattle.luo_source.specs.GrammarTypes.{last_name, more_names, IsCollection, sequence, set, cycle, multiset, powerset, unbounded, one_term, union, last_term, more_terms, named, product, collection, last_factor, more_factors, IsTypeDef, type_def}
 use Rattle.luo_source.specs.GrammarStatements.{pattern_named, pattern_parts, full_block, last_stmt, more_stmts, simple_stmt, case_stmt, forall_stmt, block_stmt, skip_stmt, charge_stmt, call_stmt, last_arm, more_arms, one_arm}
 use Rattle.luo_source.specs.Grammar.{statements_body, IsProc, proc}
@@ -74,9 +76,10 @@ pub record IsSmallChoice (c : Choice) : Type 0 where
 
 -- the line is a definition
 abbrev pub TypeAs : Universe → ℕ → Choice → List Lexeme → List Lexeme → Type 0
-TypeAs u i c from to = (d : TypeDef) × IsTypeDef from to d × IsTypeOf u i c d × (Calm 0 to → Calm 0 from)
+TypeAs u i c from to = (d : TypeDef) × IsTypeDef from to d × IsTypeOf u i c (type_def_of d) × (Calm 0 to → Calm 0 from)
 
 type_step : (u : Universe) (i : ℕ) (c : Choice) (from to : List Lexeme) → (Then (Then (Then (Then (Then (Then (Then (Then (Then (Then (TakesWord KwType) (Takes kind.Name (type_name (i)))) (Then (TakesMark Equals) (Then (Takes kind.Name (codes "z")) (Then (TakesMark Bar) (Then (Then (TakesWord KwProduct) (TakesMark LeftRound)) (Then (Takes kind.Name (codes "z")) (TakesMark Comma))))))) (Takes kind.Name (type_name (c.first)))) (TakesMark Comma)) (Takes kind.Name (type_name (c.second)))) (Then (TakesMark RightRound) (Then (TakesMark Bar) (Then (Then (TakesWord KwProduct) (TakesMark LeftRound)) (Then (Takes kind.Name (codes "z")) (TakesMark Comma)))))) (CollectionAs (kind_chosen u c.kind))) (TakesMark LeftRound)) (Takes kind.Name (type_name (c.inner)))) (Then (TakesMark RightRound) (Then (TakesMark RightRound) (TakesMark Semicolon)))) from to → TypeAs u i c from to
+unfolding Rattle.luo_source.specs.declared.types.TypeExpr.TheBlock.hidden-the_row-TypeExpr-0 Rattle.luo_source.specs.declared.types.TypeExpr.TheBlock.hidden-the_row-TypeExpr-1 hidden
 type_step u i c from to (m23, (m22, (m21, (m20, (m19, (m18, (m17, (m16, (m15, (m14, takes, takes {at = k0}), (m6, takes, (m5, takes {at = k1}, (m4, takes, (m3, (m1, takes {at = k5}, takes), (m2, takes {at = k2}, takes)))))), takes {at = k3}), takes), takes {at = k4}), (m11, takes, (m10, takes, (m9, (m7, takes {at = k9}, takes), (m8, takes {at = k6}, takes))))), (w, col, takes {at = k8}, q)), takes), takes {at = k7}), (m13, takes, (m12, takes, takes))) = (
   _,
   type_def last_name (union named (more_terms (product (one_term named) (more_factors (one_term named) (last_factor (one_term named)))) (last_term (product (one_term named) (last_factor (one_term (collection col (one_term named) unbounded))))))),
@@ -94,9 +97,10 @@ type_back u i c l s =
 
 -- the lines are a procedure
 abbrev pub ProcAs : ℕ → Choice → List Lexeme → List Lexeme → Type 0
-ProcAs i c from to = (p : ProcDef) × IsProc from to p × IsProcOf i c p × (Calm 0 to → Calm 0 from)
+ProcAs i c from to = (p : ProcDef) × IsProc from to p × IsProcOf i c (proc_def_of p) × (Calm 0 to → Calm 0 from)
 
 proc_step : (i : ℕ) (c : Choice) (from to : List Lexeme) → (Then (Then (Then (Then (Then (Then (Then (Then (Then (Then (TakesWord KwProcedure) (Takes kind.Name (proc_name (i)))) (Then (TakesMark LeftRound) (Then (Takes kind.Name (codes "x")) (TakesMark Colon)))) (Takes kind.Name (type_name (i)))) (Then (TakesMark RightRound) (Then (TakesMark Semicolon) (Then (TakesWord KwBegin) (Then (Takes kind.Name (codes "unit")) (Then (TakesMark Semicolon) (Then (TakesWord KwCase) (Then (Takes kind.Name (codes "x")) (Then (TakesWord KwOf) (Then (Takes kind.Name (codes "z")) (Then (TakesMark Colon) (Then (TakesWord KwSkip) (Then (TakesMark Semicolon) (Then (TakesMark LeftRound) (Then (Takes kind.Name (codes "a")) (Then (TakesMark Comma) (Then (Takes kind.Name (codes "b")) (Then (TakesMark Comma) (Then (Takes kind.Name (codes "c")) (Then (TakesMark RightRound) (Then (TakesMark Colon) (TakesWord KwBegin)))))))))))))))))))))) (Takes kind.Name (proc_name (c.first)))) (Then (TakesMark LeftRound) (Then (Takes kind.Name (codes "b")) (Then (TakesMark RightRound) (TakesMark Semicolon))))) (Takes kind.Name (proc_name (c.second)))) (Then (TakesMark LeftRound) (Then (Takes kind.Name (codes "c")) (Then (TakesMark RightRound) (Then (TakesWord KwEnd) (Then (TakesMark Semicolon) (Then (TakesMark LeftRound) (Then (Takes kind.Name (codes "a")) (Then (TakesMark Comma) (Then (Takes kind.Name (codes "b")) (Then (TakesMark RightRound) (Then (TakesMark Colon) (Then (TakesWord KwBegin) (Then (TakesWord KwForall) (Then (Takes kind.Name (codes "u")) (Then (TakesWord KwIn) (Then (Takes kind.Name (codes "b")) (TakesWord KwDo)))))))))))))))))) (Takes kind.Name (proc_name (c.inner)))) (Then (TakesMark LeftRound) (Then (Takes kind.Name (codes "u")) (Then (TakesMark RightRound) (Then (TakesWord KwEnd) (Then (TakesWord KwEnd) (Then (TakesWord KwEnd) (TakesMark Semicolon)))))))) from to → ProcAs i c from to
+unfolding Rattle.luo_source.specs.declared.statements.Stmt.TheBlock.hidden-the_row-Stmt-0 Rattle.luo_source.specs.declared.statements.Stmt.TheBlock.hidden-the_row-SourceArm-1 Rattle.luo_source.specs.declared.statements.Stmt.TheBlock.hidden-the_row-Stmt-2 hidden
 proc_step i c from to (m80, (m79, (m78, (m77, (m76, (m75, (m74, (m73, (m72, (m71, takes, takes {at = k0}), (m25, takes, (m24, takes {at = k1}, takes))), takes {at = k2}), (m45, takes, (m44, takes, (m43, takes, (m42, takes {at = k3}, (m41, takes, (m40, takes, (m39, takes {at = k4}, (m38, takes, (m37, takes {at = k5}, (m36, takes, (m35, takes, (m34, takes, (m33, takes {at = k9}, (m32, takes {at = k6}, (m31, takes, (m30, takes {at = k7}, (m29, takes, (m28, takes {at = k8}, (m27, takes, (m26, takes, takes))))))))))))))))))))), takes {at = k10}), (m48, takes, (m47, takes {at = k11}, (m46, takes, takes)))), takes {at = k12}), (m64, takes, (m63, takes {at = k13}, (m62, takes, (m61, takes, (m60, takes, (m59, takes {at = k16}, (m58, takes {at = k14}, (m57, takes, (m56, takes {at = k15}, (m55, takes, (m54, takes, (m53, takes, (m52, takes, (m51, takes {at = k17}, (m50, takes, (m49, takes {at = k18}, takes))))))))))))))))), takes {at = k19}), (m70, takes, (m69, takes {at = k20}, (m68, takes, (m67, takes, (m66, takes, (m65, takes, takes))))))) = (
   _,
   proc (statements_body (full_block (more_stmts (simple_stmt charge_stmt) (last_stmt (case_stmt (more_arms (one_arm pattern_named skip_stmt) (more_arms (one_arm (pattern_parts (more_names (more_names last_name))) (block_stmt (full_block (more_stmts (simple_stmt call_stmt) (last_stmt (simple_stmt call_stmt)))))) (last_arm (one_arm (pattern_parts (more_names last_name)) (block_stmt (full_block (last_stmt (forall_stmt call_stmt))))))))))))),

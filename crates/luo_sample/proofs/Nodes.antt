@@ -1,14 +1,13 @@
 -- The nodes of a sample: z is node 0, and definition i has the nodes from 1 + 4 i on.
 use Rattle.std.proofs.Common.{◌≡◌, ◌<◌, ◌≤◌, ◌+◌, ◌*◌, ℕ, zero, suc, List, [], ◌∷◌, length, take, refl, ap, ◌∙◌, subst, arith, Some, None, slice_get, codes}
 use Rattle.std.specs.Prelude.{flat_map, sum_by}
-use denote.Hole.Carrier.{hidden}
 use Rattle.luo_model.specs.declared.program.Universe.{Universe}
 use Rattle.luo_model.specs.declared.program.Part.{Part}
 use Rattle.luo_model.specs.declared.program.Node.{Node}
 use Rattle.luo_model.specs.declared.program.Shape.{Shape}
 use Rattle.luo_model.specs.declared.program.Shape.TheVariants as shape
 use Rattle.luo_model.specs.Invariant.{bare}
-use Rattle.luo_source.specs.declared.types.TypeDef.{TypeDef}
+use Rattle.luo_source.specs.Plain.Types.{Atom, TypeDef}
 use Rattle.luo_rules.specs.declared.names.Meaning.{Meaning}
 use Rattle.luo_rules.specs.Counted.{own_nodes}
 use Rattle.luo_rules.specs.TypeBreaches.{low_of}
@@ -18,9 +17,8 @@ use Rattle.luo_rules.specs.inner.Naming.{node_within, node_of}
 use Rattle.luo_rules.specs.Nodes.{named_part, nodes_from}
 use Rattle.luo_sample.specs.declared.choice.Choice.{Choice}
 use Rattle.luo_sample.specs.Text.{type_name, kind_chosen}
-use Rattle.luo_source.specs.declared.types.TypeExpr.TheVariants.{Atom}
 use Rattle.std.proofs.lemmas.List.Sums.{sum_by-cons}
-use Rattle.luo_sample.proofs.Form.{at, token, atom_def, type_def_of, type_of, AreTypes, AllTypes}
+use Rattle.luo_sample.proofs.Form.{at, token, atom_def, type_form, type_of, AreTypes, AllTypes}
 
 abbrev Names : Type 0
 Names = List (List ℕ × Meaning)
@@ -39,14 +37,13 @@ no_next u choice names (_ ∷ ds) (atom_def, e) zero = refl
 no_next u choice names (_ ∷ ds) (atom_def, e) (suc k) = none_named u choice names 0 20 ds e k
 
 four_each : (u : Universe) (choice : ℕ → Choice) (i n : ℕ) (ds : List TypeDef) → AreTypes u choice i n ds → (k : ℕ) → k ≤ n → sum_by (λ (d : Definition). own_nodes d.right) (take k (flat_map copies ds)) ≡ 4 * k
-unfolding Rattle.luo_source.specs.declared.types.TypeExpr.TheBlock.hidden-the_row-TypeExpr-0 Rattle.luo_source.specs.declared.types.TypeExpr.TheBlock.hidden-the_row-TypeExpr-1 hidden
 four_each u choice i zero [] e zero l = refl
 four_each u choice i zero [] e (suc k) l = absurd (omega (arith, l))
 four_each u choice i zero (d ∷ ds) e k l = absurd e
 four_each u choice i (suc n) [] e k l = absurd e
 four_each u choice i (suc n) (_ ∷ ds) (type_of ks, e) zero l = refl
 four_each u choice i (suc n) (_ ∷ ds) (type_of ks, e) (suc k) l =
-    let d : Definition = record { name = at (type_name i) (token ks 0); right = (type_def_of u i (choice i) ks).body } in
+    let d : Definition = record { name = at (type_name i) (token ks 0); right = (type_form u i (choice i) ks).body } in
     let own : own_nodes d.right ≡ 4 = refl in
     let all : sum_by (λ (d : Definition). own_nodes d.right) (d ∷ take k (flat_map copies ds)) ≡ own_nodes d.right + sum_by (λ (d : Definition). own_nodes d.right) (take k (flat_map copies ds)) = sum_by-cons (λ (d : Definition). own_nodes d.right) d (take k (flat_map copies ds)) in
     all ∙ omega (arith, own, four_each u choice (suc i) n ds e k (omega (arith, l)))
@@ -99,10 +96,9 @@ module _ (u : Universe) (choice : ℕ → Choice) (names : Names) (defs : List D
     pub many : Has nodes (suc (suc (suc m))) (shape.Coll (kind_chosen u c.kind) (part_for (type_name c.inner)) (low_of (kind_chosen u c.kind) None) None)
 
   blocks : (i n : ℕ) (ds : List TypeDef) → AreTypes u choice i n ds → (o x k j : ℕ) → k < n → j ≡ i + k → Block (nodes_from names defs o x (flat_map copies ds)) (quad k) (x + 4 * k) (choice j)
-  unfolding Rattle.luo_source.specs.declared.types.TypeExpr.TheBlock.hidden-the_row-TypeExpr-0 Rattle.luo_source.specs.declared.types.TypeExpr.TheBlock.hidden-the_row-TypeExpr-1 hidden
   blocks i zero ds e o x k j l h = absurd (omega (arith, l))
   blocks i (suc n) [] e o x k j l h = absurd e
-  blocks i (suc n) (_ ∷ ds) (type_of ks, e) o x zero j l h = let q : i ≡ j = omega (arith, h) in subst (λ j. Block (nodes_from names defs o x (flat_map copies (type_def_of u i (choice i) ks ∷ ds))) 0 (x + 4 * 0) (choice j)) q (record {
+  blocks i (suc n) (_ ∷ ds) (type_of ks, e) o x zero j l h = let q : i ≡ j = omega (arith, h) in subst (λ j. Block (nodes_from names defs o x (flat_map copies (type_form u i (choice i) ks ∷ ds))) 0 (x + 4 * 0) (choice j)) q (record {
     whole = (record { shape = shape.Union (part_for (codes "z") ∷ bare (x + 1 + 0) ∷ bare (x + 1 + 0 + 1) ∷ []); owner = o; place = 0 }, refl, same_union (part_for (codes "z")) (x + 1 + 0) (x + 1 + 0 + 1) (x + 4 * 0 + 1) (x + 4 * 0 + 2) (omega arith) (omega arith));
     pair = (record { shape = shape.Product (part_for (codes "z") ∷ part_for (type_name (choice i).first) ∷ part_for (type_name (choice i).second) ∷ []); owner = o; place = 1 }, refl, refl);
     holder = (record { shape = shape.Product (part_for (codes "z") ∷ bare (x + 1 + 0 + 1 + 1 + 0) ∷ []); owner = o; place = 2 }, refl, same_product (part_for (codes "z")) (x + 1 + 0 + 1 + 1 + 0) (x + 4 * 0 + 3) (omega arith));
@@ -115,7 +111,6 @@ module _ (u : Universe) (choice : ℕ → Choice) (names : Names) (defs : List D
       record { whole = c.whole; pair = c.pair; holder = c.holder; many = c.many }
 
   nodes_count : (i n : ℕ) (ds : List TypeDef) → AreTypes u choice i n ds → (o x : ℕ) → length (nodes_from names defs o x (flat_map copies ds)) ≡ 4 * n
-  unfolding Rattle.luo_source.specs.declared.types.TypeExpr.TheBlock.hidden-the_row-TypeExpr-0 Rattle.luo_source.specs.declared.types.TypeExpr.TheBlock.hidden-the_row-TypeExpr-1 hidden
   nodes_count i zero [] e o x = refl
   nodes_count i zero (d ∷ ds) e o x = absurd e
   nodes_count i (suc n) [] e o x = absurd e

@@ -1,6 +1,6 @@
 -- The text of a sample has tokens, and these derive its source and open little.
 use Rattle.std.proofs.Common.{◌≡◌, ◌≤◌, ◌<◌, ◌+◌, ◌-◌, ℕ, zero, suc, List, [], ◌∷◌, ◌++◌, length, take, refl, sym, ◌∙◌, subst, arith, codes, append_assoc}
-use Rattle.std.specs.Prelude.{Bool, true, false, nat_le}
+use Rattle.std.specs.Prelude.{Bool, true, false, map, nat_le}
 use Rattle.std.proofs.lemmas.List.{append-nil}
 use Rattle.std.proofs.lemmas.Fmt.{decimal_digit}
 use Rattle.luo_scan.specs.declared.token.Token.{Token}
@@ -16,6 +16,7 @@ use Rattle.luo_source.specs.declared.types.TypeDef.{TypeDef}
 use Rattle.luo_source.specs.declared.types.MeasureDef.{MeasureDef}
 use Rattle.luo_source.specs.declared.source.ProcDef.{ProcDef}
 use Rattle.luo_source.specs.declared.source.Source.{Source}
+use Rattle.luo_source.specs.View.{type_def_of, proc_def_of, plain_source}
 use Rattle.luo_source.specs.GrammarTypes.{last_name, one_term, atom, IsTypeDef, type_def, IsMeasure, measure_def}
 use Rattle.luo_source.specs.Grammar.{IsAnalyze, analyze, AreAnalyses, last_analysis, more_analyses, FromProcs, no_procs, more_procs, no_measures, more_measures, FromTypes, no_types, more_types, IsProgram, labelled, unlabelled, Derives}
 use Rattle.luo_syntax.specs.Viable.{opens, closes, opened, closed, IsShallow}
@@ -55,7 +56,7 @@ one_reads : Reads Quiet (codes "1") (Takes (kind.Number 1) (codes "1"))
 one_reads = subst (λ t. Reads Quiet t (Takes (kind.Number 1) t)) (decimal_digit 1 (omega arith)) (number_reads 1 (omega arith))
 
 abbrev AtomAs : List Lexeme → List Lexeme → Type 0
-AtomAs from to = (d : TypeDef) × IsTypeDef from to d × IsAtomDef d × (Calm 0 to → Calm 0 from)
+AtomAs from to = (d : TypeDef) × IsTypeDef from to d × IsAtomDef (type_def_of d) × (Calm 0 to → Calm 0 from)
 
 abbrev UnitAs : List Lexeme → List Lexeme → Type 0
 UnitAs from to = (m : MeasureDef) × IsMeasure from to m × IsUnit m × (Calm 0 to → Calm 0 from)
@@ -100,7 +101,7 @@ analyses_back i (suc n) l = read_as (next (analyze_back i (omega (arith, l))) (a
 module _ (u : Universe) (choice : ℕ → Choice) (small : (i : ℕ) → IsSmallChoice (choice i)) where
   abbrev ProcsAs : ℕ → ℕ → List Lexeme → List Lexeme → Type 0
   ProcsAs i n from to =
-      (ps : List ProcDef) × (names : List Name) × FromProcs from to ps names × AreProcs choice i n ps
+      (ps : List ProcDef) × (names : List Name) × FromProcs from to ps names × AreProcs choice i n (map proc_def_of ps)
       × AreAnalyzed 0 8 names × (Calm 0 to → Calm 0 from)
 
   no_procs_step : (i : ℕ) (from to : List Lexeme) → AnalysesAs 0 8 from to → ProcsAs i 0 from to
@@ -122,7 +123,7 @@ module _ (u : Universe) (choice : ℕ → Choice) (small : (i : ℕ) → IsSmall
   abbrev TypesAs : ℕ → ℕ → List Lexeme → List Lexeme → Type 0
   TypesAs i n from to =
       (ts : List TypeDef) × (m : MeasureDef) × (ps : List ProcDef) × (names : List Name) × FromTypes from to ts (m ∷ []) ps names
-      × AreTypes u choice i n ts × IsUnit m × AreProcs choice 0 20 ps
+      × AreTypes u choice i n (map type_def_of ts) × IsUnit m × AreProcs choice 0 20 (map proc_def_of ps)
       × AreAnalyzed 0 8 names × (Calm 0 to → Calm 0 from)
 
   no_types_step : (i : ℕ) (from to : List Lexeme) → Then UnitAs (ProcsAs 0 20) from to → TypesAs i 0 from to
@@ -145,7 +146,7 @@ module _ (u : Universe) (choice : ℕ → Choice) (small : (i : ℕ) → IsSmall
       (read_as (next (type_back u i (choice i) (omega (arith, l)) (small i)) (types_back (suc i) n (omega (arith, l)))) (more_types_step i n))
 
   abbrev ProgramAs : List Lexeme → List Lexeme → Type 0
-  ProgramAs from to = (s : Source) × IsProgram from to s × IsSource u choice s × (Calm 0 to → Calm 0 from)
+  ProgramAs from to = (s : Source) × IsProgram from to s × IsSource u choice (plain_source s) × (Calm 0 to → Calm 0 from)
 
 labelled_step : (choice : ℕ → Choice) (small : (i : ℕ) → IsSmallChoice (choice i)) (from to : List Lexeme) → Then (Then (TakesWord KwLabelled) (TakesMark Semicolon)) (Then AtomAs (TypesAs Labelled choice small 0 20)) from to → ProgramAs Labelled choice small from to
 labelled_step choice small from to (m1, (m2, takes, takes), (m3, (a, da, ea, ca), (ts, m, ps, names, d, e, f, g, h, c))) = (
@@ -175,7 +176,7 @@ program_back Unlabelled choice small = read_text (in_order Unlabelled choice sma
 
 -- the text of any choices below 20 has tokens, and these derive a source of these choices and open little
 pub sample_reads : (u : Universe) (choice : ℕ → Choice) → ((i : ℕ) → IsSmallChoice (choice i))
-    → (tokens : List Token) × (s : Source) × Tokens (sample_text u choice) tokens × Derives (sample_text u choice) tokens s × IsSource u choice s × IsShallow (lexemes (sample_text u choice) tokens)
+    → (tokens : List Token) × (s : Source) × Tokens (sample_text u choice) tokens × Derives (sample_text u choice) tokens s × IsSource u choice (plain_source s) × IsShallow (lexemes (sample_text u choice) tokens)
 sample_reads u choice small =
     let text : List ℕ = sample_text u choice in
     let r = program_back u choice small in

@@ -6,6 +6,7 @@ use Rattle.luo_scan.specs.Lexemes.{lexemes}
 use Rattle.luo_scan.specs.Tokens.{Tokens}
 use Rattle.luo_model.specs.Founded.{IsFounded}
 use Rattle.luo_source.specs.declared.source.Source.{Source}
+use Rattle.luo_source.specs.View.{plain_source}
 use Rattle.luo_source.specs.Grammar.{Derives}
 use Rattle.luo_syntax.specs.Viable.{IsShallow}
 use Rattle.luo_rules.specs.Counted.{limits_passed}
@@ -22,10 +23,10 @@ pub record IsGood (text : List ℕ) : Type 0 where
   pub shallow : IsShallow (lexemes text tokens)
   pub source : Source
   pub derived : Derives text tokens source
-  pub within : limits_passed source ≡ []
-  pub unbroken : breaches source ≡ []
-  pub walks : walk_count (core source) ≤ WALK_LIMIT
-  pub founded : IsFounded (core source)
+  pub within : limits_passed (plain_source source) ≡ []
+  pub unbroken : breaches (plain_source source) ≡ []
+  pub walks : walk_count (core (plain_source source)) ≤ WALK_LIMIT
+  pub founded : IsFounded (core (plain_source source))
 
 -- each sample is such a text
 abbrev pub EachIsGood : Type 0
