@@ -9,9 +9,8 @@ use Rattle.luo_model.specs.Tree.{Tree}
 use Rattle.luo_founded.proofs.Tabled.{count_exists}
 use Rattle.luo_audit.specs.Audit.{CountIs, TotalIs}
 use Rattle.luo_source.specs.declared.names.Name.{Name}
-use Rattle.luo_source.specs.declared.source.ProcDef.{ProcDef}
-use Rattle.luo_source.specs.declared.source.Source.{Source}
-use Rattle.luo_source.specs.declared.types.TypeExpr.{Named}
+use Rattle.luo_source.specs.Plain.Source.{ProcDef, Source}
+use Rattle.luo_source.specs.Plain.Types.{Named}
 use Rattle.luo_rules.specs.Checks.{IsSource}
 use Rattle.luo_rules.specs.Definitions.{names_of, measures}
 use Rattle.luo_rules.specs.Meanings.{procedure_use, procedure_of}

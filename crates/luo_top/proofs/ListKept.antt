@@ -12,8 +12,8 @@ use Rattle.luo_model.specs.Structures.{IsStructure}
 use Rattle.luo_model.specs.Tree.{Tree}
 use Rattle.luo_engine.specs.Entries.{NoneOver, IsThere, IsNumber}
 use Rattle.luo_source.specs.declared.names.Name.{Name}
-use Rattle.luo_source.specs.declared.source.Source.{Source}
-use Rattle.luo_source.specs.declared.types.TypeExpr.{Named}
+use Rattle.luo_source.specs.Plain.Source.{Source}
+use Rattle.luo_source.specs.Plain.Types.{Named}
 use Rattle.luo_rules.specs.declared.names.Meaning.TheVariants as mean
 use Rattle.luo_rules.specs.Checks.{IsSource, IsChecked}
 use Rattle.luo_rules.specs.Definitions.{Definition, definitions, first_node, names_of}

@@ -9,8 +9,9 @@ use Rattle.luo_scan.specs.Tokens.{Tokens}
 use Rattle.luo_scan.proofs.Unique.{one_list, one_fault}
 use Rattle.luo_syntax.specs.declared.error.SyntaxError.{SyntaxError}
 use Rattle.luo_syntax.specs.declared.error.SyntaxError.TheVariants.{Grammar, Depth, NoMemory}
-use Rattle.luo_source.specs.declared.source.Source.{Source}
+use Rattle.luo_source.specs.Plain.Source.{Source}
 use Rattle.luo_syntax.specs.Viable.{Explains, IsLongestViable, IsFirstDeep}
+use Rattle.luo_source.specs.View.{plain_source}
 use Rattle.luo_source.proofs.OneProgram.{program_one}
 use Rattle.luo_rules.specs.declared.rule.Breach.{Breach}
 use Rattle.luo_rules.specs.Counted.{limits_passed}
@@ -89,7 +90,7 @@ tokens-sole : (text : List ℕ) → IsSole (tokens_of text)
 tokens-sole text = or_makes-sole _ _ (lexical-single text) (λ none. tokens-single text)
 
 source-sole : (text : List ℕ) (ts : List Token) → IsSole (source_of text ts)
-source-sole text ts = or_makes-sole _ _ (syntax-single text ts) (λ none r s d e. program_one d e)
+source-sole text ts = or_makes-sole _ _ (syntax-single text ts) (λ none r s d e. sym d.2 ∙ ap plain_source (program_one d.1 e.1) ∙ e.2)
 
 core-sole : (text : List ℕ) (ts : List Token) (s : Source) → IsSole (core_of text ts s)
 core-sole text ts s =

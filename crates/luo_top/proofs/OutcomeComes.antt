@@ -5,7 +5,8 @@ use Rattle.luo_model.specs.Program.{Program}
 use Rattle.luo_scan.specs.declared.token.Token.{Token}
 use Rattle.luo_scan.specs.Tokens.{Tokens, LexicalFault, FirstFault}
 use Rattle.luo_scan.proofs.Decide.{tokens_or}
-use Rattle.luo_source.specs.declared.source.Source.{Source}
+use Rattle.luo_source.specs.Plain.Source.{Source}
+use Rattle.luo_source.specs.View.{plain_source}
 use Rattle.luo_syntax.proofs.SourceOrError.{source_or_error}
 use Rattle.luo_rules.specs.declared.rule.Breach.{Breach}
 use Rattle.luo_rules.specs.declared.error.CountLimit.{CountLimit}
@@ -30,7 +31,7 @@ tokens-goes_on text = or_makes-goes_on _ _ (λ none nothing. by (tokens_or text)
     by (inr (fault, place, f)) none nothing = none _ (fault, place, f, refl)
 
 source-goes_on : (text : List ℕ) (ts : List Token) → Tokens text ts → GoesOn (source_of text ts)
-source-goes_on text ts t = or_makes-goes_on _ _ (λ none nothing. source_or_error text ts t (λ (s, d, _). nothing s d) (λ (e, other, x). none _ (e, other, x, refl)))
+source-goes_on text ts t = or_makes-goes_on _ _ (λ none nothing. source_or_error text ts t (λ (s, d, _). nothing (plain_source s) (s, d, refl)) (λ (e, other, x). none _ (e, other, x, refl)))
 
 core-goes_on : (text : List ℕ) (ts : List Token) (s : Source) → GoesOn (core_of text ts s)
 core-goes_on text ts s = or_makes-goes_on _ _ (λ none nothing. by (limits_passed s) (breaches s) refl refl none nothing)

@@ -10,7 +10,7 @@ use Rattle.luo_model.specs.Founded.{IsFounded}
 use Rattle.luo_model.specs.Program.{Program}
 use Rattle.luo_engine.specs.Entries.{IsThere, Has, IsNumber, NoneOver}
 use Rattle.luo_scan.specs.declared.token.Token.{Token}
-use Rattle.luo_source.specs.declared.source.Source.{Source}
+use Rattle.luo_source.specs.Plain.Source.{Source}
 use Rattle.luo_rules.specs.Checks.{IsSource, IsChecked}
 use Rattle.luo_rules.specs.Counted.{limits_passed}
 use Rattle.luo_rules.specs.Whole.{breaches, core, walk_count}
@@ -109,12 +109,12 @@ module _ (text : List ℕ) (tokens : List Token) (source : Source) (is : IsSourc
 program_same : (file : List ℕ) (told : Told) → Match IsProgramOf (file_program file told) (sound_source file told)
 program_same file told =
     same_first IsProgramOf (text_of file told) _ _ (λ text r. same_first IsProgramOf (tokens_of text) _ _ (λ tokens t. same_first IsProgramOf (source_of text tokens) _ _ (λ source d.
-    core_same text tokens source (record { text = text; tokens = tokens; scanned = t.1; derived = d.1 }))))
+    core_same text tokens source (record { text = text; tokens = tokens; read = d.1.0; scanned = t.1; derived = d.1.1; shown = d.1.2 }))))
 
 text_same : (text : List ℕ) → Match IsProgramOf (text_program text) (sound_text text)
 text_same text =
     same_first IsProgramOf (tokens_of text) _ _ (λ tokens t. same_first IsProgramOf (source_of text tokens) _ _ (λ source d.
-    core_same text tokens source (record { text = text; tokens = tokens; scanned = t.1; derived = d.1 })))
+    core_same text tokens source (record { text = text; tokens = tokens; read = d.1.0; scanned = t.1; derived = d.1.1; shown = d.1.2 })))
 
 -- a source and its program, from there on
 module _ (source : Source) (is : IsSource source) (is_checked : IsChecked source (core source)) (n : ℕ) where

@@ -5,7 +5,7 @@ use Rattle.luo_finite.proofs.Places.{some_same}
 use Rattle.luo_scan.specs.declared.token.Token.{Token}
 use Rattle.luo_scan.specs.Tokens.{bad_byte, long_name, large_number}
 use Rattle.luo_syntax.specs.declared.error.SyntaxError.TheVariants.{Grammar, Depth, NoMemory}
-use Rattle.luo_source.specs.declared.source.Source.{Source}
+use Rattle.luo_source.specs.Plain.Source.{Source}
 use Rattle.luo_answer.specs.declared.status.Status.{Status}
 use Rattle.luo_answer.specs.Answer.{Answer, Output, Refusal, Untold}
 use Rattle.luo_answer.proofs.ToldAnswer.{tells_both, reading-tells, analyse-tells, run-tells, sample-tells, list-tells, audit-tells, words-tell}

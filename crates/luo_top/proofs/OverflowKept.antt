@@ -11,7 +11,7 @@ use Rattle.luo_model.specs.Program.{Procedure}
 use Rattle.luo_model.specs.Founded.{IsFounded}
 use Rattle.luo_engine.specs.Entries as entries
 use Rattle.luo_engine.specs.Entries.{IsThere, IsNumber}
-use Rattle.luo_source.specs.declared.source.Source.{Source}
+use Rattle.luo_source.specs.Plain.Source.{Source}
 use Rattle.luo_rules.specs.Checks.{IsSource, IsChecked}
 use Rattle.luo_rules.specs.Whole.{core}
 use Rattle.luo_rules.proofs.CleanSource.{Clean}

@@ -5,8 +5,7 @@ use Rattle.luo_model.specs.Program.{Program}
 use Rattle.luo_model.specs.Invariant.{IsProgram}
 use Rattle.luo_scan.specs.declared.token.Token.{Token}
 use Rattle.luo_scan.specs.Tokens.{Tokens}
-use Rattle.luo_source.specs.declared.source.Source.{Source}
-use Rattle.luo_source.specs.Grammar.{Derives}
+use Rattle.luo_source.specs.Plain.Source.{Source}
 use Rattle.luo_rules.specs.declared.error.CountLimit.{CountLimit}
 use Rattle.luo_rules.specs.Checks.{IsSource}
 use Rattle.luo_rules.specs.Counted.{limits_passed}
@@ -15,11 +14,11 @@ use Rattle.luo_rules.proofs.CoreIsProgram.{core_is_program}
 use Rattle.luo_answer.specs.Step.{◌and_then◌}
 use Rattle.luo_answer.specs.Told.{Told}
 use Rattle.luo_top.specs.Commands.Sample.{text_program}
-use Rattle.luo_top.specs.Steps.{core_of, file_program}
+use Rattle.luo_top.specs.Steps.{IsRead, core_of, file_program}
 
-core_is : (text : List ℕ) (ts : List Token) (s : Source) (p : Program) → Tokens text ts → Derives text ts s → (core_of text ts s).hands p → IsProgram p
-core_is text ts s p scanned derived (none, c) =
-    let source : IsSource s = record { text = text; tokens = ts; scanned = scanned; derived = derived } in
+core_is : (text : List ℕ) (ts : List Token) (s : Source) (p : Program) → Tokens text ts → IsRead text ts s → (core_of text ts s).hands p → IsProgram p
+core_is text ts s p scanned d (none, c) =
+    let source : IsSource s = record { text = text; tokens = ts; read = d.0; scanned = scanned; derived = d.1; shown = d.2 } in
     subst IsProgram (sym c.1) (core_is_program s source (within (limits_passed s) refl) c.0 (walks (walk_count (core s)) refl))
   where
     within : (ws : List CountLimit) → limits_passed s ≡ ws → limits_passed s ≡ []

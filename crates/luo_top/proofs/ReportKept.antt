@@ -9,8 +9,7 @@ use Rattle.luo_model.specs.declared.table.Row.{Row}
 use Rattle.luo_model.specs.Program.{Procedure}
 use Rattle.luo_model.specs.Invariant.{IsProgram}
 use Rattle.luo_source.specs.declared.names.Name.{Name}
-use Rattle.luo_source.specs.declared.source.ProcDef.{ProcDef}
-use Rattle.luo_source.specs.declared.source.Source.{Source}
+use Rattle.luo_source.specs.Plain.Source.{ProcDef, Source}
 use Rattle.luo_rules.specs.declared.names.Meaning.TheVariants as mean
 use Rattle.luo_rules.specs.Meanings.{meaning, procedure_use, procedure_of}
 use Rattle.luo_rules.specs.Settings.{meant}

@@ -9,10 +9,7 @@ use Rattle.luo_model.specs.Tree.{Tree, size_of}
 use Rattle.luo_read.specs.declared.answers.StructError.{StructError}
 use Rattle.luo_read.specs.declared.answers.StructError.TheVariants.{Long, S1, Deep, S2, S3, NoMemory}
 use Rattle.luo_read.specs.Reading.{Reads, Refusal, IsNamed}
-use Rattle.luo_source.specs.declared.source.ProcBody.{ProcBody}
-use Rattle.luo_source.specs.declared.source.ProcBody.TheVariants.{Statements, Value}
-use Rattle.luo_source.specs.declared.source.ProcDef.{ProcDef}
-use Rattle.luo_source.specs.declared.source.Source.{Source}
+use Rattle.luo_source.specs.Plain.Source.{ProcBody, Statements, Value, ProcDef, Source}
 use Rattle.luo_rules.specs.Checks.{IsSource}
 use Rattle.luo_rules.specs.Nodes.{setting_of}
 use Rattle.luo_rules.specs.Whole.{breaches, core, proc_core, result_core}

@@ -4,6 +4,7 @@ use Rattle.luo_num.specs.declared.limits.TheConstants.{SIZE_LIMIT, SAMPLE_LIMIT}
 use Rattle.luo_model.specs.Founded.{IsFounded}
 use Rattle.luo_scan.specs.declared.token.Token.{Token}
 use Rattle.luo_source.specs.declared.source.Source.{Source}
+use Rattle.luo_source.specs.View.{plain_source}
 use Rattle.luo_source.specs.Grammar.{Derives}
 use Rattle.luo_syntax.specs.Viable.{IsShallow}
 use Rattle.luo_scan.specs.Lexemes.{lexemes}
@@ -40,26 +41,26 @@ head x xs e = cc
 no_syntax : (text : List ℕ) (ts : List Token) (s : Source) → Derives text ts s → IsShallow (lexemes text ts) → HasNone (SyntaxRefusal text ts)
 no_syntax text ts s d shallow a (e, other, x, same) = never_both text ts (s, d, shallow) (e, other, x)
 
-no_core : (text : List ℕ) (g : IsGood text) (ts : List Token) → HasNone (CoreRefusal text ts g.source)
+no_core : (text : List ℕ) (g : IsGood text) (ts : List Token) → HasNone (CoreRefusal text ts (plain_source g.source))
 no_core text g ts a (inl (which, (rest, e), same)) = head which rest (sym g.within ∙ e)
 no_core text g ts a (inr (_, inl (b, (rest, e), same))) = head b rest (sym g.unbroken ∙ e)
 no_core text g ts a (inr (_, inr (_, ((clean, more), same)))) = absurd (omega (arith, g.walks, more))
 
 -- the steps hand on the core form of the source
-pub sampled_hands : (number : ℕ) (g : IsGood (Sample number)) → (sampled number).hands (core g.source)
+pub sampled_hands : (number : ℕ) (g : IsGood (Sample number)) → (sampled number).hands (core (plain_source g.source))
 unfolding ◌and_then◌
 sampled_hands number g = (
   g.tokens,
   (no_fault (Sample number) g.tokens g.scanned, g.scanned),
-  (g.source, (no_syntax (Sample number) g.tokens g.source g.derived g.shallow, g.derived), (no_core (Sample number) g g.tokens, (g.unbroken, refl))),
+  (plain_source g.source, (no_syntax (Sample number) g.tokens g.source g.derived g.shallow, (g.source, g.derived, refl)), (no_core (Sample number) g g.tokens, (g.unbroken, refl))),
 )
 
 no_refusal : (number : ℕ) → number < 2 ^ 64 → (a : Answer) → (sampled number and_then founded).refuses a → ⊥
 unfolding ◌and_then◌
-no_refusal number l a (inl r) = let g = each_is_good number l in (text_program-sole (Sample number)).apart a (core g.source) r (sampled_hands number g)
+no_refusal number l a (inl r) = let g = each_is_good number l in (text_program-sole (Sample number)).apart a (core (plain_source g.source)) r (sampled_hands number g)
 no_refusal number l a (inr (p, h, (e, b, same))) =
     let g = each_is_good number l in
-    let one : p ≡ core g.source = (text_program-sole (Sample number)).hands p (core g.source) h (sampled_hands number g) in
+    let one : p ≡ core (plain_source g.source) = (text_program-sole (Sample number)).hands p (core (plain_source g.source)) h (sampled_hands number g) in
     founded_keeps p (subst IsFounded (sym one) g.founded) e b
 
 steps_taken : (number n : ℕ) → number < 2 ^ 64 → (a : Answer) → (sample number n).refuses a → IsTaken a

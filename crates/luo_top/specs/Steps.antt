@@ -1,11 +1,13 @@
 -- The steps that commands share from a file to its source and its program.
-use Rattle.std.specs.Prelude.{ℕ, List}
+use Rattle.std.specs.Prelude.{◌≡◌, ℕ, List}
 use Rattle.luo_finite.specs.Steps.{◌or_else◌}
 use Rattle.luo_model.specs.Program.{Program}
 use Rattle.luo_num.specs.declared.limits.TheConstants.{TEXT_LIMIT}
 use Rattle.luo_scan.specs.declared.token.Token.{Token}
 use Rattle.luo_scan.specs.Tokens.{Tokens}
-use Rattle.luo_source.specs.declared.source.Source.{Source}
+use Rattle.luo_source.specs.declared.source.Source as declared
+use Rattle.luo_source.specs.Plain.Source.{Source}
+use Rattle.luo_source.specs.View.{plain_source}
 use Rattle.luo_source.specs.Grammar.{Derives}
 use Rattle.luo_rules.specs.Whole.{IsCore}
 use Rattle.luo_answer.specs.Answer.{Answer}
@@ -22,9 +24,14 @@ text_of = reading TEXT_LIMIT bytes_line
 abbrev pub tokens_of : List ℕ → Step (List Token)
 tokens_of text = LexicalRefusal text or_makes Tokens text
 
+-- the source that these tokens derive, as plain data
+abbrev pub IsRead : List ℕ → List Token → Source → Type 0
+IsRead text tokens source =
+    (read : declared.Source) × Derives text tokens read × (plain_source read ≡ source)
+
 -- tokens that are no program or open too much, and else the source
 abbrev pub source_of : List ℕ → List Token → Step Source
-source_of text tokens = SyntaxRefusal text tokens or_makes Derives text tokens
+source_of text tokens = SyntaxRefusal text tokens or_makes IsRead text tokens
 
 -- in this order: the first limit that is passed, the first breach of a rule, the limit on walks
 abbrev pub CoreRefusal : List ℕ → List Token → Source → Answer → Type 0

@@ -3,7 +3,7 @@ ghost use Rattle.std.specs.Prelude.{◌≡◌, ◌++◌, flat_map, IfOk, OnOk};
 ghost use Rattle.luo_scan.specs.Faults.{IsFault};
 ghost use Rattle.luo_scan.specs.Lexemes.{lexemes};
 ghost use Rattle.luo_syntax.specs.Viable.{Explains};
-ghost use Rattle.luo_source.specs.declared.source.Source.{Source};
+ghost use Rattle.luo_source.specs.Plain.Source.{Source};
 ghost use Rattle.luo_rules.specs.Checks.{IsUnchecked};
 ghost use Rattle.luo_answer.specs.Lines.{line};
 ghost use Rattle.luo_answer.specs.inner.Passes.{RefusedBy};

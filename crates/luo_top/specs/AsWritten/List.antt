@@ -4,9 +4,8 @@ use Rattle.luo_finite.specs.Listing.{In, Lists, Pairwise}
 use Rattle.luo_model.specs.Order.{IsBefore}
 use Rattle.luo_model.specs.Tree.{Tree}
 use Rattle.luo_source.specs.declared.names.Name.{Name}
-use Rattle.luo_source.specs.declared.source.Source.{Source}
-use Rattle.luo_source.specs.declared.types.TypeDef.{TypeDef}
-use Rattle.luo_source.specs.declared.types.TypeExpr.{Named}
+use Rattle.luo_source.specs.Plain.Source.{Source}
+use Rattle.luo_source.specs.Plain.Types.{TypeDef, Named}
 use Rattle.luo_meaning.specs.Rows.{IsStructureOf}
 use Rattle.luo_answer.specs.declared.status.Status.TheVariants.{Refused}
 use Rattle.luo_answer.specs.Commands.List.{counted, lines_from}

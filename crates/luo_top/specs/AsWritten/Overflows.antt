@@ -2,7 +2,7 @@
 use Rattle.std.specs.Prelude.{◌≡◌, ℕ, ◌++◌, List, codes, decimal}
 use Rattle.luo_model.specs.declared.table.Entry.{Entry}
 use Rattle.luo_model.specs.declared.table.Fill.{Fill}
-use Rattle.luo_source.specs.declared.source.Source.{Source}
+use Rattle.luo_source.specs.Plain.Source.{Source}
 use Rattle.luo_meaning.specs.Entries.{IsEntryText, IsFirstOver}
 use Rattle.luo_answer.specs.declared.status.Status.TheVariants.{Overflow}
 use Rattle.luo_answer.specs.Answer.{Answer, Refusal}

@@ -3,8 +3,7 @@ use Rattle.std.specs.Prelude.{◌≡◌, ℕ, ◌+◌, List, [], ◌∷◌, ◌+
 use Rattle.luo_model.specs.declared.table.Row.{Row}
 use Rattle.luo_report.specs.Report.{line, row_text, universe_text, equation_line}
 use Rattle.luo_source.specs.declared.names.Name.{Name}
-use Rattle.luo_source.specs.declared.source.ProcDef.{ProcDef}
-use Rattle.luo_source.specs.declared.source.Source.{Source}
+use Rattle.luo_source.specs.Plain.Source.{ProcDef, Source}
 use Rattle.luo_rules.specs.Whole.{core}
 use Rattle.luo_system.specs.System.{system}
 use Rattle.luo_meaning.specs.Defined.{DefinesProcedure}

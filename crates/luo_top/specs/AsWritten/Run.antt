@@ -10,11 +10,8 @@ use Rattle.luo_read.specs.Nesting.{IsTooDeep}
 use Rattle.luo_read.specs.Reading.{IsReadable}
 use Rattle.luo_read.specs.Written.{IsUnreadable}
 use Rattle.luo_source.specs.declared.names.Name.{Name}
-use Rattle.luo_source.specs.declared.source.ProcBody.{ProcBody}
-use Rattle.luo_source.specs.declared.source.ProcBody.TheVariants.{Statements, Value}
-use Rattle.luo_source.specs.declared.source.ProcDef.{ProcDef}
-use Rattle.luo_source.specs.declared.source.Source.{Source}
-use Rattle.luo_source.specs.declared.types.TypeExpr.{Named}
+use Rattle.luo_source.specs.Plain.Source.{ProcBody, Statements, Value, ProcDef, Source}
+use Rattle.luo_source.specs.Plain.Types.{Named}
 use Rattle.luo_meaning.specs.Charges.{ProcCharges}
 use Rattle.luo_meaning.specs.Defined.{DefinesProcedure}
 use Rattle.luo_meaning.specs.Made.{ProcMakes}

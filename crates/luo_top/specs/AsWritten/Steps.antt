@@ -6,7 +6,7 @@ use Rattle.luo_num.specs.declared.TheConstants.{MAX}
 use Rattle.luo_num.specs.declared.limits.TheConstants.{WALK_LIMIT}
 use Rattle.luo_model.specs.declared.table.Fill.TheVariants.{All, Counts}
 use Rattle.luo_scan.specs.declared.token.Token.{Token}
-use Rattle.luo_source.specs.declared.source.Source.{Source}
+use Rattle.luo_source.specs.Plain.Source.{Source}
 use Rattle.luo_rules.specs.declared.error.CountLimit.TheVariants.{Walks}
 use Rattle.luo_rules.specs.declared.rule.Breach.{Breach}
 use Rattle.luo_rules.specs.Whole.{core}

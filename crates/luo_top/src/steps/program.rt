@@ -2,7 +2,7 @@
 ghost use Rattle.std.specs.Prelude.{[], ◌∷◌};
 ghost use Rattle.luo_model.specs.View.{plain_of};
 ghost use Rattle.luo_scan.specs.Tokens.{Tokens};
-ghost use Rattle.luo_source.specs.Grammar.{Derives};
+ghost use Rattle.luo_source.specs.View.{plain_source};
 ghost use Rattle.luo_answer.specs.inner.Passes.{Passes, PassesOver, seen};
 ghost use Rattle.luo_top.specs.Steps as steps;
 
@@ -26,8 +26,8 @@ pub fn core_of(
     source: &Source,
 ) -> Result<Program, Refusal>
     requires scanned { Tokens text.now tokens.now }
-    requires derived { Derives text.now tokens.now source.now }
-    ensures { Passes plain_of (steps.core_of text.now tokens.now source.now) result }
+    requires derived { steps.IsRead text.now tokens.now (plain_source source.now) }
+    ensures { Passes plain_of (steps.core_of text.now tokens.now (plain_source source.now)) result }
 {
     match check(alloc, source) {
         Ok(program) => Ok(program),

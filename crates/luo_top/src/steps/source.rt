@@ -2,6 +2,7 @@
 ghost use Rattle.std.specs.Prelude.{◌≤◌, [], ◌∷◌, length};
 ghost use Rattle.luo_num.specs.declared.limits.TheConstants.{TEXT_LIMIT};
 ghost use Rattle.luo_scan.specs.Tokens.{Tokens};
+ghost use Rattle.luo_source.specs.View.{plain_source};
 ghost use Rattle.luo_answer.specs.inner.Passes.{Passes, PassesOver, seen, itself};
 ghost use Rattle.luo_top.specs.Steps as steps;
 
@@ -29,7 +30,7 @@ pub fn tokens_of(alloc: Global, text: &Text) -> Result<Items<Token>, Refusal>
 /// The source of tokens.
 pub fn source_of(alloc: Global, text: &Text, tokens: &Items<Token>) -> Result<Source, Refusal>
     requires scanned { Tokens text.now tokens.now }
-    ensures { Passes itself (steps.source_of text.now tokens.now) result }
+    ensures { Passes plain_source (steps.source_of text.now tokens.now) result }
 {
     match parse(alloc, text.as_slice(), tokens.as_slice()) {
         Ok(source) => Ok(source),
@@ -39,7 +40,7 @@ pub fn source_of(alloc: Global, text: &Text, tokens: &Items<Token>) -> Result<So
 
 /// The source of a file.
 pub fn file_source<F: Files>(alloc: Global, files: &mut F, file: &str) -> Result<Source, Refusal>
-    ensures { PassesOver itself (file.now ∷ []) (steps.file_source file.now)
+    ensures { PassesOver plain_source (file.now ∷ []) (steps.file_source file.now)
         (seen F.named F.faults files.old files.new) result }
 {
     let text = text_of(alloc, files, file)?;
