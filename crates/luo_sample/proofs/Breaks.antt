@@ -33,7 +33,7 @@ use Rattle.luo_rules.specs.Definitions.{Definition, values, copies, definitions,
 use Rattle.luo_rules.specs.inner.Naming.{node_of}
 use Rattle.luo_rules.specs.Nodes.{named_node, defs_from, setting_of, signature_of}
 use Rattle.luo_rules.specs.TypeBreaches.{is_meaning, name_breaches, kind_breaches, expr_breaches, type_breaches, types_breaches, measures_breaches}
-use Rattle.luo_rules.specs.StatementBreaches.{count_arms, stmt_breaches, stmts_breaches, arms_breaches, walk_into, walk_breaches, walked}
+use Rattle.luo_rules.specs.StatementBreaches.{count_arms, stmt_breaches, arms_breaches, walk_into, walk_breaches, walked}
 use Rattle.luo_rules.specs.Whole.{breaches, body_breaches, proc_breaches, procs_breaches, parameter}
 use Rattle.luo_rules.proofs.Lists.{index_get}
 use Rattle.luo_sample.specs.declared.choice.Choice.{Choice}

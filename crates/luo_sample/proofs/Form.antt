@@ -31,10 +31,10 @@ type_form_with kind i c ks = record {
   body = Union (
       an_expr (Named (at (codes "z") (token ks 1))) (
       an_expr (Product (an_expr (Named (at (codes "z") (token ks 2))) (
-          an_expr (Named (at (type_name c.first) (token ks 3))) (
-          an_expr (Named (at (type_name c.second) (token ks 4))) no_exprs))) (token ks 5)) (
+      an_expr (Named (at (type_name c.first) (token ks 3))) (
+      an_expr (Named (at (type_name c.second) (token ks 4))) no_exprs))) (token ks 5)) (
       an_expr (Product (an_expr (Named (at (codes "z") (token ks 6))) (
-          an_expr (Coll kind (Named (at (type_name c.inner) (token ks 7))) None (token ks 8)) no_exprs)) (token ks 9))
+      an_expr (Coll kind (Named (at (type_name c.inner) (token ks 7))) None (token ks 8)) no_exprs)) (token ks 9))
       no_exprs)));
 }
 

@@ -4,7 +4,7 @@ use Rattle.std.proofs.lemmas.List.Sums.{sum_by-cons}
 use Rattle.luo_model.specs.declared.program.Kind.{Kind}
 use Rattle.luo_source.specs.declared.types.Bound.{Bound}
 use Rattle.luo_source.specs.declared.types.TypeExpr.{TypeExpr, Union, Product, Coll}
-use Rattle.luo_source.specs.View.{expr_of, expr_list}
+use Rattle.luo_source.specs.View.{expr_list}
 use Rattle.luo_source.proofs.ViewLemmas.{union_expr, product_expr, coll_expr}
 use Rattle.luo_rules.specs.Counted.{multiset_of, greatest_of, own_nodes, own_nodes_of, own_multisets, own_multisets_of, most_parts, most_parts_of, greatest_bound, greatest_bound_of, greatest_by, count_exprs}
 use Rattle.luo_types.specs.inner.Held.{nodes_in, multisets_in, parts_in, bound_in}

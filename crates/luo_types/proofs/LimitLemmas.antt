@@ -7,8 +7,6 @@ use Rattle.luo_num.specs.declared.limits.TheConstants.{ANALYSIS_LIMIT, BOUND_LIM
 use Rattle.luo_source.specs.declared.source.Source.{Source}
 use Rattle.luo_rules.specs.declared.error.CountLimit.{CountLimit}
 use Rattle.luo_rules.specs.declared.error.CountLimit.TheVariants.{Definitions, Nodes, Parts, Bounds, Multisets, Procedures, Statements, Analyses}
-use Rattle.luo_source.specs.declared.types.TypeDef.{TypeDef}
-use Rattle.luo_source.specs.declared.source.ProcDef.{ProcDef}
 use Rattle.luo_source.specs.View.{type_def_of, proc_def_of, plain_source}
 use Rattle.luo_rules.specs.Counted.{passed, limits_passed, own_nodes, own_multisets, most_parts, greatest_bound, greatest_by, body_statements}
 use Rattle.luo_types.specs.inner.Held.{nodes_in, multisets_in, parts_in, bound_in, body_statements_in}

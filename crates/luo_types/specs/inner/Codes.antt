@@ -1,6 +1,5 @@
 -- How the logic stores a definition.
-use Rattle.std.specs.Prelude.{◌≡◌}
-use Rattle.std.proofs.Common.{refl, ap}
+use Rattle.std.proofs.Common.{ap}
 use Rattle.std.specs.Coded.{Coded, code_by, codes}
 use Rattle.luo_source.specs.contracts.types.TypeExpr as expr
 use Rattle.luo_source.specs.declared.names.Name.{Name}
