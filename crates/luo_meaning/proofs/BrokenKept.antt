@@ -19,7 +19,7 @@ use Rattle.luo_rules.proofs.BrokenLemmas.{In_flat, flat_In, own_breaks, breaks_o
 use Rattle.luo_rules.proofs.CleanSource.{sound_all}
 use Rattle.luo_rules.proofs.DefinitionFacts.{SoundAll}
 use Rattle.luo_rules.proofs.ProperSource.{source_proper}
-use Rattle.luo_rules.proofs.RiseSource.{first_breach_is_least, breaches_are_single}
+use Rattle.luo_rules.proofs.Rise.Source.{first_breach_is_least, breaches_are_single}
 use Rattle.luo_meaning.specs.Places.{Placed, of_name}
 use Rattle.luo_meaning.specs.Scopes.{one_variable}
 use Rattle.luo_meaning.specs.Broken.{WantedResult, the_type, no_type, ValueBreaks, BodyBreaks, ProcBreaks, ProcsBreak, DefinitionsBreak, ProceduresBreak, IsBrokenIn, IsFirstBrokenIn}

@@ -17,7 +17,7 @@ use Rattle.luo_rules.specs.Whole.{breaches}
 use Rattle.luo_rules.specs.BrokenLaws.{ListedIsBroken, BrokenIsListed, BreaksNothing, TellsFirstBroken, FirstBreachIsFirstBroken, FirstBrokenIsFirstBreach, NoBreachBreaksNothing, NothingBrokenIsNoBreach}
 use Rattle.luo_rules.proofs.AskedBreaches.{own, all, first_of, later_of, first_all, later_all}
 use Rattle.luo_rules.proofs.BrokenLemmas.{In_flat, flat_In, own_breaks, breaks_own}
-use Rattle.luo_rules.proofs.RiseSource.{first_in_order, first_breach_is_least, breaches_are_single}
+use Rattle.luo_rules.proofs.Rise.Source.{first_in_order, first_breach_is_least, breaches_are_single}
 
 in_either : (xs ys : List Breach) (b : Breach) → In b (xs or_if_none ys) → In b xs ⊎ In b ys
 in_either [] ys b i = inr i

@@ -24,7 +24,7 @@ use Rattle.luo_rules.specs.declared.names.Meaning.{Meaning}
 use Rattle.luo_rules.specs.Counted as counted
 use Rattle.luo_rules.specs.Counted.{own_nodes, own_multisets, own_multisets_of, count_exprs, most_parts, most_parts_of, greatest_bound, greatest_bound_of, greatest_in, greatest_of}
 use Rattle.luo_rules.specs.Definitions.{Definition, copies, first_node}
-use Rattle.luo_rules.specs.TypeBreaches.{expr_breaches, exprs_breaches, kind_breaches, bound_breaches, least_of, low_in, high_in, low_of, high_of, is_at_most, is_low}
+use Rattle.luo_rules.specs.TypeBreaches.{expr_breaches, kind_breaches, bound_breaches, least_of, low_in, high_in, low_of, high_of, is_at_most, is_low}
 use Rattle.luo_rules.specs.Nodes.{Spot, behind, parts_at, part_at, nodes_at, all_nodes_at, start, nodes_from}
 use Rattle.luo_rules.proofs.Lists.{some_same, none_some, nil_left, nil_right, chosen_true}
 use Rattle.luo_rules.proofs.DefinitionFacts.{SoundAll}

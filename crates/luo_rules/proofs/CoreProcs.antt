@@ -23,7 +23,7 @@ use Rattle.luo_rules.specs.Settings.{meant, def_node, node_meant, type_node, par
 use Rattle.luo_rules.specs.ValueBreaches.{value_breaches}
 use Rattle.luo_rules.specs.ValueCore.{value_core}
 use Rattle.luo_rules.specs.Counted.{stmts_statements, body_statements}
-use Rattle.luo_rules.specs.StatementCore.{stmts_own, stmts_sites, stmts_items}
+use Rattle.luo_rules.specs.StatementCore.{stmts_own}
 use Rattle.luo_rules.specs.Nodes.{setting_of}
 use Rattle.luo_rules.specs.Whole.{result_breaches, parameter, body_breaches, body_core, sites_of, result_core, proc_core, procs_core}
 use Rattle.luo_rules.proofs.Lists.{none_some, some_same}

@@ -3,13 +3,7 @@ pub mod ValueForms
 pub mod ListFacts
 pub mod NameLemmas
 pub mod SettingLemmas
-pub mod RiseLists
-pub mod RiseNames
-pub mod RiseTypes
-pub mod RisePatterns
-pub mod RiseStatements
-pub mod RiseValues
-pub mod RiseSource
+pub mod Rise
 pub mod AskedBreaches
 pub mod BrokenLemmas
 pub mod BrokenFirst

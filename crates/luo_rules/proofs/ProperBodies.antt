@@ -1,5 +1,5 @@
 -- What the grammar gives of statements and values: a case has an arm.
-use Rattle.std.proofs.Common.{ℕ, ◌≤◌, List, ◌∷◌, sym, subst, arith}
+use Rattle.std.proofs.Common.{◌≤◌, List, ◌∷◌, sym, subst, arith}
 use Rattle.luo_scan.specs.Lexemes.{Lexeme}
 use Rattle.luo_source.specs.declared.statements.SourceArm.{SourceArm}
 use Rattle.luo_source.specs.declared.statements.Stmt as read

@@ -1,5 +1,5 @@
 -- What the grammar gives of the right side of a definition: a union and a product have at least two parts.
-use Rattle.std.proofs.Common.{ℕ, ◌≤◌, List, ◌∷◌, sym, subst, arith}
+use Rattle.std.proofs.Common.{◌≤◌, List, ◌∷◌, sym, subst, arith}
 use Rattle.luo_scan.specs.Lexemes.{Lexeme}
 use Rattle.luo_source.specs.declared.types.TypeExpr as read
 use Rattle.luo_source.specs.Plain.Types.{TypeExpr, Named, Epsilon, Atom, Union, Product, Coll, TypeExprs, no_exprs, an_expr}

@@ -7,7 +7,6 @@ use Rattle.luo_model.specs.Scopes.ValueBodies.{value_body, value_sites}
 use Rattle.luo_model.specs.Scopes.Walks.{body_walks}
 use Rattle.luo_model.specs.Invariant.{sites_from}
 use Rattle.luo_source.specs.declared.names.Name.{Name}
-use Rattle.luo_source.specs.Plain.Statements.{Stmt}
 use Rattle.luo_source.specs.Plain.Source.{ProcBody, Statements, Value, ProcDef, Source}
 use Rattle.luo_rules.specs.declared.names.Meaning.TheVariants as mean
 use Rattle.luo_rules.specs.declared.rule.Breach.{Breach}

@@ -16,7 +16,7 @@ use Rattle.luo_rules.specs.declared.setting.Setting.{Setting}
 use Rattle.luo_rules.specs.Breaches.{StopsAt}
 use Rattle.luo_rules.specs.Patterns.{bound, bind_of}
 use Rattle.luo_value_types.specs.inner.Room.{HasRoom}
-use Rattle.luo_rules.specs.inner.ValueLists.{arm_list}
+use Rattle.luo_model.specs.Lists.{arm_list}
 use Rattle.luo_rules.proofs.Joins.{join_arms, arm_list_append}
 use Rattle.luo_value_types.proofs.StopLemmas.{StopsAt-left}
 use Rattle.luo_rules.specs.inner.StatementLists.{stmt_does, one_arm_breaches, arm_statements}

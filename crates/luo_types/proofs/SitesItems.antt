@@ -11,8 +11,8 @@ use Rattle.luo_model.specs.Scopes.Stands.{stands, component, part_at}
 use Rattle.luo_model.specs.Scopes.Sites.{body_sites, item_sites, arms_sites}
 use Rattle.luo_model.specs.Scopes.Walks.{body_items, item_in, arms_in, multiset_of, body_walks, item_walks, arms_walks}
 use Rattle.luo_model.specs.View.{body_of, item_of}
-use Rattle.luo_rules.specs.inner.ValueLists.{arm_list}
-use Rattle.luo_value_types.proofs.CoreForms.{case_item}
+use Rattle.luo_model.specs.Lists.{arm_list}
+use Rattle.luo_model.proofs.ViewLemmas.{case_item}
 use Rattle.luo_types.specs.inner.SitesFound.{nodes_of, IsFound}
 use Rattle.luo_types.specs.declared.sites.Found.{Found}
 use Rattle.luo_model.proofs.ViewLemmas.{walk_item}

@@ -13,7 +13,7 @@ use Rattle.luo_model.specs.Scopes.Stands.{Stand, stands, component, bound_parts,
 use Rattle.luo_model.specs.Scopes.Sites.{body_sites, items_sites, item_sites, arms_sites}
 use Rattle.luo_model.specs.Scopes.Walks.{body_items, items_in, item_in, arms_in, multiset_of, body_walks, items_walks, item_walks, arms_walks}
 use Rattle.luo_model.specs.View.{body_of, item_of, item_list}
-use Rattle.luo_rules.specs.inner.ValueLists.{arm_list}
+use Rattle.luo_model.specs.Lists.{arm_list}
 use Rattle.luo_types.specs.inner.SitesFound.{nodes_of, IsFound}
 use Rattle.luo_types.specs.declared.sites.Found.{Found}
 use Rattle.luo_types.proofs.ArmsSoFar.{at-element, drop-get}

@@ -25,7 +25,7 @@ use Rattle.luo_rules.specs.Patterns.{case_breaches}
 use Rattle.luo_rules.specs.Settings.{meant, signature_meant, shape_at, found, place_of, argument_breaches, case_stands}
 use Rattle.luo_value_types.specs.inner.Room.{HasRoom}
 use Rattle.luo_rules.specs.inner.ValueMade.{extended}
-use Rattle.luo_value_types.proofs.CoreForms.{case_item}
+use Rattle.luo_model.proofs.ViewLemmas.{case_item}
 use Rattle.luo_model.proofs.ViewLemmas.{walk_item}
 use Rattle.luo_rules.proofs.Joins.{items_none, item_list_append, extended_none, extended_empty}
 use Rattle.luo_value_types.proofs.StopLemmas.{none-append, case-arms}

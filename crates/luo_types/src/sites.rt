@@ -6,7 +6,7 @@ ghost use Rattle.luo_model.specs.Scopes.Walks as walking;
 ghost use Rattle.luo_model.specs.View.{body_of, item_of, item_list, procedure_of};
 ghost use Rattle.luo_rules.specs.Settings.{shape_at, types_of};
 ghost use Rattle.luo_value_types.specs.inner.Stands.{stand_of};
-ghost use Rattle.luo_rules.specs.inner.ValueLists.{arm_list};
+ghost use Rattle.luo_model.specs.Lists.{arm_list};
 ghost use Rattle.luo_types.specs.inner.SitesFound.{nodes_of, IsFound, sites_at, sites_in, procedure_walks, procedure_items};
 
 use luo_model::{Arm, Bind, Body, Item, Kind, Part, Proc, Shape, Site};

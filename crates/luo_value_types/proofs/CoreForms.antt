@@ -1,16 +1,13 @@
--- Values and items of the code whose parts and arms are in a list or a box, as plain data.
-use Rattle.std.proofs.Common.{◌≡◌, ℕ, List, refl, ap, ◌∙◌, sym}
+-- Values of the code whose parts and arms are in a list or a box, as plain data.
+use Rattle.std.proofs.Common.{◌≡◌, ℕ, List, refl, ap, ◌∙◌}
 use mathlib.Core.Former.{Count}
 use denote.Hole.Carrier.{hidden}
-use Rattle.luo_model.specs.declared.body.Arm.{Arm}
-use Rattle.luo_model.specs.declared.body.Item.{Item, Row_of-Item, end_of-Item, more_of-Item, items-the_row-Item, items_shown-the_row-Item-0, Row_of-Arm, end_of-Arm, more_of-Arm, items-the_row-Arm, items_hidden-the_row-Arm-1}
-use Rattle.luo_model.specs.declared.body.Item as done
 use Rattle.luo_model.specs.declared.value.ValueArm.{ValueArm}
 use Rattle.luo_model.specs.declared.value.Value.{Value, Row_of-Value, end_of-Value, more_of-Value, items-the_row-Value, items_hidden-the_row-Value-0, Row_of-ValueArm, end_of-ValueArm, more_of-ValueArm, items-the_row-ValueArm, items_hidden-the_row-ValueArm-2}
 use Rattle.luo_model.specs.declared.value.Value as made
 use Rattle.luo_model.specs.Program as plain
-use Rattle.luo_model.specs.View.{value_of, values_of, value_arms_of, item_of, item_list, items_of, arms_of}
-use Rattle.luo_rules.specs.inner.ValueLists.{value_list, value_arm_list, arm_list}
+use Rattle.luo_model.specs.View.{value_of, values_of, value_arms_of}
+use Rattle.luo_rules.specs.inner.ValueLists.{value_list, value_arm_list}
 
 abbrev parts_in : Value → (k : Count) × Row_of-Value k
 parts_in (made.Tuple' _ row) = (_, row)
@@ -37,18 +34,3 @@ branch_form number inner = refl
 
 pub case_form : (var : ℕ) (arms : List ValueArm) → value_of (made.Case var arms) ≡ plain.Chosen var (value_arm_list arms)
 case_form var arms = let row = value_arms_in (made.Case var arms) in ap (plain.Chosen var) (value_arms_row row.0 row.1 ∙ ap value_arm_list (items_hidden-the_row-ValueArm-2 arms))
-
-abbrev arms_in : Item → (k : Count) × Row_of-Arm k
-arms_in (done.Case' _ _ row _) = (_, row)
-arms_in _ = (_, end_of-Arm)
-
-items_row : (k : _) (row : Row_of-Item k) → items_of row ≡ item_list (items-the_row-Item k row)
-items_row k end_of-Item = refl
-items_row k (more_of-Item i rest) = ap (plain.item (item_of i)) (items_row _ rest)
-
-arms_row : (k : _) (row : Row_of-Arm k) → arms_of row ≡ arm_list (items-the_row-Arm k row)
-arms_row k end_of-Arm = refl
-arms_row k (more_of-Arm bind own shape items rest) = ap (λ z. plain.arm bind (plain.Does own z) (arms_of rest)) (items_row _ items ∙ ap item_list (sym (items_shown-the_row-Item-0 shape items))) ∙ ap (λ z. plain.arm bind (plain.Does own (item_list (Rattle.luo_model.specs.declared.body.Item.TheBlock.shown-the_row-Item-0 shape items))) z) (arms_row _ rest)
-
-pub case_item : (var : ℕ) (arms : List Arm) (site : ℕ) → item_of (done.Case var arms site) ≡ plain.Case var (arm_list arms) site
-case_item var arms site = let row = arms_in (done.Case var arms site) in ap (λ z. plain.Case var z site) (arms_row row.0 row.1 ∙ ap arm_list (items_hidden-the_row-Arm-1 arms))

@@ -44,7 +44,8 @@ use Rattle.luo_rules.proofs.Joins.{items_none, extended_none, item_list_append}
 use Rattle.luo_value_types.proofs.StopLemmas.{StopsAt-left, none-append, case-arms}
 use Rattle.luo_rules.proofs.ValueForms.{tuple_breaches, tuple_core, tuple_statements, branch_breaches, branch_core, branch_statements, case_value_breaches, case_core, case_statements}
 use Rattle.luo_value_types.proofs.ValueRoom.{sites_within}
-use Rattle.luo_value_types.proofs.CoreForms.{tuple_form, branch_form, case_form, case_item}
+use Rattle.luo_model.proofs.ViewLemmas.{case_item}
+use Rattle.luo_value_types.proofs.CoreForms.{tuple_form, branch_form, case_form}
 
 -- a check that hands a stop on
 pub stopped : {V : Type 0} (r : Result V Stop) (e : Stop) (bs : List Breach) (P : V → Type 0) → IsErrAnd r (λ y. y ≡ e) → StopsAt bs e → Checks bs r P

@@ -6,6 +6,7 @@ use Rattle.luo_model.specs.declared.value.Value.{Value}
 use Rattle.luo_model.specs.declared.value.ValueArm.{ValueArm}
 use Rattle.luo_model.specs.Program as plain
 use Rattle.luo_model.specs.Scopes.ValueBodies.{values_own, values_sites, values_items, value_arms_sites, value_arm_bodies}
+use Rattle.luo_model.specs.Lists.{arm_list}
 use Rattle.luo_model.specs.View.{value_of, body_of}
 use Rattle.luo_rules.specs.declared.rule.Breach.{Breach}
 use Rattle.luo_rules.specs.inner.ValueMade.{extended}
@@ -18,10 +19,6 @@ value_list (v ∷ vs) = plain.value (value_of v) (value_list vs)
 abbrev pub value_arm_list : List ValueArm → plain.ValueArms
 value_arm_list [] = plain.no_value_arms
 value_arm_list (a ∷ arms) = plain.value_arm a.bind (value_of a.value) (value_arm_list arms)
-
-abbrev pub arm_list : List Arm → plain.Arms
-arm_list [] = plain.no_arms
-arm_list (a ∷ arms) = plain.arm a.bind (body_of a.body) (arm_list arms)
 
 -- parts are made, as a value is
 pub record AreMade (breaches : List Breach) (core : plain.Values) (vs : List Value) (old new : Body)

@@ -15,7 +15,7 @@ use Rattle.luo_rules.specs.declared.setting.Setting.{Setting}
 use Rattle.luo_rules.specs.declared.setting.Variable.{Variable}
 use Rattle.luo_rules.specs.Patterns.{bind_of, bound}
 use Rattle.luo_rules.specs.Settings.{place_of}
-use Rattle.luo_rules.specs.inner.ValueLists.{arm_list}
+use Rattle.luo_model.specs.Lists.{arm_list}
 use Rattle.luo_rules.specs.inner.ValueMade.{extended}
 use Rattle.luo_rules.specs.StatementBreaches.{walked, walk_breaches, stmt_breaches, stmts_breaches, arms_breaches}
 use Rattle.luo_rules.specs.StatementCore.{stmt_sites, stmts_sites, arms_sites, arms_core}

@@ -1,4 +1,4 @@
-use Rattle.luo_rules.proofs.RiseSource as rise
+use Rattle.luo_rules.proofs.Rise.Source as rise
 use Rattle.luo_rules.proofs.laws.breaches_are_single.Goals as goal
 
 pub returns : goal.returns

@@ -1,4 +1,4 @@
-use Rattle.std.proofs.Common.{◌≡◌, ◌++◌, drop, map}
+use Rattle.std.proofs.Common.{◌≡◌, ◌++◌, drop}
 use Rattle.luo_rules.specs.Patterns.{variables}
 use Rattle.luo_value_types.proofs.patterns.variables.Given as goal
 

@@ -13,8 +13,8 @@ use Rattle.luo_rules.specs.declared.rule.Breach.{Breach}
 use Rattle.luo_rules.specs.declared.setting.Setting.{Setting}
 use Rattle.luo_rules.specs.Settings.{meant, argument_breaches, case_stands}
 use Rattle.luo_rules.specs.Patterns.{fits, first_token, pattern_type_use, factor_names, misfit, pattern_breaches, arm_breaches, case_breaches}
-use Rattle.luo_rules.proofs.RiseLists.{At, none, single, at_if, at_or, nothing, borders, led, within_if}
-use Rattle.luo_rules.proofs.RiseNames.{From, Spans, behind, in_place, from_lower, NamesWithin, no_name, names_lower, names_left, repeated_within, type_use_at}
+use Rattle.luo_rules.proofs.Rise.Lists.{At, none, single, at_if, at_or, nothing, borders, led, within_if}
+use Rattle.luo_rules.proofs.Rise.Names.{From, Spans, behind, in_place, from_lower, NamesWithin, no_name, names_lower, names_left, repeated_within, type_use_at}
 
 -- a pattern that is read from this number on
 record PatternLeft (low : ℕ) (to : List Lexeme) (p : Pattern) : Type 0 where

@@ -18,9 +18,9 @@ use Rattle.luo_rules.specs.Patterns.{bound}
 use Rattle.luo_rules.specs.StatementBreaches.{walk_into, walk_breaches, stmt_breaches, stmts_breaches, arms_breaches}
 use Rattle.luo_rules.specs.inner.StatementLists.{one_arm_breaches}
 use Rattle.luo_rules.proofs.StatementForms.{walk_scope, block-breaches, case-breaches, walk-breaches}
-use Rattle.luo_rules.proofs.RiseLists.{single, nothing, placed, led}
-use Rattle.luo_rules.proofs.RiseNames.{From, Spans, behind, past, alone, from_lower, in_place, measure_use_at, procedure_use_at}
-use Rattle.luo_rules.proofs.RisePatterns.{emptied, pattern_spans, arm_spans, argument_at, case_spans}
+use Rattle.luo_rules.proofs.Rise.Lists.{single, nothing, placed, led}
+use Rattle.luo_rules.proofs.Rise.Names.{From, Spans, behind, past, alone, from_lower, in_place, measure_use_at, procedure_use_at}
+use Rattle.luo_rules.proofs.Rise.Patterns.{emptied, pattern_spans, arm_spans, argument_at, case_spans}
 
 -- a walk before its body
 walk_into_spans : (form : Shape) (source : Name) {low mid : ℕ} {to : List Lexeme} {inner : List Breach} → low ≤ source.at → source.at < mid → Spans mid to inner → Spans low to (walk_into form source inner)

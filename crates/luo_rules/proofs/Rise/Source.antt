@@ -6,9 +6,8 @@ use Rattle.luo_model.specs.declared.program.Universe.{Universe}
 use Rattle.luo_model.specs.declared.program.Universe.TheVariants.{Unlabelled, Labelled}
 use Rattle.luo_scan.specs.Lexemes.{Lexeme}
 use Rattle.luo_source.specs.declared.names.Name.{Name}
-use Rattle.luo_source.specs.Plain.Types.{TypeDef}
 use Rattle.luo_source.specs.declared.types.MeasureDef.{MeasureDef}
-use Rattle.luo_source.specs.Plain.Source.{ProcBody, ProcDef, Source}
+use Rattle.luo_source.specs.Plain.Source.{ProcDef, Source}
 use Rattle.luo_source.specs.GrammarTypes.{IsTypeDef, type_def, IsMeasure, measure_def}
 use Rattle.luo_source.specs.Grammar.{IsProcBody, statements_body, value_body, IsProc, proc, IsAnalyze, analyze, AreAnalyses, last_analysis, more_analyses, FromProcs, no_procs, more_procs, FromMeasures, no_measures, more_measures, FromTypes, no_types, more_types, IsProgram, labelled, unlabelled, unlabelled_unsaid}
 use Rattle.luo_source.specs.declared.types.TypeDef as read
@@ -28,12 +27,12 @@ use Rattle.luo_rules.specs.Nodes.{setting_of}
 use Rattle.luo_rules.specs.Whole.{result_breaches, parameter, body_breaches, proc_breaches, procs_breaches, breaches}
 use Rattle.luo_rules.specs.Checks.{IsSource, BreaksFirst}
 use Rattle.luo_rules.specs.Rising.{Rises}
-use Rattle.luo_rules.proofs.RiseLists.{At, none, single, Within, nothing, borders, lower, higher, joined, placed, led, within_or, rises, in_order, first_is_least, single_at}
-use Rattle.luo_rules.proofs.RiseNames.{From, numbered, Spans, past, follows, alone, from_lower, NamesLeft, names_lower, names_left, names_past, new_types_within, measures_within, type_use_at, procedure_use_at, name_breaches_at}
-use Rattle.luo_rules.proofs.RiseTypes.{side_spans}
-use Rattle.luo_rules.proofs.RisePatterns.{emptied}
-use Rattle.luo_rules.proofs.RiseStatements.{block_spans}
-use Rattle.luo_rules.proofs.RiseValues.{value_spans}
+use Rattle.luo_rules.proofs.Rise.Lists.{At, none, single, Within, nothing, borders, lower, higher, joined, placed, led, within_or, rises, in_order, first_is_least, single_at}
+use Rattle.luo_rules.proofs.Rise.Names.{From, numbered, Spans, past, follows, alone, from_lower, NamesLeft, names_lower, names_left, names_past, new_types_within, measures_within, type_use_at, procedure_use_at, name_breaches_at}
+use Rattle.luo_rules.proofs.Rise.Types.{side_spans}
+use Rattle.luo_rules.proofs.Rise.Patterns.{emptied}
+use Rattle.luo_rules.proofs.Rise.Statements.{block_spans}
+use Rattle.luo_rules.proofs.Rise.Values.{value_spans}
 
 type_def_spans : (u : Universe) (names : List (List ℕ × Meaning)) (defs : List Definition) (i low : ℕ) {from to : List Lexeme} {d : read.TypeDef} → IsTypeDef from to d → From low from → Spans low to (type_breaches u names defs i (type_def_of d))
 type_def_spans u names defs i low (type_def {k = j} {names = owners} p q) h =

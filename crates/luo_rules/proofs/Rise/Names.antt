@@ -12,7 +12,7 @@ use Rattle.luo_rules.specs.declared.rule.Breach.{Breach}
 use Rattle.luo_rules.specs.Meanings.{meaning, type_use, measure_use, procedure_use}
 use Rattle.luo_rules.specs.Patterns.{is_among, repeated}
 use Rattle.luo_rules.specs.TypeBreaches.{is_meaning, name_breaches, new_types, measures_breaches}
-use Rattle.luo_rules.proofs.RiseLists.{At, none, single, at_if, Within, nothing, borders, lower, higher, joined, placed, led}
+use Rattle.luo_rules.proofs.Rise.Lists.{At, none, single, at_if, Within, nothing, borders, lower, higher, joined, placed, led}
 
 -- lexemes at rising numbers, the first at this number or behind it
 abbrev pub From : ℕ → List Lexeme → Type 0

@@ -19,8 +19,8 @@ use Rattle.luo_rules.specs.Breaches.{◌or_if_none◌}
 use Rattle.luo_rules.specs.Meanings.{meaning}
 use Rattle.luo_rules.specs.Definitions.{Definition}
 use Rattle.luo_rules.specs.TypeBreaches.{kind_breaches, is_at_most, low_in, high_in, is_low, bound_breaches, expr_breaches, exprs_breaches, first_circle, circle_breach, circle_breaches}
-use Rattle.luo_rules.proofs.RiseLists.{At, none, single, at_if, at_or, nothing, borders, placed, within_or}
-use Rattle.luo_rules.proofs.RiseNames.{From, Spans, behind, past, alone, from_lower, follows, led_by, type_use_at}
+use Rattle.luo_rules.proofs.Rise.Lists.{At, none, single, at_if, at_or, nothing, borders, placed, within_or}
+use Rattle.luo_rules.proofs.Rise.Names.{From, Spans, behind, past, alone, from_lower, follows, led_by, type_use_at}
 
 kind_breaches_at : (u : Universe) (kind : Kind) (at : ℕ) → At at (kind_breaches u kind at)
 kind_breaches_at Unlabelled Sequence at = none

@@ -17,9 +17,9 @@ use Rattle.luo_rules.specs.Settings.{meant, signature_meant, found, case_stands}
 use Rattle.luo_rules.specs.Patterns.{bound, arm_breaches, has_factors}
 use Rattle.luo_rules.specs.ValueBreaches.{differs, given_breaches, result_breaches, is_atom, may_stand, part_nodes, inner_node, has_branch, misplaced, value_breaches, values_breaches, value_arms_breaches}
 use Rattle.luo_rules.proofs.ValueForms.{tuple_breaches, branch_breaches, case_value_breaches}
-use Rattle.luo_rules.proofs.RiseLists.{At, none, single, at_if, at_or, placed, led}
-use Rattle.luo_rules.proofs.RiseNames.{From, Spans, behind, past, alone, from_lower, led_by, measure_use_at, procedure_use_at}
-use Rattle.luo_rules.proofs.RisePatterns.{emptied, pattern_spans, arm_spans, argument_at, case_spans}
+use Rattle.luo_rules.proofs.Rise.Lists.{At, none, single, at_if, at_or, placed, led}
+use Rattle.luo_rules.proofs.Rise.Names.{From, Spans, behind, past, alone, from_lower, led_by, measure_use_at, procedure_use_at}
+use Rattle.luo_rules.proofs.Rise.Patterns.{emptied, pattern_spans, arm_spans, argument_at, case_spans}
 
 given_at : (there : Option (ℕ × Part)) (expected : Option ℕ) (name : Name) → At name.at (given_breaches there expected name)
 given_at None expected name = single refl
