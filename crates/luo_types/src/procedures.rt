@@ -19,16 +19,16 @@ ghost use Rattle.luo_types.specs.inner.Held.{body_statements_in};
 ghost use Rattle.luo_types.specs.inner.ProceduresMade.{IsDone, IsBodyMade, IsProcMade, AreProcsMade};
 ghost use Rattle.luo_rules.specs.StatementCore.{stmts_sites};
 ghost use Rattle.luo_rules.specs.inner.StatementLists.{stmts_does};
-ghost use Rattle.luo_rules.specs.Whole.{result_breaches, parameter, body_breaches, proc_breaches, procs_breaches};
+ghost use Rattle.luo_rules.specs.Whole.{result_breaches, body_breaches, proc_breaches, procs_breaches};
 
 use crate::rules::check_name;
 use crate::statements::{one_variable, stmts, take_site};
-use luo_model::{Body, Made, Proc, Universe};
+use luo_model::{Body, Made, Part, Proc, Universe};
 use luo_num::Items;
-use luo_rules::{Meaning, Rule, Setting, Stop, Variable};
+use luo_rules::{Meaning, Rule, Setting, Stop};
 use luo_source::{Name, ProcBody, ProcDef, SourceValue, Stmt};
 use luo_value_types::{Context, Maker, breach, use_procedure, use_type, value};
-use std::alloc::{AllocError, Global};
+use std::alloc::Global;
 
 // A procedure with a result stands in an unlabelled program.
 fn check_universe(alloc: Global, universe: Universe, colon: usize, name: &Name) -> Result<(), Stop>
@@ -39,21 +39,6 @@ fn check_universe(alloc: Global, universe: Universe, colon: usize, name: &Name) 
         Universe::Unlabelled => Ok(()),
         Universe::Labelled => Err(breach(alloc, Rule::Y14, colon, name.text.as_slice())),
     }
-}
-
-// The scope of a procedure: its parameter.
-fn parameter(
-    alloc: Global,
-    setting: &Setting,
-    proc: &ProcDef,
-) -> Result<Items<Variable>, AllocError>
-    ensures { IfOk result (λ scope. scope ≡ parameter setting.now (proc_def_of proc.now)) }
-{
-    one_variable(
-        alloc,
-        &proc.param,
-        setting.part_meant(setting.meant(&proc.on)),
-    )
 }
 
 // The body that runs statements in this scope.
@@ -105,32 +90,33 @@ fn made_body(
     Ok((maker.body, made))
 }
 
-// What a procedure does, whose parameter has this node, and its result.
+// What a procedure on this part does, and its result.
 fn body(
     alloc: Global,
     setting: &Setting,
     proc: &ProcDef,
-    node: usize,
+    on: Part,
     next: &mut usize,
 ) -> Result<(Body, Option<Made>), Stop>
-    requires on { type_node setting.now proc.now.on ≡ Some node }
+    requires on { on ≡ part_meant setting.now (meant setting.now proc.now.on) }
+    requires known { type_node setting.now proc.now.on ≡ Some on.node }
     requires room { HasRoom (body_statements (proc_body_of proc.now.body)) 0 next.old }
     requires within { HasMeasuresWithin setting.now }
     requires branches { HasFewBranches setting.now }
     ensures ok { IfOk result (λ made.
-        IsBodyMade setting.now (proc_def_of proc.now) node made.0 made.1 next.old next.new) }
+        IsBodyMade setting.now (proc_def_of proc.now) on.node made.0 made.1 next.old next.new) }
     ensures stops { IfErr result (λ e. StopsAt
-        (body_breaches setting.now (proc_def_of proc.now) (Some node)
+        (body_breaches setting.now (proc_def_of proc.now) (Some on.node)
         (proc_body_of proc.now.body)) e) }
 {
-    let scope = parameter(alloc, setting, proc)?;
-    let context = Context {
-        alloc,
-        setting,
-        scope: scope.as_slice(),
-    };
     match &proc.body {
         ProcBody::Statements(inner) => {
+            let scope = one_variable(alloc, &proc.param, on)?;
+            let context = Context {
+                alloc,
+                setting,
+                scope: scope.as_slice(),
+            };
             let body = run_body(&context, inner.as_slice(), next)?;
             Ok((body, None))
         }
@@ -142,9 +128,15 @@ fn body(
             check_universe(alloc, setting.universe, *colon, &proc.name)?;
             let meant = setting.meant(result);
             use_type(alloc, meant, result)?;
-            let on = setting.part_meant(meant);
-            let (body, value) = made_body(&context, on.node, source, next)?;
-            Ok((body, Some(Made { on, value })))
+            let made_on = setting.part_meant(meant);
+            let scope = one_variable(alloc, &proc.param, on)?;
+            let context = Context {
+                alloc,
+                setting,
+                scope: scope.as_slice(),
+            };
+            let (body, value) = made_body(&context, made_on.node, source, next)?;
+            Ok((body, Some(Made { on: made_on, value })))
         }
     }
 }
@@ -174,7 +166,7 @@ fn procedure(
     let meant = setting.meant(&proc.on);
     use_type(alloc, meant, &proc.on)?;
     let on = setting.part_meant(meant);
-    let (body, result) = body(alloc, setting, proc, on.node, next)?;
+    let (body, result) = body(alloc, setting, proc, on, next)?;
     let name = Items::from_slice(alloc, proc.name.text.as_slice())?;
     Ok(Proc {
         name,
