@@ -37,7 +37,8 @@ second_variable = record {
         body =
             Statements (a_stmt (Case (name (codes "x") 28) (a_source_arm
             (pattern.Parts
-            ((name (codes "a") 31) ∷ (name (codes "a") 33) ∷ []) 30) Skip no_source_arms)) no_stmts);
+            ((name (codes "a") 31) ∷ (name (codes "a") 33)
+            ∷ []) 30) Skip no_source_arms)) no_stmts);
       } ∷ [];
   analyses = (name (codes "p") 41) ∷ [];
 }
@@ -115,7 +116,9 @@ wrong_uses = record {
         param = name (codes "x") 11;
         on = name (codes "z") 13;
         body =
-            Statements (a_stmt (Call (name (codes "q") 17) (name (codes "x") 19)) (a_stmt (Call (name (codes "z") 22) (name (codes "x") 24)) (a_stmt (Charge (name (codes "p") 27)) no_stmts)));
+            Statements (a_stmt (Call (name (codes "q") 17) (name (codes "x") 19))
+            (a_stmt (Call (name (codes "z") 22) (name (codes "x") 24))
+            (a_stmt (Charge (name (codes "p") 27)) no_stmts)));
       }
       ∷ [];
   analyses = (name (codes "z") 31) ∷ [];
@@ -298,7 +301,8 @@ case_on_atom = record {
         param = name (codes "x") 11;
         on = name (codes "z") 13;
         body =
-            Statements (a_stmt (Case (name (codes "x") 18) (a_source_arm (pattern.Any 20) Skip no_source_arms)) no_stmts);
+            Statements (a_stmt (Case (name (codes "x") 18)
+            (a_source_arm (pattern.Any 20) Skip no_source_arms)) no_stmts);
       } ∷ [];
   analyses = (name (codes "p") 27) ∷ [];
 }
@@ -323,7 +327,8 @@ missing_arm = record {
         param = name (codes "x") 18;
         on = name (codes "t") 20;
         body =
-            Statements (a_stmt (Case (name (codes "x") 25) (a_source_arm (pattern.Any 27) Skip no_source_arms)) no_stmts);
+            Statements (a_stmt (Case (name (codes "x") 25)
+            (a_source_arm (pattern.Any 27) Skip no_source_arms)) no_stmts);
       } ∷ [];
   analyses = (name (codes "p") 34) ∷ [];
 }
@@ -379,7 +384,8 @@ wrong_and_twice = record {
         body =
             Statements (a_stmt (Case (name (codes "x") 30) (a_source_arm
             (pattern.Parts
-            ((name (codes "a") 33) ∷ (name (codes "a") 35) ∷ []) 32) Skip no_source_arms)) no_stmts);
+            ((name (codes "a") 33) ∷ (name (codes "a") 35)
+            ∷ []) 32) Skip no_source_arms)) no_stmts);
       } ∷ [];
   analyses = (name (codes "p") 43) ∷ [];
 }
@@ -421,7 +427,8 @@ outer_variable = record {
         param = name (codes "x") 19;
         on = name (codes "s") 21;
         body =
-            Statements (a_stmt (Forall (name (codes "u") 26) (name (codes "x") 28) (Call (name (codes "p") 30) (name (codes "x") 32))) no_stmts);
+            Statements (a_stmt (Forall (name (codes "u") 26) (name (codes "x") 28)
+            (Call (name (codes "p") 30) (name (codes "x") 32))) no_stmts);
       } ∷ [];
   analyses = (name (codes "p") 37) ∷ [];
 }

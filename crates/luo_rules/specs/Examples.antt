@@ -71,7 +71,8 @@ twice =
 abbrev pub unbound : Source
 unbound =
     unlabelled (defines (z_at 1) (point_at 3) ∷ []) []
-    (runs (p_at 9) (x_at 11) (z_at 13) (a_stmt (stmt.Call (p_at 17) (u_at 19)) no_stmts) ∷ []) (p_at 24 ∷ [])
+    (runs (p_at 9) (x_at 11) (z_at 13) (a_stmt (stmt.Call (p_at 17) (u_at 19)) no_stmts) ∷ [])
+    (p_at 24 ∷ [])
 
 -- type a, b = atom(1); type z = b;
 abbrev pub copied : Source

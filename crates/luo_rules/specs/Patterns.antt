@@ -113,7 +113,8 @@ variables _ _ = []
 abbrev pub bound : Setting → Stand → Pattern → List Variable
 bound s stand (Named type) = []
 bound s stand (NamedWhole type name) = record { name = name.text; part = stand_part stand } ∷ []
-bound s stand (NamedParts type names) = variables names (factors (shape_at s (stand_part stand).node))
+bound s stand (NamedParts type names) =
+    variables names (factors (shape_at s (stand_part stand).node))
 bound s stand (Parts names at) = variables names (factors (shape_at s (stand_part stand).node))
 bound s stand (Any at) = []
 bound s stand (AnyWhole name at) = record { name = name.text; part = stand_part stand } ∷ []

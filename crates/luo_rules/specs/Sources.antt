@@ -42,21 +42,24 @@ binary_source = record {
         param = name (codes "t") 35;
         on = name (codes "tree") 37;
         body =
-            Statements (a_stmt (Case (name (codes "t") 42) (a_source_arm (pattern.Named (name (codes "leaf") 44)) Skip
+            Statements (a_stmt (Case (name (codes "t") 42)
+            (a_source_arm (pattern.Named (name (codes "leaf") 44)) Skip
             (a_source_arm
             (pattern.Parts
             ((name (codes "n") 49) ∷ (name (codes "l") 51) ∷ (name (codes "r") 53) ∷ []) 48)
             (Block (a_stmt (Charge (name (codes "step") 57))
             (a_stmt (Call (name (codes "size") 59) (name (codes "l") 61))
             (a_stmt
-            (Call (name (codes "size") 64) (name (codes "r") 66)) no_stmts)))) no_source_arms))) no_stmts);
+            (Call (name (codes "size") 64)
+            (name (codes "r") 66)) no_stmts)))) no_source_arms))) no_stmts);
       } ∷ record {
         name = name (codes "path") 73;
         param = name (codes "t") 75;
         on = name
             (codes "tree") 77;
         body =
-            Statements (a_stmt (Case (name (codes "t") 82) (a_source_arm (pattern.Named (name (codes "leaf") 84)) Skip
+            Statements (a_stmt (Case (name (codes "t") 82)
+            (a_source_arm (pattern.Named (name (codes "leaf") 84)) Skip
             (a_source_arm
             (pattern.Parts
             ((name (codes "n") 89) ∷ (name (codes "l") 91) ∷ (name (codes "r") 93) ∷ []) 88)
@@ -64,7 +67,8 @@ binary_source = record {
             (a_stmt (Call (name (codes "size") 102) (name (codes "r") 104))
             (a_stmt (Call (name (codes "path") 107) (name (codes "l") 109))
             (a_stmt
-            (Call (name (codes "path") 112) (name (codes "r") 114)) no_stmts))))) no_source_arms))) no_stmts);
+            (Call (name (codes "path") 112)
+            (name (codes "r") 114)) no_stmts))))) no_source_arms))) no_stmts);
       } ∷ [];
   analyses = (name (codes "path") 121) ∷ [];
 }
@@ -93,7 +97,8 @@ permutations_source = record {
         param = name (codes "p") 34;
         on = name (codes "perm") 36;
         body =
-            Statements (a_stmt (Forall (name (codes "c") 41) (name (codes "p") 43) (Charge (name (codes "one") 45))) no_stmts);
+            Statements (a_stmt (Forall (name (codes "c") 41) (name (codes "p") 43)
+            (Charge (name (codes "one") 45))) no_stmts);
       } ∷ [];
   analyses = (name (codes "cycles") 49) ∷ [];
 }
@@ -124,7 +129,8 @@ partitions_source = record {
         param = name (codes "p") 36;
         on = name (codes "partition") 38;
         body =
-            Statements (a_stmt (Forall (name (codes "x") 43) (name (codes "p") 45) (Charge (name (codes "one") 47))) no_stmts);
+            Statements (a_stmt (Forall (name (codes "x") 43) (name (codes "p") 45)
+            (Charge (name (codes "one") 47))) no_stmts);
       } ∷ [];
   analyses = (name (codes "parts") 51) ∷ [];
 }
@@ -152,7 +158,8 @@ hierarchies_source = record {
         param = name (codes "t") 30;
         on = name (codes "h") 32;
         body =
-            Statements (a_stmt (Case (name (codes "t") 37) (a_source_arm (pattern.Named (name (codes "leaf") 39)) (Charge (name (codes "one") 41))
+            Statements (a_stmt (Case (name (codes "t") 37)
+            (a_source_arm (pattern.Named (name (codes "leaf") 39)) (Charge (name (codes "one") 41))
             (a_source_arm (pattern.AnyWhole (name (codes "s") 45) 43)
             (Block (a_stmt
             (Forall (name (codes "u") 49) (name (codes "s") 51) (Call (name (codes "leaves") 53)
@@ -183,7 +190,9 @@ rooted_source = record {
         param = name (codes "t") 31;
         on = name (codes "tree") 33;
         body =
-            Statements (a_stmt (Charge (name (codes "one") 37)) (a_stmt (Case (name (codes "t") 40) (a_source_arm (pattern.Parts ((name (codes "n") 43) ∷ (name (codes "s") 45) ∷ []) 42)
+            Statements (a_stmt (Charge (name (codes "one") 37))
+            (a_stmt (Case (name (codes "t") 40)
+            (a_source_arm (pattern.Parts ((name (codes "n") 43) ∷ (name (codes "s") 45) ∷ []) 42)
             (Block (a_stmt
             (Forall (name (codes "u") 50) (name (codes "s") 52) (Call (name (codes "size") 54)
             (name (codes "u") 56))) no_stmts)) no_source_arms)) no_stmts));
@@ -217,7 +226,8 @@ few_cycles = record {
         param = name (codes "p") 42;
         on = name (codes "perm") 44;
         body =
-            Statements (a_stmt (Forall (name (codes "c") 49) (name (codes "p") 51) (Charge (name (codes "one") 53))) no_stmts);
+            Statements (a_stmt (Forall (name (codes "c") 49) (name (codes "p") 51)
+            (Charge (name (codes "one") 53))) no_stmts);
       } ∷ [];
   analyses = (name (codes "cycles") 57) ∷ [];
 }
@@ -246,10 +256,12 @@ nested = record {
         on = name (codes "pair") 33;
         body =
             Statements (a_stmt (Charge (name (codes "one") 37)) (a_stmt (Block (a_stmt
-            (Case (name (codes "x") 41) (a_source_arm (pattern.Parts ((name (codes "a") 44) ∷ (name (codes "b") 46) ∷ []) 43)
+            (Case (name (codes "x") 41)
+            (a_source_arm (pattern.Parts ((name (codes "a") 44) ∷ (name (codes "b") 46) ∷ []) 43)
             (Block (a_stmt (Call (name (codes "q") 50) (name (codes "b") 52))
             (a_stmt (Charge (name (codes "two") 55)) no_stmts))) no_source_arms))
-            (a_stmt (Charge (name (codes "two") 59)) no_stmts))) (a_stmt (Block no_stmts) no_stmts)));
+            (a_stmt (Charge (name (codes "two") 59)) no_stmts)))
+            (a_stmt (Block no_stmts) no_stmts)));
       } ∷ record {
         name = name (codes "q") 67;
         param = name (codes "y") 69;
@@ -288,7 +300,8 @@ copying = record {
         on = name (codes "bit") 37;
         body =
             Value 39 (name (codes "bit") 40)
-            (made.Case (name (codes "b") 43) (a_source_value_arm (pattern.Named (name (codes "zero") 45))
+            (made.Case (name (codes "b") 43)
+            (a_source_value_arm (pattern.Named (name (codes "zero") 45))
             (made.Branch 2 47 (made.Atom (Some (name (codes "step") 49)) 50))
             (a_source_value_arm (pattern.AnyWhole (name (codes "o") 54) 52)
             (made.Branch 1 56 (made.Atom None 58)) no_source_value_arms)));

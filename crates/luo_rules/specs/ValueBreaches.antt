@@ -51,7 +51,8 @@ may_stand s (Some expected) test = test (shape_at s expected)
 abbrev pub part_nodes : Setting → Option ℕ → ℕ → List ℕ
 part_nodes s None k = []
 part_nodes s (Some expected) k =
-    if has_factors k (shape_at s expected) then map (λ part. part.node) (factors (shape_at s expected))
+    if has_factors k (shape_at s expected) then map (λ part. part.node)
+    (factors (shape_at s expected))
     else []
 
 -- the node of a part

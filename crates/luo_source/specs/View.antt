@@ -63,12 +63,14 @@ abbrev mutual
   source_value_of (made.Made callee arg) = values.Made callee arg
   source_value_of (made.Atom charge at) = values.Atom charge at
   source_value_of (made.Tuple' size parts at) = values.Tuple (source_values_of parts) at
-  source_value_of (made.Branch' number at size inner) = values.Branch number at (first_source_value inner)
+  source_value_of (made.Branch' number at size inner) =
+      values.Branch number at (first_source_value inner)
   source_value_of (made.Case' var size arms) = values.Case var (source_value_arms_of arms)
 
   pub source_values_of : {n : _} → Row_of-SourceValue n → values.SourceValues
   source_values_of end_of-SourceValue = values.no_source_values
-  source_values_of (more_of-SourceValue v rest) = values.a_source_value (source_value_of v) (source_values_of rest)
+  source_values_of (more_of-SourceValue v rest) =
+      values.a_source_value (source_value_of v) (source_values_of rest)
 
   -- the one value of a box
   pub first_source_value : {n : _} → Row_of-SourceValue n → values.SourceValue
@@ -105,7 +107,8 @@ stmt_list (s ∷ ss) = statements.a_stmt (stmt_of s) (stmt_list ss)
 
 abbrev pub source_arm_list : List SourceArm → statements.SourceArms
 source_arm_list [] = statements.no_source_arms
-source_arm_list (a ∷ arms) = statements.a_source_arm a.pattern (stmt_of a.body) (source_arm_list arms)
+source_arm_list (a ∷ arms) =
+    statements.a_source_arm a.pattern (stmt_of a.body) (source_arm_list arms)
 
 abbrev pub source_value_list : List SourceValue → values.SourceValues
 source_value_list [] = values.no_source_values
@@ -113,7 +116,8 @@ source_value_list (v ∷ vs) = values.a_source_value (source_value_of v) (source
 
 abbrev pub source_value_arm_list : List SourceValueArm → values.SourceValueArms
 source_value_arm_list [] = values.no_source_value_arms
-source_value_arm_list (a ∷ arms) = values.a_source_value_arm a.pattern (source_value_of a.body) (source_value_arm_list arms)
+source_value_arm_list (a ∷ arms) =
+    values.a_source_value_arm a.pattern (source_value_of a.body) (source_value_arm_list arms)
 
 abbrev pub type_def_of : TypeDef → types.TypeDef
 type_def_of d = record { names = d.names; body = expr_of d.body }

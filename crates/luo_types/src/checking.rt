@@ -97,15 +97,19 @@ pub fn check(alloc: Global, source: &Source) -> Result<Program, CheckError>
     ensures err { IfErr result (λ e. IsUnchecked (plain_source source.now) e) }
     ensures limit { (which : CountLimit) → PassesFirst (plain_source source.now) which
         → IsRefusal (error.Limit which) result }
-    ensures rule { (b : Breach) → IsWithinLimits (plain_source source.now) → BreaksFirst (plain_source source.now) b
+    ensures rule { (b : Breach) → IsWithinLimits (plain_source source.now)
+        → BreaksFirst (plain_source source.now) b
         → IsRefusal (error.Rule b.rule b.token b.names) result }
-    ensures walks { IsWithinLimits (plain_source source.now) → WalksTooMuch (plain_source source.now)
+    ensures walks { IsWithinLimits (plain_source source.now)
+        → WalksTooMuch (plain_source source.now)
         → IsRefusal (error.Limit count.Walks) result }
     ensures tells { IfErr result (λ e. TellsFirstBroken (plain_source source.now) e) }
-    ensures first { (b : Breach) → IsWithinLimits (plain_source source.now) → IsFirstBroken (plain_source source.now) b
+    ensures first { (b : Breach) → IsWithinLimits (plain_source source.now)
+        → IsFirstBroken (plain_source source.now) b
         → IsRefusal (error.Rule b.rule b.token b.names) result }
     ensures unbroken { IfOk result (λ p. BreaksNothing (plain_source source.now)) }
-    ensures checked { (p : plain.Program) → IsChecked (plain_source source.now) p → IsProgramAnswer result }
+    ensures checked { (p : plain.Program) → IsChecked (plain_source source.now) p
+        → IsProgramAnswer result }
 {
     decide(alloc, source)
 }

@@ -56,10 +56,12 @@ fn check_circles(
     def: &TypeDef,
 ) -> Result<(), Stop>
     requires { first + length def.now.names ≤ DEFINITION_LIMIT }
-    ensures ok { OnOk result (circle_breaches names.now defs.now first def.now.names (expr_of def.now.body)
+    ensures ok { OnOk result (circle_breaches names.now defs.now first def.now.names
+        (expr_of def.now.body)
         ≡ []) }
     ensures stops { IfErr result
-        (λ s. StopsAt (circle_breaches names.now defs.now first def.now.names (expr_of def.now.body)) s) }
+        (λ s. StopsAt (circle_breaches names.now defs.now first def.now.names
+        (expr_of def.now.body)) s) }
 {
     let TypeExpr::Named(name) = &def.body else {
         return Ok(());

@@ -66,7 +66,8 @@ fn call(
     arg: &Name,
     maker: &mut Maker,
 ) -> Result<Value, Stop>
-    requires { HasRoomFor (value_statements (source_value_of (source.Made callee.now arg.now))) maker.old }
+    requires { HasRoomFor (value_statements
+        (source_value_of (source.Made callee.now arg.now))) maker.old }
     ensures { ChecksValue context.now.setting.now context.now.scope.now expected
         (source.Made callee.now arg.now)
         result maker.old maker.new }
@@ -120,7 +121,8 @@ fn tuple(
 ) -> Result<Value, Stop>
     requires measures { HasMeasuresWithin context.now.setting.now }
     requires branches { HasFewBranches context.now.setting.now }
-    requires room { HasRoomFor (value_statements (source_value_of (source.Tuple parts.now at))) maker.old }
+    requires room { HasRoomFor (value_statements
+        (source_value_of (source.Tuple parts.now at))) maker.old }
     ensures { ChecksValue context.now.setting.now context.now.scope.now expected
         (source.Tuple parts.now at)
         result maker.old maker.new }
@@ -198,7 +200,8 @@ fn case(
 ) -> Result<Value, Stop>
     requires measures { HasMeasuresWithin context.now.setting.now }
     requires branches { HasFewBranches context.now.setting.now }
-    requires room { HasRoomFor (value_statements (source_value_of (source.Case var.now arms.now))) maker.old }
+    requires room { HasRoomFor (value_statements
+        (source_value_of (source.Case var.now arms.now))) maker.old }
     ensures { ChecksValue context.now.setting.now context.now.scope.now expected
         (source.Case var.now arms.now)
         result maker.old maker.new }

@@ -5,7 +5,8 @@ use Rattle.luo_source.specs.declared.statements.Pattern.{Pattern}
 
 mutual
   -- a variable's structure, what a procedure makes on a variable, an atom with the measure charged
-  -- at it, a tuple, a structure of a branch of a union, and what the arm of a variable's branch makes
+  -- at it, a tuple, a structure of a branch of a union, and what the arm of a variable's branch
+  -- makes
   pub data SourceValue : Type 0 where
     Given : Name → SourceValue
     Made : (callee arg : Name) → SourceValue
