@@ -3,7 +3,7 @@ use Rattle.std.proofs.Common.{◌≡◌, List, [], ◌∷◌, ◌++◌, refl, sy
 use Rattle.luo_scan.specs.declared.token.TokenKind.{TokenKind}
 use Rattle.luo_scan.specs.Lexemes.{Lexeme}
 use Rattle.luo_source.specs.Ends.{No}
-use Rattle.luo_syntax.specs.Next.{IsNext, next}
+use Rattle.luo_syntax.specs.inner.Next.{IsNext, next}
 use Rattle.luo_syntax.proofs.Fronts.{Front, BeginAlike, empty, begin}
 use Rattle.luo_syntax.proofs.Nexts.{no_alike}
 

@@ -8,9 +8,9 @@ use Rattle.luo_source.specs.declared.names.Name.{Name}
 use Rattle.luo_source.specs.declared.types.TypeExpr.{TypeExpr}
 use Rattle.luo_source.specs.declared.types.TypeDef.{TypeDef}
 use Rattle.luo_source.specs.declared.types.MeasureDef.{MeasureDef}
-use Rattle.luo_syntax.specs.Next.{IsNext, next}
+use Rattle.luo_syntax.specs.inner.Next.{IsNext, next}
 use Rattle.luo_source.specs.GrammarTypes.{AreNames, IsExpr, IsTypeDef, type_def, IsMeasure, measure_def}
-use Rattle.luo_syntax.specs.StopsTypes.{no_type, type_names, type_body, type_end, no_measure, measure_names, measure_number, measure_end}
+use Rattle.luo_syntax.specs.inner.StopsTypes.{no_type, type_names, type_body, type_end, no_measure, measure_names, measure_number, measure_end}
 use Rattle.luo_syntax.proofs.NamesSoFar.{names_shorter}
 use Rattle.luo_syntax.proofs.TermSteps.{expr_shorter}
 

@@ -6,7 +6,7 @@ use Rattle.luo_scan.specs.Lexemes.{Lexeme}
 use Rattle.luo_source.specs.declared.source.Source.{Source}
 use Rattle.luo_source.specs.Grammar.{IsProgram}
 use Rattle.luo_syntax.specs.Viable.{AllSpelled, IsNoProgram, IsViable, IsLongestViable}
-use Rattle.luo_syntax.specs.StopsProgram.{ProgramStops}
+use Rattle.luo_syntax.specs.inner.StopsProgram.{ProgramStops}
 use Rattle.luo_syntax.proofs.Fronts.{BeginAlike, begin}
 use Rattle.luo_syntax.proofs.ProgramStuck.{program_stuck, program_no}
 

@@ -6,9 +6,9 @@ use Rattle.luo_scan.specs.declared.token.TokenKind.TheVariants as kind
 use Rattle.luo_scan.specs.Lexemes.{Lexeme, lexeme}
 use Rattle.luo_source.specs.declared.names.Name.{Name}
 use Rattle.luo_source.specs.Ends.{No}
-use Rattle.luo_syntax.specs.Next.{next, next_name}
+use Rattle.luo_syntax.specs.inner.Next.{next, next_name}
 use Rattle.luo_source.specs.GrammarTypes.{AreNames, last_name, more_names}
-use Rattle.luo_syntax.specs.StopsNames.{NamesStop, no_name, past_name, past_names}
+use Rattle.luo_syntax.specs.inner.StopsNames.{NamesStop, no_name, past_name, past_names}
 use Rattle.luo_syntax.proofs.Fronts.{nothing, put, Moves, Stuck}
 use Rattle.luo_source.proofs.Behind.{behind}
 use Rattle.luo_syntax.proofs.Nexts.{no_alike, misses_alike}

@@ -5,9 +5,9 @@ use Rattle.luo_scan.specs.declared.token.Mark.TheVariants.{Comma}
 use Rattle.luo_scan.specs.declared.token.TokenKind.TheVariants as kind
 use Rattle.luo_scan.specs.Lexemes.{Lexeme}
 use Rattle.luo_source.specs.declared.names.Name.{Name}
-use Rattle.luo_syntax.specs.Next.{IsNext, next, IsName, next_name}
+use Rattle.luo_syntax.specs.inner.Next.{IsNext, next, IsName, next_name}
 use Rattle.luo_source.specs.GrammarTypes.{AreNames, last_name, more_names}
-use Rattle.luo_syntax.specs.StopsNames.{NamesStop, no_name, past_name, past_names}
+use Rattle.luo_syntax.specs.inner.StopsNames.{NamesStop, no_name, past_name, past_names}
 use Rattle.luo_syntax.proofs.Nexts.{next_shorter, name_shorter}
 
 -- what is read from here on is read from the start on behind what there is

@@ -5,7 +5,7 @@ use Rattle.luo_scan.specs.declared.token.TokenKind.TheVariants as kind
 use Rattle.luo_scan.specs.Lexemes.{Lexeme, lexeme}
 use Rattle.luo_source.specs.declared.names.Name.{Name}
 use Rattle.luo_source.specs.Ends.{No}
-use Rattle.luo_syntax.specs.Next.{IsNext, next, IsNextAt, next_at, IsName, next_name, NoNumber, Misses, MissesNumber, TakesAt, TakesKind, TakesNumber, TakesAnyNumber, first_kind}
+use Rattle.luo_syntax.specs.inner.Next.{IsNext, next, IsNextAt, next_at, IsName, next_name, NoNumber, Misses, MissesNumber, TakesAt, TakesKind, TakesNumber, TakesAnyNumber, first_kind}
 use Rattle.luo_syntax.proofs.Fronts.{BeginAlike, empty, begin}
 
 -- what comes next where another kind was missed

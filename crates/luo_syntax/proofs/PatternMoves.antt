@@ -8,9 +8,9 @@ use Rattle.luo_scan.specs.Lexemes.{Lexeme, lexeme}
 use Rattle.luo_source.specs.declared.statements.Pattern.{Pattern}
 use Rattle.luo_source.specs.declared.statements.Pattern.TheVariants as pattern
 use Rattle.luo_source.specs.Ends.{No, EndsPattern}
-use Rattle.luo_syntax.specs.Next.{next, next_at, next_name}
+use Rattle.luo_syntax.specs.inner.Next.{next, next_at, next_name}
 use Rattle.luo_source.specs.GrammarStatements.{IsPattern, pattern_named, pattern_whole, pattern_named_parts, pattern_parts, pattern_any, pattern_any_whole}
-use Rattle.luo_syntax.specs.StopsPatterns.{PatternEnds, PatternStops, no_pattern, in_pattern_parts, past_any_as, past_named_as, in_named_parts}
+use Rattle.luo_syntax.specs.inner.StopsPatterns.{PatternEnds, PatternStops, no_pattern, in_pattern_parts, past_any_as, past_named_as, in_named_parts}
 use Rattle.luo_syntax.proofs.Fronts.{nothing, put, Moves, BeginAlike, Stuck}
 use Rattle.luo_source.proofs.Behind.{behind}
 use Rattle.luo_syntax.proofs.Nexts.{no_alike, misses_alike}

@@ -9,11 +9,11 @@ use Rattle.luo_source.specs.declared.names.Name.{Name}
 use Rattle.luo_source.specs.declared.statements.Pattern.{Pattern}
 use Rattle.luo_source.specs.declared.statements.Pattern.TheVariants as pattern
 use Rattle.luo_source.specs.Ends.{No, EndsPattern}
-use Rattle.luo_syntax.specs.Next.{IsNext, next, IsNextAt, next_at, IsName, next_name, Misses, MissesName}
+use Rattle.luo_syntax.specs.inner.Next.{IsNext, next, IsNextAt, next_at, IsName, next_name, Misses, MissesName}
 use Rattle.luo_source.specs.GrammarTypes.{AreNames}
 use Rattle.luo_source.specs.GrammarStatements.{IsPattern, pattern_named, pattern_whole, pattern_named_parts, pattern_parts, pattern_any, pattern_any_whole}
-use Rattle.luo_syntax.specs.StopsNames.{NamesStop}
-use Rattle.luo_syntax.specs.StopsPatterns.{behind_name, PatternEnds, PatternStops, no_pattern, in_pattern_parts, past_any_as, past_named_as, in_named_parts}
+use Rattle.luo_syntax.specs.inner.StopsNames.{NamesStop}
+use Rattle.luo_syntax.specs.inner.StopsPatterns.{behind_name, PatternEnds, PatternStops, no_pattern, in_pattern_parts, past_any_as, past_named_as, in_named_parts}
 use Rattle.luo_syntax.proofs.Nexts.{next_past}
 use Rattle.luo_syntax.proofs.NamesSoFar.{names_shorter}
 

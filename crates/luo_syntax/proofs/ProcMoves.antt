@@ -7,9 +7,9 @@ use Rattle.luo_scan.specs.Lexemes.{Lexeme, lexeme}
 use Rattle.luo_source.specs.declared.names.Name.{Name}
 use Rattle.luo_source.specs.declared.source.ProcBody.{ProcBody}
 use Rattle.luo_source.specs.declared.source.ProcDef.{ProcDef}
-use Rattle.luo_syntax.specs.Next.{next, next_name}
+use Rattle.luo_syntax.specs.inner.Next.{next, next_name}
 use Rattle.luo_source.specs.Grammar.{IsProcBody, statements_body, value_body, IsProc, proc, IsAnalyze, analyze}
-use Rattle.luo_syntax.specs.StopsProgram.{IsParam, one_param}
+use Rattle.luo_syntax.specs.inner.StopsProgram.{IsParam, one_param}
 use Rattle.luo_syntax.proofs.Fronts.{nothing, put, both, Moves}
 use Rattle.luo_syntax.proofs.StatementsMoves.{block_moves}
 use Rattle.luo_syntax.proofs.ValueMoves.{value_moves}

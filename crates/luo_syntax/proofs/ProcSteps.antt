@@ -7,9 +7,9 @@ use Rattle.luo_scan.specs.Lexemes.{Lexeme}
 use Rattle.luo_source.specs.declared.names.Name.{Name}
 use Rattle.luo_source.specs.declared.source.ProcDef.{ProcDef}
 use Rattle.luo_source.specs.Ends.{No}
-use Rattle.luo_syntax.specs.Next.{Misses}
+use Rattle.luo_syntax.specs.inner.Next.{Misses}
 use Rattle.luo_source.specs.Grammar.{IsProc, proc, IsAnalyze, analyze}
-use Rattle.luo_syntax.specs.StopsProgram.{BodyStops, no_body, in_block, past_block, in_result, ResultStops, no_result, past_result, in_value, past_value, one_result, one_param, no_left, no_param, no_colon, no_on, no_right, whole_statements, whole_value, no_procedure, no_proc_name, in_param, in_body, no_analyze, no_analyze_name, no_analyze_end}
+use Rattle.luo_syntax.specs.inner.StopsProgram.{BodyStops, no_body, in_block, past_block, in_result, ResultStops, no_result, past_result, in_value, past_value, one_result, one_param, no_left, no_param, no_colon, no_on, no_right, whole_statements, whole_value, no_procedure, no_proc_name, in_param, in_body, no_analyze, no_analyze_name, no_analyze_end}
 use Rattle.luo_syntax.proofs.Fronts.{Moves}
 use Rattle.luo_syntax.proofs.Nexts.{is_next}
 use Rattle.luo_syntax.proofs.ProcMoves.{body_moves}

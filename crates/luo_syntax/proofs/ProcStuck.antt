@@ -9,11 +9,11 @@ use Rattle.luo_source.specs.declared.values.SourceValue.{SourceValue}
 use Rattle.luo_source.specs.declared.source.ProcBody.{ProcBody}
 use Rattle.luo_source.specs.declared.source.ProcDef.{ProcDef}
 use Rattle.luo_source.specs.Ends.{No}
-use Rattle.luo_syntax.specs.Next.{IsNext, next, next_at, IsName, next_name}
+use Rattle.luo_syntax.specs.inner.Next.{IsNext, next, next_at, IsName, next_name}
 use Rattle.luo_source.specs.Grammar.{IsProcBody, statements_body, value_body, IsProc, proc, IsAnalyze, analyze}
 use Rattle.luo_source.specs.GrammarStatements.{empty_block}
 use Rattle.luo_source.specs.GrammarValues.{inner_value, given}
-use Rattle.luo_syntax.specs.StopsProgram.{IsParam, one_param, ParamStops, no_left, no_param, no_colon, no_on, no_right, IsResult, one_result, ResultStops, no_result, past_result, in_value, past_value, IsWholeBody, whole_statements, whole_value, BodyStops, no_body, in_block, past_block, in_result, ProcStops, no_procedure, no_proc_name, in_param, in_body, AnalyzeStops, no_analyze, no_analyze_name, no_analyze_end}
+use Rattle.luo_syntax.specs.inner.StopsProgram.{IsParam, one_param, ParamStops, no_left, no_param, no_colon, no_on, no_right, IsResult, one_result, ResultStops, no_result, past_result, in_value, past_value, IsWholeBody, whole_statements, whole_value, BodyStops, no_body, in_block, past_block, in_result, ProcStops, no_procedure, no_proc_name, in_param, in_body, AnalyzeStops, no_analyze, no_analyze_name, no_analyze_end}
 use Rattle.luo_syntax.proofs.Fronts.{nothing, put, both, BeginAlike, Stuck}
 use Rattle.luo_source.proofs.Behind.{behind}
 use Rattle.luo_syntax.proofs.Nexts.{no_alike, misses_alike}

@@ -12,10 +12,10 @@ use Rattle.luo_source.specs.declared.types.TypeDef.{TypeDef}
 use Rattle.luo_source.specs.declared.types.MeasureDef.{MeasureDef}
 use Rattle.luo_source.specs.declared.source.ProcDef.{ProcDef}
 use Rattle.luo_source.specs.Ends.{No}
-use Rattle.luo_syntax.specs.Next.{IsNext, next, Misses}
+use Rattle.luo_syntax.specs.inner.Next.{IsNext, next, Misses}
 use Rattle.luo_source.specs.GrammarTypes.{IsTypeDef, IsMeasure}
 use Rattle.luo_source.specs.Grammar.{IsProc, IsAnalyze, AreAnalyses, last_analysis, more_analyses, FromProcs, no_procs, more_procs, FromMeasures, no_measures, more_measures, FromTypes, no_types, more_types, IsProgram, labelled, unlabelled, unlabelled_unsaid}
-use Rattle.luo_syntax.specs.StopsProgram.{AnalyzeStops, AnalysesStop, in_analysis, past_analysis, FromProcsStop, past_proc, past_procs, in_proc, FromMeasuresStop, in_measure, past_measure, past_measures, FromTypesStop, in_type, past_type, past_types, IsHead, labelled_said, unlabelled_said, nothing_said, HeadStops, past_labelled, past_unlabelled, ProgramStops, in_head, past_head, PassesProcs, PassesMeasures, PassesTypes}
+use Rattle.luo_syntax.specs.inner.StopsProgram.{AnalyzeStops, AnalysesStop, in_analysis, past_analysis, FromProcsStop, past_proc, past_procs, in_proc, FromMeasuresStop, in_measure, past_measure, past_measures, FromTypesStop, in_type, past_type, past_types, IsHead, labelled_said, unlabelled_said, nothing_said, HeadStops, past_labelled, past_unlabelled, ProgramStops, in_head, past_head, PassesProcs, PassesMeasures, PassesTypes}
 use Rattle.luo_syntax.proofs.Nexts.{next_past}
 
 -- what is read or stops from here on is read or stops from the start on, behind what there is

@@ -10,11 +10,11 @@ use Rattle.luo_source.specs.declared.types.TypeDef.{TypeDef}
 use Rattle.luo_source.specs.declared.types.MeasureDef.{MeasureDef}
 use Rattle.luo_source.specs.declared.source.ProcDef.{ProcDef}
 use Rattle.luo_source.specs.declared.source.Source.{Source}
-use Rattle.luo_syntax.specs.Next.{next}
+use Rattle.luo_syntax.specs.inner.Next.{next}
 use Rattle.luo_source.specs.GrammarTypes.{type_def, measure_def}
 use Rattle.luo_source.specs.Grammar.{proc, analyze, AreAnalyses, last_analysis, more_analyses, FromProcs, no_procs, more_procs, FromMeasures, no_measures, more_measures, FromTypes, no_types, more_types, IsProgram, labelled, unlabelled, unlabelled_unsaid}
 use Rattle.luo_syntax.specs.Viable.{AllSpelled}
-use Rattle.luo_syntax.specs.StopsProgram.{AnalysesStop, in_analysis, past_analysis, FromProcsStop, in_proc, past_proc, past_procs, FromMeasuresStop, in_measure, past_measure, past_measures, FromTypesStop, in_type, past_type, past_types, labelled_said, unlabelled_said, nothing_said, past_labelled, past_unlabelled, ProgramStops, in_head, past_head}
+use Rattle.luo_syntax.specs.inner.StopsProgram.{AnalysesStop, in_analysis, past_analysis, FromProcsStop, in_proc, past_proc, past_procs, FromMeasuresStop, in_measure, past_measure, past_measures, FromTypesStop, in_type, past_type, past_types, labelled_said, unlabelled_said, nothing_said, past_labelled, past_unlabelled, ProgramStops, in_head, past_head}
 use Rattle.luo_syntax.proofs.Fronts.{nothing, put, both, Stuck}
 use Rattle.luo_syntax.proofs.Begins.{next_before, no_before, some_before}
 use Rattle.luo_source.proofs.Behind.{behind}

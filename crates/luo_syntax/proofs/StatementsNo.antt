@@ -8,9 +8,9 @@ use Rattle.luo_source.specs.declared.statements.SourceArm.{SourceArm}
 use Rattle.luo_source.specs.declared.statements.Stmt.{Stmt}
 use Rattle.luo_source.specs.declared.statements.Stmt.TheVariants.{Charge, Forall}
 use Rattle.luo_source.specs.Ends.{EndsSimple}
-use Rattle.luo_syntax.specs.Next.{next, next_name}
+use Rattle.luo_syntax.specs.inner.Next.{next, next_name}
 use Rattle.luo_source.specs.GrammarStatements.{IsBlock, empty_block, full_block, AreStmts, last_stmt, more_stmts, IsStmt, simple_stmt, case_stmt, forall_stmt, IsSimple, block_stmt, skip_stmt, charge_stmt, call_stmt, AreArms, last_arm, more_arms, IsArm, one_arm}
-use Rattle.luo_syntax.specs.StopsStatements.{EndsStmt, no_call, ends_skip, ends_call, ends_block, ends_case, ends_forall, IsArg, arg, IsOver, over, ArgStops, no_arg, past_arg, OverStops, no_var, no_in, no_source, InsideStops, in_inside, StmtsStop, in_stmt, past_stmt, past_stmts, StmtStops, in_simple, in_case, in_forall, case_name, case_of, case_arms, forall_over, forall_do, forall_body, SimpleStops, no_simple, simple_inside, simple_arg, ArmsStop, in_arm, past_arm, past_arms, ArmStops, arm_pattern, arm_colon, arm_body, BlockStops, no_begin, in_block}
+use Rattle.luo_syntax.specs.inner.StopsStatements.{EndsStmt, no_call, ends_skip, ends_call, ends_block, ends_case, ends_forall, IsArg, arg, IsOver, over, ArgStops, no_arg, past_arg, OverStops, no_var, no_in, no_source, InsideStops, in_inside, StmtsStop, in_stmt, past_stmt, past_stmts, StmtStops, in_simple, in_case, in_forall, case_name, case_of, case_arms, forall_over, forall_do, forall_body, SimpleStops, no_simple, simple_inside, simple_arg, ArmsStop, in_arm, past_arm, past_arms, ArmStops, arm_pattern, arm_colon, arm_body, BlockStops, no_begin, in_block}
 use Rattle.luo_source.proofs.Behind.{behind}
 use Rattle.luo_syntax.proofs.PatternMoves.{pattern_no, pattern_meets}
 use Rattle.luo_source.proofs.OneStatements.{block_begins, simple_begins, block_one, simple_one, arms_one, pattern_one}

@@ -8,11 +8,11 @@ use Rattle.luo_source.specs.declared.names.Name.{Name}
 use Rattle.luo_source.specs.declared.statements.SourceArm.{SourceArm}
 use Rattle.luo_source.specs.declared.statements.Stmt.{Stmt}
 use Rattle.luo_source.specs.Ends.{No}
-use Rattle.luo_syntax.specs.Next.{next, next_name}
+use Rattle.luo_syntax.specs.inner.Next.{next, next_name}
 use Rattle.luo_syntax.specs.Viable.{AllSpelled}
 use Rattle.luo_source.specs.GrammarStatements.{pattern_named, IsBlock, empty_block, AreStmts, last_stmt, more_stmts, IsStmt, simple_stmt, case_stmt, IsSimple, block_stmt, skip_stmt, AreArms, last_arm, more_arms, IsArm, one_arm}
-use Rattle.luo_syntax.specs.StopsPatterns.{PatternEnds}
-use Rattle.luo_syntax.specs.StopsStatements.{EndsStmt, no_call, ends_skip, ends_call, ends_block, ends_case, ends_forall, IsInside, stmts_inside, IsBehind, IsArg, arg, IsOver, over, ArgStops, no_arg, past_arg, OverStops, no_var, no_in, no_source, InsideStops, in_inside, StmtsStop, in_stmt, past_stmt, past_stmts, StmtStops, in_simple, in_case, in_forall, CaseStops, case_name, case_of, case_arms, ForallStops, forall_over, forall_do, forall_body, SimpleStops, no_simple, simple_inside, simple_arg, ArmsStop, in_arm, past_arm, past_arms, ArmStops, arm_pattern, arm_colon, arm_body, BlockStops, no_begin, in_block}
+use Rattle.luo_syntax.specs.inner.StopsPatterns.{PatternEnds}
+use Rattle.luo_syntax.specs.inner.StopsStatements.{EndsStmt, no_call, ends_skip, ends_call, ends_block, ends_case, ends_forall, IsInside, stmts_inside, IsBehind, IsArg, arg, IsOver, over, ArgStops, no_arg, past_arg, OverStops, no_var, no_in, no_source, InsideStops, in_inside, StmtsStop, in_stmt, past_stmt, past_stmts, StmtStops, in_simple, in_case, in_forall, CaseStops, case_name, case_of, case_arms, ForallStops, forall_over, forall_do, forall_body, SimpleStops, no_simple, simple_inside, simple_arg, ArmsStop, in_arm, past_arm, past_arms, ArmStops, arm_pattern, arm_colon, arm_body, BlockStops, no_begin, in_block}
 use Rattle.luo_syntax.proofs.Fronts.{Front, nothing, put, both, Moves, BeginAlike, begin, Stuck}
 use Rattle.luo_syntax.proofs.Nexts.{no_at, no_alike, misses_alike}
 use Rattle.luo_syntax.proofs.Spelled.{a_name, a_mark, a_word, name_fit, mark_fit, word_fit}

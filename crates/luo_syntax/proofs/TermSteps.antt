@@ -12,10 +12,10 @@ use Rattle.luo_source.specs.declared.types.Bound.{Bound}
 use Rattle.luo_source.specs.declared.types.TypeExpr.{TypeExpr}
 use Rattle.luo_source.specs.declared.types.TypeExpr.TheVariants.{Named, Epsilon, Atom, Union, Product, Coll}
 use Rattle.luo_source.specs.Ends.{No, EndsExpr}
-use Rattle.luo_syntax.specs.Next.{IsNext, next, IsNextAt, next_at, IsName, next_name, Misses, MissesName}
+use Rattle.luo_syntax.specs.inner.Next.{IsNext, next, IsNextAt, next_at, IsName, next_name, Misses, MissesName}
 use Rattle.luo_source.specs.GrammarTypes.{IsRange, exactly, at_most, at_least, between, EndsCollection, unbounded, bounded, IsExpr, one_term, union, AreTerms, last_term, more_terms, IsTerm, named, epsilon, atom, product, collection, AreFactors, last_factor, more_factors}
-use Rattle.luo_syntax.specs.TypeParts.{IsCollectionNext, collection_next, MissesCollection, IsWeight, weight, AreParts, parts, IsInside, inside, ReadsTerms, ReadsFactors}
-use Rattle.luo_syntax.specs.StopsTypes.{AtomStops, EndStops, TermsStop, in_term, past_bar, TermStops, no_term, in_atom, in_product, in_collection, ProductStops, product_left, product_first, product_comma, product_more, FactorsStop, in_factor, past_factor, past_comma, CollectionStops, collection_left, collection_part, collection_end}
+use Rattle.luo_syntax.specs.inner.TypeParts.{IsCollectionNext, collection_next, MissesCollection, IsWeight, weight, AreParts, parts, IsInside, inside, ReadsTerms, ReadsFactors}
+use Rattle.luo_syntax.specs.inner.StopsTypes.{AtomStops, EndStops, TermsStop, in_term, past_bar, TermStops, no_term, in_atom, in_product, in_collection, ProductStops, product_left, product_first, product_comma, product_more, FactorsStop, in_factor, past_factor, past_comma, CollectionStops, collection_left, collection_part, collection_end}
 use Rattle.luo_syntax.proofs.Nexts.{next_past, misses_past, is_next, no_at, next_shorter, next_at_shorter, name_shorter}
 use Rattle.luo_syntax.proofs.TypesSteps.{next_at_past}
 

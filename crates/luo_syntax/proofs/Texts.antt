@@ -10,7 +10,7 @@ use Rattle.luo_syntax.specs.declared.error.SyntaxError.{SyntaxError}
 use Rattle.luo_syntax.specs.declared.error.SyntaxError.TheVariants.{Grammar, Depth}
 use Rattle.luo_source.specs.Grammar.{IsProgram, Derives}
 use Rattle.luo_syntax.specs.Viable.{IsShallow, IsFirstDeep, StopsWhole, Explains}
-use Rattle.luo_syntax.specs.StopsProgram.{ProgramStops}
+use Rattle.luo_syntax.specs.inner.StopsProgram.{ProgramStops}
 use Rattle.luo_syntax.proofs.Lexemes.{as_many, first_lexemes}
 use Rattle.luo_syntax.proofs.Final.{longest, none_read, stops_within}
 use Rattle.luo_syntax.proofs.AllRead.{explained, stops_first, deep_first, deep_read}

@@ -9,10 +9,10 @@ use Rattle.luo_source.specs.declared.types.TypeExpr.{TypeExpr}
 use Rattle.luo_source.specs.declared.types.TypeDef.{TypeDef}
 use Rattle.luo_source.specs.declared.types.MeasureDef.{MeasureDef}
 use Rattle.luo_source.specs.Ends.{EndsExpr}
-use Rattle.luo_syntax.specs.Next.{next, next_at}
+use Rattle.luo_syntax.specs.inner.Next.{next, next_at}
 use Rattle.luo_source.specs.GrammarTypes.{IsRange, exactly, at_most, at_least, between, EndsCollection, unbounded, bounded, IsExpr, one_term, union, AreTerms, last_term, more_terms, IsTerm, named, epsilon, atom, product, collection, AreFactors, last_factor, more_factors, IsTypeDef, type_def, IsMeasure, measure_def}
-use Rattle.luo_syntax.specs.TypeParts.{collection_next, IsBetween, limits, IsBound, a_bound, IsWeight, weight}
-use Rattle.luo_syntax.specs.StopsTypes.{BetweenStops, low_number, between_dots, high_number, RangeStops, no_range, exactly_number, at_most_number, at_least_number, in_between, BoundStops, bound_card, bound_range, bound_right, EndStops, no_end, in_bound, AtomStops, atom_left, atom_number, atom_right, TermsStop, in_term, past_bar, TermStops, no_term, in_atom, in_product, in_collection, ProductStops, product_left, product_first, product_comma, product_more, FactorsStop, in_factor, past_factor, past_comma, CollectionStops, collection_left, collection_part, collection_end, TypeDefStops, no_type, type_names, type_body, type_end, MeasureStops, no_measure, measure_names, measure_number, measure_end}
+use Rattle.luo_syntax.specs.inner.TypeParts.{collection_next, IsBetween, limits, IsBound, a_bound, IsWeight, weight}
+use Rattle.luo_syntax.specs.inner.StopsTypes.{BetweenStops, low_number, between_dots, high_number, RangeStops, no_range, exactly_number, at_most_number, at_least_number, in_between, BoundStops, bound_card, bound_range, bound_right, EndStops, no_end, in_bound, AtomStops, atom_left, atom_number, atom_right, TermsStop, in_term, past_bar, TermStops, no_term, in_atom, in_product, in_collection, ProductStops, product_left, product_first, product_comma, product_more, FactorsStop, in_factor, past_factor, past_comma, CollectionStops, collection_left, collection_part, collection_end, TypeDefStops, no_type, type_names, type_body, type_end, MeasureStops, no_measure, measure_names, measure_number, measure_end}
 use Rattle.luo_source.proofs.Behind.{behind}
 use Rattle.luo_syntax.proofs.NamesMoves.{names_no}
 use Rattle.luo_source.proofs.OneTypes.{names_one, range_one, collection_only, ends_no_bar, expr_one, term_one}

@@ -12,10 +12,10 @@ use Rattle.luo_source.specs.declared.types.Range.{Range}
 use Rattle.luo_source.specs.declared.types.Range.TheVariants.{Exactly, AtMost, AtLeast, Between}
 use Rattle.luo_source.specs.declared.types.Bound.{Bound}
 use Rattle.luo_source.specs.Ends.{No}
-use Rattle.luo_syntax.specs.Next.{IsNext, next, IsNextAt, next_at, Misses, MissesNumber}
+use Rattle.luo_syntax.specs.inner.Next.{IsNext, next, IsNextAt, next_at, Misses, MissesNumber}
 use Rattle.luo_source.specs.GrammarTypes.{IsRange, exactly, at_most, at_least, between, IsCollection, sequence, set, cycle, multiset, powerset, EndsCollection, unbounded, bounded}
-use Rattle.luo_syntax.specs.TypeParts.{IsCollectionNext, collection_next, MissesCollection, IsBetween, limits, IsBound, a_bound, IsWeight, weight}
-use Rattle.luo_syntax.specs.StopsTypes.{BetweenStops, low_number, between_dots, high_number, RangeStops, no_range, exactly_number, at_most_number, at_least_number, in_between, BoundStops, bound_card, bound_range, bound_right, EndStops, no_end, in_bound, AtomStops, atom_left, atom_number, atom_right}
+use Rattle.luo_syntax.specs.inner.TypeParts.{IsCollectionNext, collection_next, MissesCollection, IsBetween, limits, IsBound, a_bound, IsWeight, weight}
+use Rattle.luo_syntax.specs.inner.StopsTypes.{BetweenStops, low_number, between_dots, high_number, RangeStops, no_range, exactly_number, at_most_number, at_least_number, in_between, BoundStops, bound_card, bound_range, bound_right, EndStops, no_end, in_bound, AtomStops, atom_left, atom_number, atom_right}
 use Rattle.luo_syntax.proofs.Nexts.{next_past, misses_past, is_next}
 
 pub next_at_past : {what that : TokenKind} {k : ℕ} {from at to : List Lexeme} → Misses what from at → IsNextAt that k at to → IsNextAt that k from to

@@ -8,9 +8,9 @@ use Rattle.luo_scan.specs.Lexemes.{Lexeme, lexeme}
 use Rattle.luo_source.specs.declared.values.SourceValue.{SourceValue}
 use Rattle.luo_source.specs.declared.values.SourceValue.TheVariants.{Given}
 use Rattle.luo_source.specs.declared.values.SourceValueArm.{SourceValueArm}
-use Rattle.luo_syntax.specs.Next.{next, next_at, Misses}
+use Rattle.luo_syntax.specs.inner.Next.{next, next_at, Misses}
 use Rattle.luo_source.specs.GrammarValues.{IsValue, branch_value, inner_value, IsBranch, branch, IsInner, given, made, free_atom, charged_atom, bracketed, tuple, case_value, AreParts, last_part, more_parts, AreValueArms, last_value_arm, more_value_arms, IsValueArm, one_value_arm}
-use Rattle.luo_syntax.specs.StopsValues.{IsNumbered, numbered, InnerEnds, WholeValue, whole_branch, whole_inner, WholeArm, whole_arm}
+use Rattle.luo_syntax.specs.inner.StopsValues.{IsNumbered, numbered, InnerEnds, WholeValue, whole_branch, whole_inner, WholeArm, whole_arm}
 use Rattle.luo_syntax.proofs.Fronts.{Front, nothing, put, both, Moves, BeginAlike}
 use Rattle.luo_syntax.proofs.Nexts.{no_alike}
 use Rattle.luo_syntax.proofs.PatternMoves.{pattern_moves}

@@ -8,9 +8,9 @@ use Rattle.luo_source.specs.declared.values.SourceValue.{SourceValue}
 use Rattle.luo_source.specs.declared.values.SourceValue.TheVariants.{Branch}
 use Rattle.luo_source.specs.declared.values.SourceValueArm.{SourceValueArm}
 use Rattle.luo_source.specs.Ends.{EndsValue}
-use Rattle.luo_syntax.specs.Next.{next, IsNextAt, next_at, next_name, NoNumber}
+use Rattle.luo_syntax.specs.inner.Next.{next, IsNextAt, next_at, next_name, NoNumber}
 use Rattle.luo_source.specs.GrammarValues.{IsValue, branch_value, inner_value, IsBranch, branch, IsInner, given, made, free_atom, charged_atom, bracketed, tuple, case_value, AreParts, last_part, more_parts, AreValueArms, last_value_arm, more_value_arms, IsValueArm, one_value_arm}
-use Rattle.luo_syntax.specs.StopsValues.{IsNumbered, numbered, InnerEnds, WholeValue, whole_branch, whole_inner, WholeArm, whole_arm, NoInner, MadeStops, made_name, made_right, ValueStops, no_value, in_number, in_inner, NumberedStops, numbered_colon, numbered_inner, InnerStops, no_inner, begun_inner, BegunStops, inner_bracketed, inner_tuple, inner_case, inner_made, BracketedStops, bracketed_number, bracketed_numbered, bracketed_right, TupleStops, tuple_left, tuple_first, tuple_comma, tuple_more, PartsStop, in_part, past_part, past_parts, ValueCaseStops, value_case_name, value_case_of, value_case_arms, ValueArmsStop, in_value_arm, past_value_arm, past_value_arms, ValueArmStops, arm_pattern, arm_colon, arm_value}
+use Rattle.luo_syntax.specs.inner.StopsValues.{IsNumbered, numbered, InnerEnds, WholeValue, whole_branch, whole_inner, WholeArm, whole_arm, NoInner, MadeStops, made_name, made_right, ValueStops, no_value, in_number, in_inner, NumberedStops, numbered_colon, numbered_inner, InnerStops, no_inner, begun_inner, BegunStops, inner_bracketed, inner_tuple, inner_case, inner_made, BracketedStops, bracketed_number, bracketed_numbered, bracketed_right, TupleStops, tuple_left, tuple_first, tuple_comma, tuple_more, PartsStop, in_part, past_part, past_parts, ValueCaseStops, value_case_name, value_case_of, value_case_arms, ValueArmsStop, in_value_arm, past_value_arm, past_value_arms, ValueArmStops, arm_pattern, arm_colon, arm_value}
 use Rattle.luo_source.proofs.Behind.{behind}
 use Rattle.luo_source.proofs.OneStatements.{pattern_one}
 use Rattle.luo_source.proofs.OneValues.{value_one, branch_one, parts_one, value_arms_one, value_arm_one, branch_not_inner}

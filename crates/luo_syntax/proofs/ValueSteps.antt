@@ -9,10 +9,10 @@ use Rattle.luo_source.specs.declared.values.SourceValue.{SourceValue}
 use Rattle.luo_source.specs.declared.values.SourceValue.TheVariants.{Given, Made, Atom, Tuple, Branch, Case}
 use Rattle.luo_source.specs.declared.values.SourceValueArm.{SourceValueArm}
 use Rattle.luo_source.specs.Ends.{No, EndsValue}
-use Rattle.luo_syntax.specs.Next.{IsNext, next, IsNextAt, next_at, IsName, next_name, NoNumber, Misses, MissesName, MissesNumber}
+use Rattle.luo_syntax.specs.inner.Next.{IsNext, next, IsNextAt, next_at, IsName, next_name, NoNumber, Misses, MissesName, MissesNumber}
 use Rattle.luo_source.specs.GrammarValues.{IsValue, branch_value, inner_value, IsBranch, branch, IsInner, given, made, free_atom, charged_atom, bracketed, tuple, case_value, AreParts, last_part, more_parts, AreValueArms, last_value_arm, more_value_arms, IsValueArm, one_value_arm}
-use Rattle.luo_syntax.specs.StopsPatterns.{behind_name}
-use Rattle.luo_syntax.specs.StopsValues.{IsNumbered, numbered, IsBracketed, in_round, IsTuple, parts, IsValueCase, arms_of, IsMade, made_on, InnerEnds, WholeValue, whole_branch, whole_inner, WholeNumbered, whole_numbered, WholeArm, whole_arm, NoInner, ReadsParts, MadeStops, made_name, made_right, ValueStops, no_value, in_number, in_inner, NumberedStops, numbered_colon, numbered_inner, InnerStops, no_inner, begun_inner, BegunStops, inner_bracketed, inner_tuple, inner_case, inner_made, BracketedStops, bracketed_number, bracketed_numbered, bracketed_right, TupleStops, tuple_left, tuple_first, tuple_comma, tuple_more, PartsStop, in_part, past_part, past_parts, ValueCaseStops, value_case_name, value_case_of, value_case_arms, ValueArmsStop, in_value_arm, past_value_arm, past_value_arms, ValueArmStops, arm_pattern, arm_colon, arm_value}
+use Rattle.luo_syntax.specs.inner.StopsPatterns.{behind_name}
+use Rattle.luo_syntax.specs.inner.StopsValues.{IsNumbered, numbered, IsBracketed, in_round, IsTuple, parts, IsValueCase, arms_of, IsMade, made_on, InnerEnds, WholeValue, whole_branch, whole_inner, WholeNumbered, whole_numbered, WholeArm, whole_arm, NoInner, ReadsParts, MadeStops, made_name, made_right, ValueStops, no_value, in_number, in_inner, NumberedStops, numbered_colon, numbered_inner, InnerStops, no_inner, begun_inner, BegunStops, inner_bracketed, inner_tuple, inner_case, inner_made, BracketedStops, bracketed_number, bracketed_numbered, bracketed_right, TupleStops, tuple_left, tuple_first, tuple_comma, tuple_more, PartsStop, in_part, past_part, past_parts, ValueCaseStops, value_case_name, value_case_of, value_case_arms, ValueArmsStop, in_value_arm, past_value_arm, past_value_arms, ValueArmStops, arm_pattern, arm_colon, arm_value}
 use Rattle.luo_syntax.proofs.Nexts.{next_past}
 use Rattle.luo_syntax.proofs.PatternSteps.{pattern_shorter, next_at_past}
 

@@ -8,11 +8,11 @@ use Rattle.luo_source.specs.declared.names.Name.{Name}
 use Rattle.luo_source.specs.declared.values.SourceValue.{SourceValue}
 use Rattle.luo_source.specs.declared.values.SourceValueArm.{SourceValueArm}
 use Rattle.luo_source.specs.Ends.{No}
-use Rattle.luo_syntax.specs.Next.{next, next_at, next_name, NoNumber}
+use Rattle.luo_syntax.specs.inner.Next.{next, next_at, next_name, NoNumber}
 use Rattle.luo_source.specs.GrammarStatements.{pattern_named}
 use Rattle.luo_source.specs.GrammarValues.{IsValue, branch_value, inner_value, branch, IsInner, given, AreParts, last_part, more_parts, AreValueArms, last_value_arm, more_value_arms, IsValueArm, one_value_arm}
-use Rattle.luo_syntax.specs.StopsPatterns.{PatternEnds}
-use Rattle.luo_syntax.specs.StopsValues.{IsNumbered, numbered, IsBracketed, in_round, IsTuple, parts, IsValueCase, arms_of, IsMade, made_on, InnerEnds, MadeStops, made_name, made_right, ValueStops, in_number, in_inner, NumberedStops, numbered_colon, numbered_inner, InnerStops, no_inner, begun_inner, NoInner, no_value, BegunStops, inner_bracketed, inner_tuple, inner_case, inner_made, BracketedStops, bracketed_number, bracketed_numbered, bracketed_right, TupleStops, tuple_left, tuple_first, tuple_comma, tuple_more, PartsStop, in_part, past_part, past_parts, ValueCaseStops, value_case_name, value_case_of, value_case_arms, ValueArmsStop, in_value_arm, past_value_arm, past_value_arms, ValueArmStops, arm_pattern, arm_colon, arm_value}
+use Rattle.luo_syntax.specs.inner.StopsPatterns.{PatternEnds}
+use Rattle.luo_syntax.specs.inner.StopsValues.{IsNumbered, numbered, IsBracketed, in_round, IsTuple, parts, IsValueCase, arms_of, IsMade, made_on, InnerEnds, MadeStops, made_name, made_right, ValueStops, in_number, in_inner, NumberedStops, numbered_colon, numbered_inner, InnerStops, no_inner, begun_inner, NoInner, no_value, BegunStops, inner_bracketed, inner_tuple, inner_case, inner_made, BracketedStops, bracketed_number, bracketed_numbered, bracketed_right, TupleStops, tuple_left, tuple_first, tuple_comma, tuple_more, PartsStop, in_part, past_part, past_parts, ValueCaseStops, value_case_name, value_case_of, value_case_arms, ValueArmsStop, in_value_arm, past_value_arm, past_value_arms, ValueArmStops, arm_pattern, arm_colon, arm_value}
 use Rattle.luo_syntax.proofs.Fronts.{nothing, put, both, BeginAlike, Stuck}
 use Rattle.luo_syntax.proofs.Nexts.{no_alike, no_number_alike, misses_alike, misses_number_alike}
 use Rattle.luo_syntax.proofs.Spelled.{a_name, a_mark, a_word, a_number, name_fit, mark_fit, word_fit, number_fit}

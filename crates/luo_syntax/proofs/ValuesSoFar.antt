@@ -6,9 +6,9 @@ use Rattle.luo_scan.specs.declared.token.TokenKind.TheVariants as kind
 use Rattle.luo_scan.specs.Lexemes.{Lexeme}
 use Rattle.luo_source.specs.declared.values.SourceValue.{SourceValue}
 use Rattle.luo_source.specs.declared.values.SourceValueArm.{SourceValueArm}
-use Rattle.luo_syntax.specs.Next.{IsNext, next, Misses}
+use Rattle.luo_syntax.specs.inner.Next.{IsNext, next, Misses}
 use Rattle.luo_source.specs.GrammarValues.{IsValue, AreParts, last_part, more_parts, AreValueArms, last_value_arm, more_value_arms, IsValueArm}
-use Rattle.luo_syntax.specs.StopsValues.{WholeValue, WholeArm, ReadsParts, ValueStops, PartsStop, in_part, past_part, past_parts, ValueArmStops, ValueArmsStop, in_value_arm, past_value_arm, past_value_arms}
+use Rattle.luo_syntax.specs.inner.StopsValues.{WholeValue, WholeArm, ReadsParts, ValueStops, PartsStop, in_part, past_part, past_parts, ValueArmStops, ValueArmsStop, in_value_arm, past_value_arm, past_value_arms}
 use Rattle.luo_syntax.proofs.Nexts.{misses_past, next_past, next_shorter}
 use Rattle.luo_syntax.proofs.ValueSteps.{whole_is, whole_arm_is, value_shorter, value_arm_shorter}
 

@@ -1,10 +1,3 @@
-pub mod Next
 pub mod Viable
-pub mod StopsNames
-pub mod StopsProgram
-pub mod TypeParts
-pub mod StopsTypes
-pub mod StopsPatterns
-pub mod StopsStatements
-pub mod StopsValues
 pub mod SourceOrError
+pub mod inner

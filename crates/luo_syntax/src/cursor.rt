@@ -5,7 +5,7 @@ ghost use Rattle.std.specs.Prelude.{◌≡◌, ◌∷◌, List, length, IfOk, If
 ghost use Rattle.luo_scan.specs.declared.token.TokenKind.TheVariants as kind;
 ghost use Rattle.luo_scan.specs.Faults.{AllInside};
 ghost use Rattle.luo_scan.specs.Lexemes.{Lexeme, lexeme, lexemes};
-ghost use Rattle.luo_syntax.specs.Next.{IsNext, IsNextAt, IsName, Misses, MissesName, MissesNumber, OnStop, Takes, TakesAt, TakesNumber, TakesKind, TakesAnyNumber, Sees, SeesKind, Ends};
+ghost use Rattle.luo_syntax.specs.inner.Next.{IsNext, IsNextAt, IsName, Misses, MissesName, MissesNumber, OnStop, Takes, TakesAt, TakesNumber, TakesKind, TakesAnyNumber, Sees, SeesKind, Ends};
 
 use crate::fault::Fault;
 use luo_num::Items;

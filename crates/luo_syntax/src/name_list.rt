@@ -2,9 +2,9 @@
 #![tactic(auto, using(crate::proofs::NamesSoFar::names_steps))]
 
 ghost use Rattle.std.specs.Prelude.{◌<◌, length, IfOk, IfErr, OnOk};
-ghost use Rattle.luo_syntax.specs.Next.{OnStop};
+ghost use Rattle.luo_syntax.specs.inner.Next.{OnStop};
 ghost use Rattle.luo_source.specs.GrammarTypes.{AreNames};
-ghost use Rattle.luo_syntax.specs.StopsNames.{NamesStop};
+ghost use Rattle.luo_syntax.specs.inner.StopsNames.{NamesStop};
 
 use crate::cursor::Cursor;
 use crate::fault::Fault;

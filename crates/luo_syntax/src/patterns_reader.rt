@@ -2,9 +2,9 @@
 #![tactic(auto, using(crate::proofs::PatternSteps::pattern_steps))]
 
 ghost use Rattle.std.specs.Prelude.{◌<◌, ◌∷◌, List, length, IfOk, IfErr, OnOk};
-ghost use Rattle.luo_syntax.specs.Next.{OnStop};
+ghost use Rattle.luo_syntax.specs.inner.Next.{OnStop};
 ghost use Rattle.luo_source.specs.GrammarStatements.{IsPattern};
-ghost use Rattle.luo_syntax.specs.StopsPatterns.{PatternEnds, PatternStops, behind_name};
+ghost use Rattle.luo_syntax.specs.inner.StopsPatterns.{PatternEnds, PatternStops, behind_name};
 
 use crate::cursor::Cursor;
 use crate::fault::Fault;

@@ -2,9 +2,9 @@
 #![tactic(auto, using(crate::proofs::ProcSteps::proc_steps))]
 
 ghost use Rattle.std.specs.Prelude.{◌<◌, length, IfOk, IfErr, OnOk};
-ghost use Rattle.luo_syntax.specs.Next.{OnStop};
+ghost use Rattle.luo_syntax.specs.inner.Next.{OnStop};
 ghost use Rattle.luo_source.specs.Grammar.{IsProc, IsAnalyze};
-ghost use Rattle.luo_syntax.specs.StopsProgram.{IsParam, ParamStops, IsResult, ResultStops, IsWholeBody, BodyStops, ProcStops, AnalyzeStops};
+ghost use Rattle.luo_syntax.specs.inner.StopsProgram.{IsParam, ParamStops, IsResult, ResultStops, IsWholeBody, BodyStops, ProcStops, AnalyzeStops};
 
 use crate::cursor::Cursor;
 use crate::fault::Fault;

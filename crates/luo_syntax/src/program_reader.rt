@@ -2,9 +2,9 @@
 #![tactic(auto, using(crate::proofs::ProgramSteps::program_steps))]
 
 ghost use Rattle.std.specs.Prelude.{◌≡◌, List, [], length, IfOk, IfErr, OnOk};
-ghost use Rattle.luo_syntax.specs.Next.{OnStop};
+ghost use Rattle.luo_syntax.specs.inner.Next.{OnStop};
 ghost use Rattle.luo_source.specs.Grammar.{IsProgram, AreAnalyses};
-ghost use Rattle.luo_syntax.specs.StopsProgram.{IsHead, HeadStops, PassesTypes, FromTypesStop, PassesMeasures, FromMeasuresStop, PassesProcs, FromProcsStop, AnalysesStop, ProgramStops};
+ghost use Rattle.luo_syntax.specs.inner.StopsProgram.{IsHead, HeadStops, PassesTypes, FromTypesStop, PassesMeasures, FromMeasuresStop, PassesProcs, FromProcsStop, AnalysesStop, ProgramStops};
 
 use crate::cursor::Cursor;
 use crate::fault::Fault;

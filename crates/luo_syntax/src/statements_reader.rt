@@ -3,9 +3,9 @@
 
 ghost use Rattle.std.specs.Prelude.{◌<◌, length, IfOk, IfErr, OnOk};
 ghost use Rattle.luo_scan.specs.declared.token.Word.TheVariants.{KwCase, KwForall};
-ghost use Rattle.luo_syntax.specs.Next.{OnStop};
+ghost use Rattle.luo_syntax.specs.inner.Next.{OnStop};
 ghost use Rattle.luo_source.specs.GrammarStatements.{IsBlock, AreStmts, IsStmt, IsSimple, AreArms, IsArm};
-ghost use Rattle.luo_syntax.specs.StopsStatements.{EndsStmt, IsInside, IsBehind, IsArg, IsOver, ArgStops, OverStops, InsideStops, StmtsStop, StmtStops, CaseStops, ForallStops, SimpleStops, ArmsStop, ArmStops, BlockStops};
+ghost use Rattle.luo_syntax.specs.inner.StopsStatements.{EndsStmt, IsInside, IsBehind, IsArg, IsOver, ArgStops, OverStops, InsideStops, StmtsStop, StmtStops, CaseStops, ForallStops, SimpleStops, ArmsStop, ArmStops, BlockStops};
 
 use crate::cursor::Cursor;
 use crate::fault::Fault;

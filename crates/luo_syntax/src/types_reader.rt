@@ -3,10 +3,10 @@
 
 ghost use Rattle.std.specs.Prelude.{◌<◌, length, IfOk, IfErr, OnOk};
 ghost use Rattle.luo_source.specs.Ends.{EndsExpr};
-ghost use Rattle.luo_syntax.specs.Next.{OnStop};
+ghost use Rattle.luo_syntax.specs.inner.Next.{OnStop};
 ghost use Rattle.luo_source.specs.GrammarTypes.{IsExpr, IsTerm};
-ghost use Rattle.luo_syntax.specs.TypeParts.{AreParts, IsInside, ReadsTerms, ReadsFactors};
-ghost use Rattle.luo_syntax.specs.StopsTypes.{TermsStop, TermStops, ProductStops, FactorsStop, CollectionStops};
+ghost use Rattle.luo_syntax.specs.inner.TypeParts.{AreParts, IsInside, ReadsTerms, ReadsFactors};
+ghost use Rattle.luo_syntax.specs.inner.StopsTypes.{TermsStop, TermStops, ProductStops, FactorsStop, CollectionStops};
 
 use crate::cursor::Cursor;
 use crate::fault::Fault;

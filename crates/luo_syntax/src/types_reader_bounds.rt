@@ -2,10 +2,10 @@
 #![tactic(auto, using(crate::proofs::TypesSteps::bound_steps))]
 
 ghost use Rattle.std.specs.Prelude.{IfOk, IfErr};
-ghost use Rattle.luo_syntax.specs.Next.{OnStop};
+ghost use Rattle.luo_syntax.specs.inner.Next.{OnStop};
 ghost use Rattle.luo_source.specs.GrammarTypes.{IsRange, EndsCollection};
-ghost use Rattle.luo_syntax.specs.TypeParts.{IsBetween, IsBound, IsWeight, TakesCollection};
-ghost use Rattle.luo_syntax.specs.StopsTypes.{BetweenStops, RangeStops, BoundStops, EndStops, AtomStops};
+ghost use Rattle.luo_syntax.specs.inner.TypeParts.{IsBetween, IsBound, IsWeight, TakesCollection};
+ghost use Rattle.luo_syntax.specs.inner.StopsTypes.{BetweenStops, RangeStops, BoundStops, EndStops, AtomStops};
 
 use crate::cursor::Cursor;
 use crate::fault::Fault;

@@ -2,9 +2,9 @@
 #![tactic(auto, using(crate::proofs::DefinitionSteps::definition_steps))]
 
 ghost use Rattle.std.specs.Prelude.{◌<◌, length, IfOk, IfErr, OnOk};
-ghost use Rattle.luo_syntax.specs.Next.{OnStop};
+ghost use Rattle.luo_syntax.specs.inner.Next.{OnStop};
 ghost use Rattle.luo_source.specs.GrammarTypes.{IsTypeDef, IsMeasure};
-ghost use Rattle.luo_syntax.specs.StopsTypes.{TypeDefStops, MeasureStops};
+ghost use Rattle.luo_syntax.specs.inner.StopsTypes.{TypeDefStops, MeasureStops};
 
 use crate::cursor::Cursor;
 use crate::fault::Fault;

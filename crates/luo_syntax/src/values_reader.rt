@@ -2,10 +2,10 @@
 #![tactic(auto, using(crate::proofs::ValueSteps::value_steps))]
 
 ghost use Rattle.std.specs.Prelude.{◌<◌, length, IfOk, IfErr, OnOk};
-ghost use Rattle.luo_syntax.specs.Next.{OnStop};
+ghost use Rattle.luo_syntax.specs.inner.Next.{OnStop};
 ghost use Rattle.luo_source.specs.GrammarValues.{IsValue, IsInner, AreValueArms};
-ghost use Rattle.luo_syntax.specs.StopsPatterns.{behind_name};
-ghost use Rattle.luo_syntax.specs.StopsValues.{IsBracketed, IsTuple, IsValueCase, IsMade, InnerEnds, WholeValue, WholeNumbered, WholeArm, ReadsParts, ValueStops, NumberedStops, InnerStops, BracketedStops, TupleStops, PartsStop, ValueCaseStops, ValueArmsStop, ValueArmStops, MadeStops};
+ghost use Rattle.luo_syntax.specs.inner.StopsPatterns.{behind_name};
+ghost use Rattle.luo_syntax.specs.inner.StopsValues.{IsBracketed, IsTuple, IsValueCase, IsMade, InnerEnds, WholeValue, WholeNumbered, WholeArm, ReadsParts, ValueStops, NumberedStops, InnerStops, BracketedStops, TupleStops, PartsStop, ValueCaseStops, ValueArmsStop, ValueArmStops, MadeStops};
 
 use crate::cursor::Cursor;
 use crate::fault::Fault;

@@ -2,8 +2,8 @@ use Rattle.std.proofs.Common.{rules, List}
 use Rattle.luo_scan.specs.declared.token.Mark.TheVariants.{Semicolon}
 use Rattle.luo_scan.specs.declared.token.TokenKind.TheVariants as kind
 use Rattle.luo_scan.specs.Lexemes.{Lexeme}
-use Rattle.luo_syntax.specs.Next.{Misses}
-use Rattle.luo_syntax.specs.StopsStatements.{StmtsStop, ArmsStop}
+use Rattle.luo_syntax.specs.inner.Next.{Misses}
+use Rattle.luo_syntax.specs.inner.StopsStatements.{StmtsStop, ArmsStop}
 use Rattle.luo_syntax.proofs.Nexts.{next_past}
 use Rattle.luo_syntax.proofs.StatementsSteps.{stmts_more, arms_more, stmts_stop, arms_stop, behind_case, behind_forall, call_past, stmt_shorter, simple_shorter}
 use Rattle.luo_syntax.proofs.cursor.Cursor.+blocks.Goals as goal

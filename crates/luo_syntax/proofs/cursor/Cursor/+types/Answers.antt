@@ -2,8 +2,8 @@ use Rattle.std.proofs.Common.{rules, List}
 use Rattle.luo_scan.specs.declared.token.Mark.TheVariants.{Comma}
 use Rattle.luo_scan.specs.declared.token.TokenKind.TheVariants as kind
 use Rattle.luo_scan.specs.Lexemes.{Lexeme}
-use Rattle.luo_syntax.specs.Next.{Misses}
-use Rattle.luo_syntax.specs.StopsTypes.{FactorsStop}
+use Rattle.luo_syntax.specs.inner.Next.{Misses}
+use Rattle.luo_syntax.specs.inner.StopsTypes.{FactorsStop}
 use Rattle.luo_syntax.proofs.Nexts.{next_past}
 use Rattle.luo_syntax.proofs.TermSteps.{terms_end, terms_more, factors_end, factors_more, past_factor_end, reads_atom}
 use Rattle.luo_syntax.proofs.cursor.Cursor.+types.Goals as goal

@@ -2,8 +2,8 @@ use Rattle.std.proofs.Common.{rules, List, length, ap, arith}
 use Rattle.luo_scan.specs.declared.token.Mark.TheVariants.{Comma, Semicolon}
 use Rattle.luo_scan.specs.declared.token.TokenKind.TheVariants as kind
 use Rattle.luo_scan.specs.Lexemes.{Lexeme}
-use Rattle.luo_syntax.specs.Next.{Misses}
-use Rattle.luo_syntax.specs.StopsValues.{ValueStops, PartsStop, ValueArmStops, ValueArmsStop}
+use Rattle.luo_syntax.specs.inner.Next.{Misses}
+use Rattle.luo_syntax.specs.inner.StopsValues.{ValueStops, PartsStop, ValueArmStops, ValueArmsStop}
 use Rattle.luo_syntax.proofs.Nexts.{next_past, misses_past, next_shorter, next_at_shorter, name_shorter}
 use Rattle.luo_syntax.proofs.PatternSteps.{next_at_past}
 use Rattle.luo_syntax.proofs.ValueSteps.{inner_shorter, reads_inner_bracketed, reads_inner_tuple, reads_inner_case}

@@ -12,8 +12,8 @@ use Rattle.luo_source.specs.declared.values.SourceValueArm.{SourceValueArm}
 use Rattle.luo_source.specs.GrammarStatements.{IsPattern}
 use Rattle.luo_source.specs.GrammarValues.{IsValue, IsBranch, IsInner, AreParts, AreValueArms, IsValueArm}
 use Rattle.luo_source.specs.Ends.{No, EndsValue}
-use Rattle.luo_syntax.specs.Next.{IsNext, IsNextAt, IsName, NoName, NoNumber, Misses, MissesName, MissesNumber}
-use Rattle.luo_syntax.specs.StopsPatterns.{PatternEnds, PatternStops}
+use Rattle.luo_syntax.specs.inner.Next.{IsNext, IsNextAt, IsName, NoName, NoNumber, Misses, MissesName, MissesNumber}
+use Rattle.luo_syntax.specs.inner.StopsPatterns.{PatternEnds, PatternStops}
 
 -- ":" inner
 pub data IsNumbered : List Lexeme → List Lexeme → SourceValue → Type 0 where

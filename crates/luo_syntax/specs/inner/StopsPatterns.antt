@@ -8,8 +8,8 @@ use Rattle.luo_source.specs.declared.names.Name.{Name}
 use Rattle.luo_source.specs.declared.statements.Pattern.{Pattern}
 use Rattle.luo_source.specs.declared.statements.Pattern.TheVariants.{Named, Any}
 use Rattle.luo_source.specs.Ends.{No, EndsPattern}
-use Rattle.luo_syntax.specs.Next.{IsNext, IsNextAt, IsName, NoName, MissesName}
-use Rattle.luo_syntax.specs.StopsNames.{NamesStop}
+use Rattle.luo_syntax.specs.inner.Next.{IsNext, IsNextAt, IsName, NoName, MissesName}
+use Rattle.luo_syntax.specs.inner.StopsNames.{NamesStop}
 
 -- this name, and these lexemes behind it
 abbrev pub behind_name : Name → List Lexeme → List Lexeme

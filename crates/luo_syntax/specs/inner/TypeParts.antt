@@ -12,7 +12,7 @@ use Rattle.luo_source.specs.declared.types.Bound.{Bound}
 use Rattle.luo_source.specs.declared.types.TypeExpr.{TypeExpr}
 use Rattle.luo_source.specs.declared.types.TypeExpr.TheVariants.{Coll}
 use Rattle.luo_source.specs.Ends.{No}
-use Rattle.luo_syntax.specs.Next.{IsNextAt}
+use Rattle.luo_syntax.specs.inner.Next.{IsNextAt}
 use Rattle.luo_source.specs.GrammarTypes.{IsRange, IsCollection, EndsCollection, IsExpr, AreTerms, AreFactors}
 
 -- the word of a collection is missed here

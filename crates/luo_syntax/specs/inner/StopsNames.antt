@@ -6,7 +6,7 @@ use Rattle.luo_scan.specs.declared.token.TokenKind.TheVariants as kind
 use Rattle.luo_scan.specs.Lexemes.{Lexeme}
 use Rattle.luo_source.specs.declared.names.Name.{Name}
 use Rattle.luo_source.specs.Ends.{No}
-use Rattle.luo_syntax.specs.Next.{IsNext, IsName, Misses, MissesName}
+use Rattle.luo_syntax.specs.inner.Next.{IsNext, IsName, Misses, MissesName}
 
 -- name {"," name} and this mark are being read from these lexemes, and can't go on at those
 pub data NamesStop : Mark → List Lexeme → List Lexeme → Type 0 where

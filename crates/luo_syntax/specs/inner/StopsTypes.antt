@@ -9,10 +9,10 @@ use Rattle.luo_source.specs.declared.names.Name.{Name}
 use Rattle.luo_source.specs.declared.types.Range.{Range}
 use Rattle.luo_source.specs.declared.types.TypeExpr.{TypeExpr}
 use Rattle.luo_source.specs.Ends.{No, EndsExpr}
-use Rattle.luo_syntax.specs.Next.{IsNext, Misses, MissesName, MissesNumber}
+use Rattle.luo_syntax.specs.inner.Next.{IsNext, Misses, MissesName, MissesNumber}
 use Rattle.luo_source.specs.GrammarTypes.{AreNames, IsRange, IsExpr, IsTerm}
-use Rattle.luo_syntax.specs.TypeParts.{IsCollectionNext, MissesCollection}
-use Rattle.luo_syntax.specs.StopsNames.{NamesStop}
+use Rattle.luo_syntax.specs.inner.TypeParts.{IsCollectionNext, MissesCollection}
+use Rattle.luo_syntax.specs.inner.StopsNames.{NamesStop}
 
 -- num ".." num is being read from these lexemes, and can't go on at those; so in each relation that
 -- follows

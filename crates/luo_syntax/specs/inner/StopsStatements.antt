@@ -11,9 +11,9 @@ use Rattle.luo_source.specs.declared.statements.SourceArm.{SourceArm}
 use Rattle.luo_source.specs.declared.statements.Stmt.{Stmt}
 use Rattle.luo_source.specs.declared.statements.Stmt.TheVariants.{Skip, Call, Block, Case, Forall}
 use Rattle.luo_source.specs.Ends.{No, EndsSimple}
-use Rattle.luo_syntax.specs.Next.{IsNext, IsName, Misses, MissesName}
+use Rattle.luo_syntax.specs.inner.Next.{IsNext, IsName, Misses, MissesName}
 use Rattle.luo_source.specs.GrammarStatements.{IsPattern, AreStmts, IsStmt, IsArm}
-use Rattle.luo_syntax.specs.StopsPatterns.{PatternEnds, PatternStops}
+use Rattle.luo_syntax.specs.inner.StopsPatterns.{PatternEnds, PatternStops}
 
 -- what follows makes no call of this statement: no `(` comes next, or the statement doesn't end
 -- with a lone name

@@ -15,14 +15,14 @@ use Rattle.luo_source.specs.declared.source.ProcBody.{ProcBody}
 use Rattle.luo_source.specs.declared.source.ProcBody.TheVariants.{Statements, Value}
 use Rattle.luo_source.specs.declared.source.ProcDef.{ProcDef}
 use Rattle.luo_source.specs.Ends.{No}
-use Rattle.luo_syntax.specs.Next.{IsNext, IsNextAt, IsName, Misses, MissesName}
+use Rattle.luo_syntax.specs.inner.Next.{IsNext, IsNextAt, IsName, Misses, MissesName}
 use Rattle.luo_source.specs.GrammarTypes.{IsTypeDef, IsMeasure}
 use Rattle.luo_source.specs.GrammarStatements.{IsBlock}
 use Rattle.luo_source.specs.GrammarValues.{IsValue}
 use Rattle.luo_source.specs.Grammar.{IsProc, IsAnalyze, FromProcs, FromMeasures, FromTypes, AreAnalyses}
-use Rattle.luo_syntax.specs.StopsTypes.{TypeDefStops, MeasureStops}
-use Rattle.luo_syntax.specs.StopsStatements.{BlockStops}
-use Rattle.luo_syntax.specs.StopsValues.{ValueStops, WholeValue}
+use Rattle.luo_syntax.specs.inner.StopsTypes.{TypeDefStops, MeasureStops}
+use Rattle.luo_syntax.specs.inner.StopsStatements.{BlockStops}
+use Rattle.luo_syntax.specs.inner.StopsValues.{ValueStops, WholeValue}
 
 -- "(" name ":" name ")"
 pub data IsParam : List Lexeme → List Lexeme → Name × Name → Type 0 where
