@@ -16,35 +16,28 @@ use crate::expressions::Checker;
 use crate::naming::names_of;
 use crate::scheme::Scheme;
 use crate::setting::setting;
-use luo_model::Universe;
-use luo_rules::{Names, Setting, Stop};
+use luo_rules::{Setting, Stop};
 use luo_source::{Source, TypeDef};
 use std::alloc::Global;
 
 // Checks definitions and then measures.
 fn check_all(
-    alloc: Global,
-    universe: Universe,
-    names: &Names,
+    checker: &Checker<'_>,
     defs: &[Entry],
     measures: &[Measured],
     types: &[TypeDef],
 ) -> Result<(), Stop>
     requires { sum_by (λ d. length d.names) types.now ≤ DEFINITION_LIMIT }
-    ensures definitions { OnOk result (types_breaches universe names.now defs.now 0
+    ensures definitions { OnOk result
+        (types_breaches checker.now.universe checker.now.names.now defs.now 0
         (map type_def_of types.now) ≡ []) }
-    ensures measures { OnOk result (measures_breaches names.now 0 measures.now ≡ []) }
-    ensures stops { IfErr result
-        (λ s. StopsAt (types_breaches universe names.now defs.now 0 (map type_def_of types.now)
-        ++ measures_breaches names.now 0 measures.now) s) }
+    ensures measures { OnOk result (measures_breaches checker.now.names.now 0 measures.now ≡ []) }
+    ensures stops { IfErr result (λ s. StopsAt
+        (types_breaches checker.now.universe checker.now.names.now defs.now 0
+        (map type_def_of types.now) ++ measures_breaches checker.now.names.now 0 measures.now) s) }
 {
-    let checker = Checker {
-        alloc,
-        universe,
-        names,
-    };
-    check_types(&checker, defs, types)?;
-    check_measures(alloc, names, measures)?;
+    check_types(checker, defs, types)?;
+    check_measures(checker.alloc, checker.names, measures)?;
     Ok(())
 }
 
@@ -66,14 +59,12 @@ fn checked<'s>(alloc: Global, source: &'s Source) -> Result<Scheme<'s>, Stop>
         measured.as_slice(),
         source.procs.as_slice(),
     )?;
-    check_all(
+    let checker = Checker {
         alloc,
-        source.universe,
-        &names,
-        defs.as_slice(),
-        measured.as_slice(),
-        types,
-    )?;
+        universe: source.universe,
+        names: &names,
+    };
+    check_all(&checker, defs.as_slice(), measured.as_slice(), types)?;
     let scheme = Scheme::new(alloc, source.universe, names, defs)?;
     Ok(scheme)
 }
