@@ -1,5 +1,5 @@
 -- A procedure with a result makes exactly one structure of each member, which is a member and has no labels.
-use Rattle.std.proofs.Common.{◌≡◌, ℕ, zero, suc, ◌+◌, ◌≤◌, List, [], ◌∷◌, ◌++◌, inl, inr, length, map, refl, sym, ap, subst, ◌∙◌, arith, Some, slice_get}
+use Rattle.std.proofs.Common.{◌≡◌, ℕ, zero, suc, ◌+◌, ◌≤◌, List, [], ◌∷◌, inl, inr, length, map, refl, sym, ap, subst, ◌∙◌, arith, Some, slice_get}
 use Rattle.std.proofs.lemmas.Option.{slice_get_within}
 use Rattle.luo_finite.specs.Walk.{OnCircle}
 use Rattle.luo_finite.proofs.Places.{some_same, none_some}
@@ -10,13 +10,13 @@ use Rattle.luo_model.specs.declared.program.Part.{Part}
 use Rattle.luo_model.specs.declared.program.Shape.{Shape}
 use Rattle.luo_model.specs.declared.program.Shape.TheVariants as shape
 use Rattle.luo_model.specs.declared.program.Universe.TheVariants.{Unlabelled}
-use Rattle.luo_model.specs.Tree.{Tree, Trees, Atom, Inj, Tup, Coll, none, more, to_list, labels_of, all_labels_of, label_list}
+use Rattle.luo_model.specs.Tree.{Tree, Trees, Atom, Inj, Tup, Coll, none, more, to_list, labels_of}
 use Rattle.luo_model.specs.Program as plain
 use Rattle.luo_model.specs.Program.{Program, Procedure, Result, Value, Values, ValueArms, no_value_arms, value_arm, shape_of}
 use Rattle.luo_model.specs.Charges.{parts_of, bound}
 use Rattle.luo_model.specs.Founded.{CallsIn, OwnCall}
 use Rattle.luo_model.specs.Invariant.{IsProgram}
-use Rattle.luo_model.specs.Member.{IsLabel, Fits, FitAll, FitEach, Member}
+use Rattle.luo_model.specs.Member.{IsLabel, Fits, FitAll, Member}
 use Rattle.luo_model.specs.Scopes.Stands.{inside, itself, stands, factors, IsProductOf, MayBind, bound_parts}
 use Rattle.luo_model.specs.Scopes.Fits.{FitsValue, FitsValues, FitsValueArms}
 use Rattle.luo_model.proofs.Unlabelled.{no_labels, nothing_in}

@@ -30,7 +30,8 @@ use Rattle.luo_struct.specs.declared.structure.Structure.{Structure}
 use Rattle.luo_struct.specs.View.{tree_of, tree_list}
 use Rattle.luo_interp.specs.Makes.{ValueMakes, ValuesMake, ArmsMake, MakesWithin, Makes}
 use Rattle.luo_interp.specs.inner.Short.{IsShort}
-use Rattle.luo_interp.specs.inner.Values.{value_list, value_arm_list, ValueCalls, ValuesCall, ValueIsShort, ValuesAreShort, StandsValue, StandValues, StandValueArms}
+use Rattle.luo_model.specs.Lists.{value_list, value_arm_list}
+use Rattle.luo_interp.specs.inner.Values.{ValueCalls, ValuesCall, ValueIsShort, ValuesAreShort, StandsValue, StandValues, StandValueArms}
 use Rattle.luo_interp.specs.inner.ValueSizes.{value_size, values_size, value_arms_size, result_size, results_size, largest}
 use Rattle.luo_interp.proofs.ChargeSteps.{at_element, no_get, tree_at, no_tree, call_behind, call_short}
 

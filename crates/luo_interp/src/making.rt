@@ -1,12 +1,13 @@
 // What procedures with a result make of structures.
 ghost use Rattle.std.specs.Prelude.{◌≡◌, ◌≤◌, IfOk};
 ghost use Rattle.luo_model.specs.Tree.{Tree, Trees, to_list};
+ghost use Rattle.luo_model.specs.Lists.{value_list, value_arm_list};
 ghost use Rattle.luo_model.specs.View.{plain_of, value_of};
 ghost use Rattle.luo_struct.specs.View.{tree_of, tree_list};
 ghost use Rattle.luo_interp.specs.Makes.{ValueMakes, ValuesMake, ArmsMake, Makes};
 ghost use Rattle.luo_interp.specs.Takes.{TakesForResult};
 ghost use Rattle.luo_interp.specs.inner.Short.{Ends, IsShort};
-ghost use Rattle.luo_interp.specs.inner.Values.{value_list, value_arm_list, ValueIsShort, ValuesAreShort, StandsValue, StandValues, StandValueArms};
+ghost use Rattle.luo_interp.specs.inner.Values.{ValueIsShort, ValuesAreShort, StandsValue, StandValues, StandValueArms};
 ghost use Rattle.luo_interp.specs.inner.ValueSizes.{value_size, values_size, value_arms_size, largest};
 
 use crate::charges::bound;

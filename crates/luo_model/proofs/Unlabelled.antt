@@ -2,7 +2,6 @@
 use Rattle.std.proofs.Common.{◌≡◌, ℕ, zero, suc, List, [], ◌∷◌, inl, ⊎_elim, subst, refl}
 use Rattle.luo_finite.specs.Listing.{In}
 use Rattle.luo_finite.proofs.Membership.{In-append_cases}
-use Rattle.luo_model.specs.declared.program.Universe.{Universe}
 use Rattle.luo_model.specs.declared.program.Universe.TheVariants.{Unlabelled}
 use Rattle.luo_model.specs.declared.program.Part.{Part}
 use Rattle.luo_model.specs.declared.program.Shape.{Shape}

@@ -8,8 +8,7 @@ use Rattle.luo_model.specs.Program as plain
 use Rattle.luo_model.specs.Scopes.ValueBodies.{join_items, value_own, values_own, value_sites, values_sites, value_arms_sites, value_items, values_items, value_arm_bodies}
 use Rattle.luo_model.specs.View.{item_of, item_list, body_of, value_of}
 use Rattle.luo_rules.specs.inner.ValueMade.{extended}
-use Rattle.luo_model.specs.Lists.{arm_list}
-use Rattle.luo_rules.specs.inner.ValueLists.{value_list, value_arm_list}
+use Rattle.luo_model.specs.Lists.{arm_list, value_list, value_arm_list}
 
 pub items_none : (is : plain.Items) → join_items is plain.no_items ≡ is
 items_none plain.no_items = refl

@@ -1,14 +1,15 @@
 -- Nodes in the lists and boxes of type expressions.
-use Rattle.std.proofs.Common.{◌≡◌, ℕ, ◌+◌, ◌<◌, ◌≤◌, List, [], ◌∷◌, ◌++◌, length, get_or, drop, flat_map, sum_by, append_assoc, refl, ap, ◌∙◌, sym, arith, Option}
+use Rattle.std.proofs.Common.{◌≡◌, ℕ, ◌+◌, ◌<◌, ◌≤◌, List, [], ◌∷◌, ◌++◌, length, get_or, drop, flat_map, sum_by, append_assoc, refl, ap, ◌∙◌, sym, arith, Option, Some, None}
 use Rattle.luo_num.specs.declared.limits.TheConstants.{BOUND_LIMIT, NODE_LIMIT}
 use Rattle.std.proofs.lemmas.List.Sums.{sum_by-cons}
 use Rattle.luo_model.specs.declared.program.Kind.{Kind}
 use Rattle.luo_model.specs.declared.program.Universe.{Universe}
 use Rattle.luo_model.specs.declared.program.Node.{Node}
-use Rattle.luo_model.specs.declared.program.Part.{Part}
+use Rattle.luo_model.specs.declared.program.Shape.{Shape}
 use Rattle.luo_model.specs.declared.program.Shape.TheVariants as shape
 use Rattle.luo_source.specs.declared.types.Bound.{Bound}
 use Rattle.luo_source.specs.declared.types.TypeExpr.{TypeExpr, Union, Product, Coll}
+use Rattle.luo_source.specs.Plain.Types as plain
 use Rattle.luo_source.specs.View.{expr_of, expr_list}
 use Rattle.luo_source.proofs.ViewLemmas.{union_expr, product_expr, coll_expr}
 use Rattle.luo_rules.specs.declared.names.Meaning.{Meaning}
@@ -19,7 +20,7 @@ use Rattle.luo_rules.specs.Definitions.{Definition}
 use Rattle.luo_rules.specs.TypeBreaches.{kind_breaches, low_of, high_of}
 use Rattle.luo_rules.specs.Nodes.{Spot, behind, part_at, parts_at, nodes_at, all_nodes_at}
 use Rattle.luo_types.specs.inner.Held.{nodes_in, bound_in, breaches_in}
-use Rattle.luo_types.specs.inner.NodeLists.{parts_of, nodes_of}
+use Rattle.luo_types.specs.inner.NodeLists.{parts_of, nodes_of, construct_at, inside_at}
 use Rattle.luo_types.proofs.ExpressionLemmas.{collection_breaches}
 
 pub none-of-append : (xs ys : List Breach) → xs ++ ys ≡ [] → (xs ≡ []) × (ys ≡ [])
@@ -75,33 +76,56 @@ module _ (names : List (List ℕ × Meaning)) (defs : List Definition) where
   nodes_list owner at [] = refl
   nodes_list owner at (e ∷ es) = ap (λ ns. nodes_at names defs owner at (expr_of e) ++ ns) (nodes_list owner (behind at (nodes_in e)) es)
 
-  abbrev union_over : ℕ → Spot → List Part → List Node → List Node
-  union_over owner at parts nodes = record { shape = shape.Union parts; owner = owner; place = at.place } ∷ nodes
+  -- a construct stands before the nodes inside it, and a name has no nodes
+  pub construct_first : (owner : ℕ) (at : Spot) (e : plain.TypeExpr) (s : Shape) → Some s ≡ construct_at names defs at e
+      → nodes_at names defs owner at e ≡ record { shape = s; owner = owner; place = at.place } ∷ inside_at names defs owner at e
+  construct_first owner at (plain.Named name) s e = cc
+  construct_first owner at (plain.Epsilon token) s e = cc
+  construct_first owner at (plain.Atom weight weight_at token) s e = cc
+  construct_first owner at (plain.Union parts) s e = cc
+  construct_first owner at (plain.Product parts token) s e = cc
+  construct_first owner at (plain.Coll kind part bound token) s e = cc
 
-  abbrev product_over : ℕ → Spot → List Part → List Node → List Node
-  product_over owner at parts nodes = record { shape = shape.Product parts; owner = owner; place = at.place } ∷ nodes
+  pub name_alone : (owner : ℕ) (at : Spot) (e : plain.TypeExpr) → None ≡ construct_at names defs at e → nodes_at names defs owner at e ≡ []
+  name_alone owner at (plain.Named name) e = refl
+  name_alone owner at (plain.Epsilon token) e = cc
+  name_alone owner at (plain.Atom weight weight_at token) e = cc
+  name_alone owner at (plain.Union parts) e = cc
+  name_alone owner at (plain.Product parts token) e = cc
+  name_alone owner at (plain.Coll kind part bound token) e = cc
 
-  pub union_nodes : (owner : ℕ) (at : Spot) (e : TypeExpr) (es parts : List TypeExpr) → e ≡ Union es → parts ≡ es
-      → record { shape = shape.Union (parts_of names defs (behind at 1) parts); owner = owner; place = at.place } ∷ nodes_of names defs owner (behind at 1) parts ≡ nodes_at names defs owner at (expr_of e)
-  union_nodes owner at e es parts is same =
-      ap (λ ps. union_over owner at (parts_of names defs (behind at 1) ps) (nodes_of names defs owner (behind at 1) ps)) same
-      ∙ ap (λ ps. union_over owner at ps (nodes_of names defs owner (behind at 1) es)) (sym (parts_list (behind at 1) es))
-      ∙ ap (λ ns. union_over owner at (parts_at names defs (behind at 1) (expr_list es)) ns) (sym (nodes_list owner (behind at 1) es))
-      ∙ ap (nodes_at names defs owner at) (sym (union_expr es)) ∙ ap (λ z. nodes_at names defs owner at (expr_of z)) (sym is)
+  pub union_construct : (at : Spot) (e : TypeExpr) (es parts : List TypeExpr) → e ≡ Union es → parts ≡ es
+      → Some (shape.Union (parts_of names defs (behind at 1) parts)) ≡ construct_at names defs at (expr_of e)
+  union_construct at e es parts is same =
+      ap (λ ps. Some (shape.Union (parts_of names defs (behind at 1) ps))) same ∙ ap (λ ps. Some (shape.Union ps)) (sym (parts_list (behind at 1) es))
+      ∙ ap (construct_at names defs at) (sym (union_expr es)) ∙ ap (λ z. construct_at names defs at (expr_of z)) (sym is)
 
-  pub product_nodes : (owner : ℕ) (at : Spot) (e : TypeExpr) (es parts : List TypeExpr) (token : ℕ) → e ≡ Product es token → parts ≡ es
-      → record { shape = shape.Product (parts_of names defs (behind at 1) parts); owner = owner; place = at.place } ∷ nodes_of names defs owner (behind at 1) parts ≡ nodes_at names defs owner at (expr_of e)
-  product_nodes owner at e es parts token is same =
-      ap (λ ps. product_over owner at (parts_of names defs (behind at 1) ps) (nodes_of names defs owner (behind at 1) ps)) same
-      ∙ ap (λ ps. product_over owner at ps (nodes_of names defs owner (behind at 1) es)) (sym (parts_list (behind at 1) es))
-      ∙ ap (λ ns. product_over owner at (parts_at names defs (behind at 1) (expr_list es)) ns) (sym (nodes_list owner (behind at 1) es))
-      ∙ ap (nodes_at names defs owner at) (sym (product_expr es token)) ∙ ap (λ z. nodes_at names defs owner at (expr_of z)) (sym is)
+  pub product_construct : (at : Spot) (e : TypeExpr) (es parts : List TypeExpr) (token : ℕ) → e ≡ Product es token → parts ≡ es
+      → Some (shape.Product (parts_of names defs (behind at 1) parts)) ≡ construct_at names defs at (expr_of e)
+  product_construct at e es parts token is same =
+      ap (λ ps. Some (shape.Product (parts_of names defs (behind at 1) ps))) same ∙ ap (λ ps. Some (shape.Product ps)) (sym (parts_list (behind at 1) es))
+      ∙ ap (construct_at names defs at) (sym (product_expr es token)) ∙ ap (λ z. construct_at names defs at (expr_of z)) (sym is)
 
-  abbrev coll_over : ℕ → Spot → Kind → Option Bound → TypeExpr → List Node → List Node
-  coll_over owner at kind bound part nodes = record { shape = shape.Coll kind (part_at names defs (behind at 1) (expr_of part)) (low_of kind bound) (high_of bound); owner = owner; place = at.place } ∷ nodes
+  pub collection_construct : (at : Spot) (e : TypeExpr) (kind : Kind) (part inner : TypeExpr) (bound : Option Bound) (token : ℕ) → e ≡ Coll kind part bound token → inner ≡ part
+      → Some (shape.Coll kind (part_at names defs (behind at 1) (expr_of inner)) (low_of kind bound) (high_of bound)) ≡ construct_at names defs at (expr_of e)
+  collection_construct at e kind part inner bound token is same =
+      ap (λ p. Some (shape.Coll kind (part_at names defs (behind at 1) (expr_of p)) (low_of kind bound) (high_of bound))) same
+      ∙ ap (construct_at names defs at) (sym (coll_expr kind part bound token)) ∙ ap (λ z. construct_at names defs at (expr_of z)) (sym is)
 
-  pub collection_nodes : (owner : ℕ) (at : Spot) (e : TypeExpr) (kind : Kind) (part inner : TypeExpr) (bound : Option Bound) (token : ℕ) → e ≡ Coll kind part bound token → inner ≡ part
-      → record { shape = shape.Coll kind (part_at names defs (behind at 1) (expr_of inner)) (low_of kind bound) (high_of bound); owner = owner; place = at.place } ∷ nodes_at names defs owner (behind at 1) (expr_of inner) ≡ nodes_at names defs owner at (expr_of e)
-  collection_nodes owner at e kind part inner bound token is same =
-      ap (λ p. coll_over owner at kind bound p (nodes_at names defs owner (behind at 1) (expr_of p))) same
-      ∙ ap (nodes_at names defs owner at) (sym (coll_expr kind part bound token)) ∙ ap (λ z. nodes_at names defs owner at (expr_of z)) (sym is)
+  pub union_inside : (owner : ℕ) (at : Spot) (e : TypeExpr) (es parts : List TypeExpr) → e ≡ Union es → parts ≡ es
+      → nodes_of names defs owner (behind at 1) parts ≡ inside_at names defs owner at (expr_of e)
+  union_inside owner at e es parts is same =
+      ap (nodes_of names defs owner (behind at 1)) same ∙ sym (nodes_list owner (behind at 1) es)
+      ∙ ap (inside_at names defs owner at) (sym (union_expr es)) ∙ ap (λ z. inside_at names defs owner at (expr_of z)) (sym is)
+
+  pub product_inside : (owner : ℕ) (at : Spot) (e : TypeExpr) (es parts : List TypeExpr) (token : ℕ) → e ≡ Product es token → parts ≡ es
+      → nodes_of names defs owner (behind at 1) parts ≡ inside_at names defs owner at (expr_of e)
+  product_inside owner at e es parts token is same =
+      ap (nodes_of names defs owner (behind at 1)) same ∙ sym (nodes_list owner (behind at 1) es)
+      ∙ ap (inside_at names defs owner at) (sym (product_expr es token)) ∙ ap (λ z. inside_at names defs owner at (expr_of z)) (sym is)
+
+  pub collection_inside : (owner : ℕ) (at : Spot) (e : TypeExpr) (kind : Kind) (part inner : TypeExpr) (bound : Option Bound) (token : ℕ) → e ≡ Coll kind part bound token → inner ≡ part
+      → nodes_at names defs owner (behind at 1) (expr_of inner) ≡ inside_at names defs owner at (expr_of e)
+  collection_inside owner at e kind part inner bound token is same =
+      ap (λ p. nodes_at names defs owner (behind at 1) (expr_of p)) same
+      ∙ ap (inside_at names defs owner at) (sym (coll_expr kind part bound token)) ∙ ap (λ z. inside_at names defs owner at (expr_of z)) (sym is)

@@ -22,6 +22,7 @@ use luo_num::Items;
 use luo_num::limits::WALK_LIMIT;
 use luo_rules::{CheckError, CountLimit, Setting, Stop};
 use luo_source::Source;
+use luo_value_types::Context;
 use std::alloc::Global;
 
 /// The parts of a source that breaks no rule.
@@ -40,7 +41,12 @@ fn check_parts(alloc: Global, source: &Source) -> Result<Typed, Stop>
     ensures stops { IfErr result (λ e. StopsAt (breaches (plain_source source.now)) e) }
 {
     let setting = types(alloc, source)?;
-    let procs = procedures(alloc, &setting, source.procs.as_slice())?;
+    let context = Context {
+        alloc,
+        setting: &setting,
+        scope: &[],
+    };
+    let procs = procedures(&context, source.procs.as_slice())?;
     let lines = analyses(alloc, &setting, source.analyses.as_slice())?;
     Ok(Typed {
         setting,

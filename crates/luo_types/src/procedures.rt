@@ -8,7 +8,7 @@ ghost use Rattle.luo_model.specs.View as model;
 ghost use Rattle.luo_rules.specs.Breaches.{StopsAt};
 ghost use Rattle.luo_rules.specs.Meanings.{type_use, procedure_use, procedure_of};
 ghost use Rattle.luo_rules.specs.Settings.{meant, type_node, part_meant};
-ghost use Rattle.luo_value_types.specs.inner.Room.{HasMeasuresWithin, HasFewBranches, HasRoom};
+ghost use Rattle.luo_value_types.specs.inner.Room.{HasRoom};
 ghost use Rattle.luo_rules.specs.Statements.{value_statements};
 ghost use Rattle.luo_rules.specs.ValueBreaches.{value_breaches};
 ghost use Rattle.luo_rules.specs.ValueCore.{value_core};
@@ -44,7 +44,6 @@ fn check_universe(alloc: Global, universe: Universe, colon: usize, name: &Name) 
 // The body that runs statements in this scope.
 fn run_body(context: &Context<'_>, inner: &[Stmt], next: &mut usize) -> Result<Body, Stop>
     requires room { HasRoom (stmts_statements (stmt_list inner.now)) 0 next.old }
-    requires within { HasMeasuresWithin context.now.setting.now }
     ensures ok { IfOk result (λ body. IsDone
         (stmts_breaches context.now.setting.now context.now.scope.now (stmt_list inner.now))
         (stmts_does context.now.setting.now context.now.scope.now next.old (stmt_list inner.now))
@@ -66,8 +65,6 @@ fn made_body(
     next: &mut usize,
 ) -> Result<(Body, luo_model::Value), Stop>
     requires room { HasRoom (value_statements (source_value_of source.now)) 0 next.old }
-    requires within { HasMeasuresWithin context.now.setting.now }
-    requires branches { HasFewBranches context.now.setting.now }
     ensures ok { IfOk result (λ made. IsDone
         (value_breaches context.now.setting.now context.now.scope.now (Some expected)
         (source_value_of source.now))
@@ -92,32 +89,31 @@ fn made_body(
 
 // What a procedure on this part does, and its result.
 fn body(
-    alloc: Global,
-    setting: &Setting,
+    context: &Context<'_>,
     proc: &ProcDef,
     on: Part,
     next: &mut usize,
 ) -> Result<(Body, Option<Made>), Stop>
-    requires on { on ≡ part_meant setting.now (meant setting.now proc.now.on) }
-    requires known { type_node setting.now proc.now.on ≡ Some on.node }
+    requires on { on ≡ part_meant context.now.setting.now
+        (meant context.now.setting.now proc.now.on) }
+    requires known { type_node context.now.setting.now proc.now.on ≡ Some on.node }
     requires room { HasRoom (body_statements (proc_body_of proc.now.body)) 0 next.old }
-    requires within { HasMeasuresWithin setting.now }
-    requires branches { HasFewBranches setting.now }
     ensures ok { IfOk result (λ made.
-        IsBodyMade setting.now (proc_def_of proc.now) on.node made.0 made.1 next.old next.new) }
+        IsBodyMade context.now.setting.now (proc_def_of proc.now) on.node
+        made.0 made.1 next.old next.new) }
     ensures stops { IfErr result (λ e. StopsAt
-        (body_breaches setting.now (proc_def_of proc.now) (Some on.node)
+        (body_breaches context.now.setting.now (proc_def_of proc.now) (Some on.node)
         (proc_body_of proc.now.body)) e) }
 {
     match &proc.body {
         ProcBody::Statements(inner) => {
-            let scope = one_variable(alloc, &proc.param, on)?;
-            let context = Context {
-                alloc,
-                setting,
+            let scope = one_variable(context.alloc, &proc.param, on)?;
+            let inside = Context {
+                alloc: context.alloc,
+                setting: context.setting,
                 scope: scope.as_slice(),
             };
-            let body = run_body(&context, inner.as_slice(), next)?;
+            let body = run_body(&inside, inner.as_slice(), next)?;
             Ok((body, None))
         }
         ProcBody::Value {
@@ -125,17 +121,17 @@ fn body(
             result,
             value: source,
         } => {
-            check_universe(alloc, setting.universe, *colon, &proc.name)?;
-            let meant = setting.meant(result);
-            use_type(alloc, meant, result)?;
-            let made_on = setting.part_meant(meant);
-            let scope = one_variable(alloc, &proc.param, on)?;
-            let context = Context {
-                alloc,
-                setting,
+            check_universe(context.alloc, context.setting.universe, *colon, &proc.name)?;
+            let meant = context.setting.meant(result);
+            use_type(context.alloc, meant, result)?;
+            let made_on = context.setting.part_meant(meant);
+            let scope = one_variable(context.alloc, &proc.param, on)?;
+            let inside = Context {
+                alloc: context.alloc,
+                setting: context.setting,
                 scope: scope.as_slice(),
             };
-            let (body, value) = made_body(&context, made_on.node, source, next)?;
+            let (body, value) = made_body(&inside, made_on.node, source, next)?;
             Ok((body, Some(Made { on: made_on, value })))
         }
     }
@@ -143,31 +139,28 @@ fn body(
 
 // Checks procedure `number` and makes it, with the next sites.
 fn procedure(
-    alloc: Global,
-    setting: &Setting,
+    context: &Context<'_>,
     number: usize,
     proc: &ProcDef,
     next: &mut usize,
 ) -> Result<Proc, Stop>
     requires room { HasRoom (body_statements (proc_body_of proc.now.body)) 0 next.old }
-    requires within { HasMeasuresWithin setting.now }
-    requires branches { HasFewBranches setting.now }
     ensures ok { IfOk result (λ made.
-        IsProcMade setting.now number (proc_def_of proc.now) made next.old next.new) }
+        IsProcMade context.now.setting.now number (proc_def_of proc.now) made next.old next.new) }
     ensures stops { IfErr result (λ e. StopsAt
-        (proc_breaches setting.now number (proc_def_of proc.now)) e) }
+        (proc_breaches context.now.setting.now number (proc_def_of proc.now)) e) }
 {
     check_name(
-        alloc,
-        &setting.names,
+        context.alloc,
+        &context.setting.names,
         &proc.name,
         Meaning::Procedure(number),
     )?;
-    let meant = setting.meant(&proc.on);
-    use_type(alloc, meant, &proc.on)?;
-    let on = setting.part_meant(meant);
-    let (body, result) = body(alloc, setting, proc, on, next)?;
-    let name = Items::from_slice(alloc, proc.name.text.as_slice())?;
+    let meant = context.setting.meant(&proc.on);
+    use_type(context.alloc, meant, &proc.on)?;
+    let on = context.setting.part_meant(meant);
+    let (body, result) = body(context, proc, on, next)?;
+    let name = Items::from_slice(context.alloc, proc.name.text.as_slice())?;
     Ok(Proc {
         name,
         on,
@@ -178,24 +171,19 @@ fn procedure(
 }
 
 /// Checks procedures and makes them, with sites from 0. It stops at the first breach.
-pub(crate) fn procedures(
-    alloc: Global,
-    setting: &Setting,
-    procs: &[ProcDef],
-) -> Result<Items<Proc>, Stop>
+pub(crate) fn procedures(context: &Context<'_>, procs: &[ProcDef]) -> Result<Items<Proc>, Stop>
     requires statements { sum_by (λ p. body_statements_in p.body) procs.now
         ≤ STATEMENT_LIMIT }
     requires few { length procs.now ≤ PROCEDURE_LIMIT }
-    requires within { HasMeasuresWithin setting.now }
-    requires branches { HasFewBranches setting.now }
-    ensures ok { IfOk result (λ made. AreProcsMade setting.now (map proc_def_of procs.now) made) }
+    ensures ok { IfOk result (λ made.
+        AreProcsMade context.now.setting.now (map proc_def_of procs.now) made) }
     ensures stops { IfErr result (λ e. StopsAt
-        (procs_breaches setting.now 0 (map proc_def_of procs.now)) e) }
+        (procs_breaches context.now.setting.now 0 (map proc_def_of procs.now)) e) }
 {
-    let mut made = Items::new(alloc);
+    let mut made = Items::new(context.alloc);
     let mut next = 0;
     for (number, proc) in procs.iter().enumerate() {
-        let done = procedure(alloc, setting, number, proc, &mut next)?;
+        let done = procedure(context, number, proc, &mut next)?;
         made.push(done)?;
     }
     Ok(made)

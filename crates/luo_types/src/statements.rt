@@ -9,7 +9,7 @@ ghost use Rattle.luo_rules.specs.Breaches.{StopsAt};
 ghost use Rattle.luo_rules.specs.Meanings.{measure_use, value_of};
 ghost use Rattle.luo_rules.specs.Settings.{meant, shape_at, found};
 ghost use Rattle.luo_value_types.specs.inner.Stands.{stand_of};
-ghost use Rattle.luo_value_types.specs.inner.Room.{HasMeasuresWithin, HasRoom};
+ghost use Rattle.luo_value_types.specs.inner.Room.{HasRoom};
 ghost use Rattle.luo_source.specs.View.{stmt_of, stmt_list, source_arm_list};
 ghost use Rattle.luo_rules.specs.Counted.{stmt_statements, stmts_statements, arms_statements};
 ghost use Rattle.luo_rules.specs.StatementBreaches.{walk_breaches, stmt_breaches};
@@ -50,7 +50,6 @@ pub(crate) fn take_site(next: &mut usize) -> usize
 // Checks a charge and adds it to the body.
 fn charge(context: &Context<'_>, measure: &Name, body: &mut Body) -> Result<(), Stop>
     requires room { HasRoom 1 body.old.own 0 }
-    requires within { HasMeasuresWithin context.now.setting.now }
     ensures { ChecksCharge context.now.setting.now measure.now result body.old body.new }
 {
     let value = use_measure(context.alloc, context.setting.meant(measure), measure)?;
@@ -101,7 +100,6 @@ fn arm(
     next: &mut usize,
 ) -> Result<Arm, Stop>
     requires room { HasRoom (arm_statements arm.now) 0 next.old }
-    requires within { HasMeasuresWithin context.now.setting.now }
     ensures { ChecksArm context.now.setting.now (stand_of stand) var.now arm.now
         result next.old next.new }
 {
@@ -130,7 +128,6 @@ fn arms(
     next: &mut usize,
 ) -> Result<Items<Arm>, Stop>
     requires room { HasRoom (arms_statements (source_arm_list arms.now)) 0 next.old }
-    requires within { HasMeasuresWithin context.now.setting.now }
     requires even { length arms.now
         ≡ length (stands on (shape_at context.now.setting.now on.node)) }
     ensures { ChecksArms context.now.setting.now on var.now arms.now result next.old next.new }
@@ -154,7 +151,6 @@ fn case(
 ) -> Result<(), Stop>
     requires room { HasRoomFor (stmt_statements
         (stmt_of (form.Case var.now branches.now))) maker.old }
-    requires within { HasMeasuresWithin context.now.setting.now }
     ensures { ChecksStmt context.now.setting.now context.now.scope.now
         (form.Case var.now branches.now) result maker.old maker.new }
 {
@@ -215,7 +211,6 @@ fn walk(
 ) -> Result<(), Stop>
     requires room { HasRoomFor (stmt_statements
         (stmt_of (form.Forall var.now source.now each.now))) maker.old }
-    requires within { HasMeasuresWithin context.now.setting.now }
     ensures { ChecksStmt context.now.setting.now context.now.scope.now
         (form.Forall var.now source.now each.now) result maker.old maker.new }
 {
@@ -249,7 +244,6 @@ fn walk(
 #[cycle(statements)]
 pub fn stmts(context: &Context<'_>, stmts: &[Stmt], maker: &mut Maker) -> Result<(), Stop>
     requires room { HasRoomFor (stmts_statements (stmt_list stmts.now)) maker.old }
-    requires within { HasMeasuresWithin context.now.setting.now }
     ensures { ChecksStmts context.now.setting.now context.now.scope.now
         stmts.now result maker.old maker.new }
 {
@@ -263,7 +257,6 @@ pub fn stmts(context: &Context<'_>, stmts: &[Stmt], maker: &mut Maker) -> Result
 #[cycle(statements)]
 fn stmt(context: &Context<'_>, stmt: &Stmt, maker: &mut Maker) -> Result<(), Stop>
     requires room { HasRoomFor (stmt_statements (stmt_of stmt.now)) maker.old }
-    requires within { HasMeasuresWithin context.now.setting.now }
     ensures { ChecksStmt context.now.setting.now context.now.scope.now
         stmt.now result maker.old maker.new }
 {

@@ -15,8 +15,8 @@ use Rattle.luo_rules.specs.Breaches.{StopsAt}
 use Rattle.luo_rules.specs.Patterns.{bound, arm_breaches, pattern_breaches}
 use Rattle.luo_value_types.specs.inner.Room.{HasRoom}
 use Rattle.luo_rules.specs.ValueBreaches.{value_breaches}
-use Rattle.luo_model.specs.Lists.{arm_list}
-use Rattle.luo_rules.specs.inner.ValueLists.{value_arm_list, ArmsAreMade, ArmIsMade}
+use Rattle.luo_model.specs.Lists.{arm_list, value_arm_list}
+use Rattle.luo_rules.specs.inner.ValueLists.{ArmsAreMade, ArmIsMade}
 use Rattle.luo_value_types.specs.inner.Lists.{arms_breaches, arms_core, arms_statements}
 use Rattle.luo_rules.proofs.Joins.{join_value_arms, join_arms, value_arms_none, value_arms_assoc, value_arms_sites_join, arm_bodies_join, value_arm_list_append, arm_list_append}
 use Rattle.luo_value_types.proofs.StopLemmas.{StopsAt-left, StopsAt-pattern}

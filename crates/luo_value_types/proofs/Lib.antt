@@ -1,4 +1,3 @@
-pub mod CoreForms
 pub mod ValueRoom
 pub mod StopLemmas
 pub mod PatternLemmas

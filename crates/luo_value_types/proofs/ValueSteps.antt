@@ -45,7 +45,7 @@ use Rattle.luo_value_types.proofs.StopLemmas.{StopsAt-left, none-append, case-ar
 use Rattle.luo_rules.proofs.ValueForms.{tuple_breaches, tuple_core, tuple_statements, branch_breaches, branch_core, branch_statements, case_value_breaches, case_core, case_statements}
 use Rattle.luo_value_types.proofs.ValueRoom.{sites_within}
 use Rattle.luo_model.proofs.ViewLemmas.{case_item}
-use Rattle.luo_value_types.proofs.CoreForms.{tuple_form, branch_form, case_form}
+use Rattle.luo_model.proofs.ViewLemmas.{tuple_value, branch_value, case_value}
 
 -- a check that hands a stop on
 pub stopped : {V : Type 0} (r : Result V Stop) (e : Stop) (bs : List Breach) (P : V → Type 0) → IsErrAnd r (λ y. y ≡ e) → StopsAt bs e → Checks bs r P
@@ -113,7 +113,7 @@ tuple_made s scope e factors parts at vs old new first next es el m =
     let same : value_core s scope (Some e) (source_value_of (source.Tuple parts at)) ≡ plain.Tuple core = tuple_core s scope (Some e) parts at ∙ ap (λ z. plain.Tuple (parts_core s scope z parts)) (tuple_nodes s e factors (length parts) es el) in
     let one : IsMade (parts_breaches s scope (map (λ p. p.node) factors) parts) (plain.Tuple core) (made.Tuple vs) old new first next = record {
       unbroken = m.unbroken;
-      formed = tuple_form vs ∙ ap plain.Tuple m.formed;
+      formed = tuple_value vs ∙ ap plain.Tuple m.formed;
       behind = m.behind;
       numbered = m.numbered;
     } in
@@ -139,7 +139,7 @@ branch_made s scope e node number at inner v boxed old new first next there eb m
     let same : value_core s scope (Some e) (source_value_of (source.Branch number at inner)) ≡ plain.Branch number core = branch_core s scope (Some e) number at inner ∙ ap (λ z. plain.Branch number (value_core s scope z (source_value_of inner))) (sym there) in
     let one : IsMade (value_breaches s scope (Some node) (source_value_of inner)) (plain.Branch number core) (made.Branch number boxed) old new first next = record {
       unbroken = m.unbroken;
-      formed = branch_form number boxed ∙ ap (λ z. plain.Branch number (value_of z)) eb ∙ ap (plain.Branch number) m.formed;
+      formed = branch_value number boxed ∙ ap (λ z. plain.Branch number (value_of z)) eb ∙ ap (plain.Branch number) m.formed;
       behind = m.behind;
       numbered = m.numbered;
     } in
@@ -183,7 +183,7 @@ case_made s scope e var arms there values bodies b items first site ef en m push
     let same : value_core s scope (Some e) (source_value_of (source.Case var arms)) ≡ plain.Chosen there.0 core = case_core s scope (Some e) var arms ∙ ap (λ z. plain.Chosen (place_of z) (arms_core s (case_stands s z) (Some e) arms)) ef in
     let one : IsMade (arms_breaches s (stands there.1 (shape_at s there.1.node)) (Some e) var arms) (plain.Chosen there.0 core) (made.Case there.0 values) b (record { own = b.own; items = items }) first (site + 1) = record {
       unbroken = m.unbroken;
-      formed = case_form there.0 values ∙ ap (plain.Chosen there.0) m.formed;
+      formed = case_value there.0 values ∙ ap (plain.Chosen there.0) m.formed;
       behind = item_behind b items (done.Case there.0 bodies site) _ pushed (case_item there.0 bodies site ∙ ap (λ z. plain.Case there.0 z site) m.bodied ∙ ap (plain.Case there.0 (value_arm_bodies first core)) m.numbered);
       numbered = omega (arith, m.numbered);
     } in

@@ -7,6 +7,7 @@ use Rattle.luo_model.specs.declared.value.Value.{Value}
 use Rattle.luo_model.specs.Program as plain
 use Rattle.luo_model.specs.Scopes.ValueBodies.{join_items, value_own, values_own, value_sites, values_sites, value_items, values_items, value_body}
 use Rattle.luo_model.specs.View.{body_of}
+use Rattle.luo_model.specs.Lists.{value_list}
 use Rattle.luo_source.specs.View.{source_value_of}
 use Rattle.luo_rules.specs.declared.rule.Stop.{Stop}
 use Rattle.luo_rules.specs.declared.setting.Setting.{Setting}
@@ -16,7 +17,7 @@ use Rattle.luo_value_types.specs.inner.Room.{HasMeasuresWithin, HasRoom}
 use Rattle.luo_rules.specs.Statements.{value_statements}
 use Rattle.luo_rules.specs.ValueBreaches.{value_breaches}
 use Rattle.luo_rules.specs.ValueCore.{value_core}
-use Rattle.luo_rules.specs.inner.ValueLists.{value_list, AreMade}
+use Rattle.luo_rules.specs.inner.ValueLists.{AreMade}
 use Rattle.luo_value_types.specs.inner.Lists.{parts_breaches, parts_core, parts_statements}
 use Rattle.luo_rules.specs.inner.ValueMade.{extended, IsMade}
 use Rattle.luo_rules.proofs.Joins.{items_none, extended_none, extended_assoc, join_values, values_none, values_assoc, values_own_join, values_sites_join, values_items_join, value_list_append}

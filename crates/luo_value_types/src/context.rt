@@ -1,5 +1,6 @@
 // What checks ask, and what they make.
 ghost use Rattle.std.specs.Prelude.{◌≡◌, []};
+ghost use Rattle.luo_value_types.specs.inner.Room.{HasMeasuresWithin, HasFewBranches};
 
 use luo_model::Body;
 use luo_num::Items;
@@ -7,11 +8,15 @@ use luo_rules::{Setting, Variable};
 use std::alloc::Global;
 
 /// What each check of a part of a body asks: the setting, and the variables that are bound there.
+///
+/// The setting's measures are within their limit, and the branches of its unions have numbers of 32 bits.
 #[derive(Drop)]
 pub struct Context<'s> {
     pub alloc: Global,
     pub setting: &'s Setting,
     pub scope: &'s [Variable],
+    pub ghost measures: { HasMeasuresWithin setting.now },
+    pub ghost branches: { HasFewBranches setting.now },
 }
 
 /// What checks make: a body, and the site that comes next.

@@ -8,7 +8,7 @@ ghost use Rattle.luo_rules.specs.Statements.{value_statements};
 ghost use Rattle.luo_source.specs.View.{source_value_of};
 ghost use Rattle.luo_value_types.specs.inner.Lists.{parts_statements, arms_statements};
 ghost use Rattle.luo_value_types.specs.inner.Stands.{stand_of};
-ghost use Rattle.luo_value_types.specs.inner.Room.{HasMeasuresWithin, HasFewBranches, HasRoom};
+ghost use Rattle.luo_value_types.specs.inner.Room.{HasRoom};
 ghost use Rattle.luo_value_types.specs.inner.Values.{HasRoomFor, ChecksValue, ChecksParts};
 ghost use Rattle.luo_value_types.specs.inner.Values.{ChecksArms, ChecksArm};
 
@@ -25,6 +25,14 @@ use luo_num::{Boxed, Items};
 use luo_rules::{Rule, Stop};
 use luo_source::{Name, SourceValue, SourceValueArm};
 
+// What a case is on, a variable and its part, and the node of what its arms make.
+#[derive(Drop)]
+struct Subject<'s> {
+    var: &'s Name,
+    on: Part,
+    expected: usize,
+}
+
 /// Checks a value where a structure of this node is expected, and makes its core form. Its charges,
 /// calls and cases go behind those of the maker's body, with its next sites. It stops at its first
 /// breach.
@@ -35,8 +43,6 @@ pub fn value(
     value: &SourceValue,
     maker: &mut Maker,
 ) -> Result<Value, Stop>
-    requires measures { HasMeasuresWithin context.now.setting.now }
-    requires branches { HasFewBranches context.now.setting.now }
     requires room { HasRoomFor (value_statements (source_value_of value.now)) maker.old }
     ensures { ChecksValue context.now.setting.now context.now.scope.now expected value.now
         result maker.old maker.new }
@@ -94,7 +100,6 @@ fn atom(
     at: usize,
     maker: &mut Maker,
 ) -> Result<Value, Stop>
-    requires measures { HasMeasuresWithin context.now.setting.now }
     requires room { maker.old.body.own + NUMBER_LIMIT ≤ STATEMENT_LIMIT * NUMBER_LIMIT }
     ensures { ChecksValue context.now.setting.now context.now.scope.now expected
         (source.Atom charge.now at)
@@ -119,8 +124,6 @@ fn tuple(
     at: usize,
     maker: &mut Maker,
 ) -> Result<Value, Stop>
-    requires measures { HasMeasuresWithin context.now.setting.now }
-    requires branches { HasFewBranches context.now.setting.now }
     requires room { HasRoomFor (value_statements
         (source_value_of (source.Tuple parts.now at))) maker.old }
     ensures { ChecksValue context.now.setting.now context.now.scope.now expected
@@ -144,8 +147,6 @@ fn all_parts(
     parts: &[SourceValue],
     maker: &mut Maker,
 ) -> Result<Items<Value>, Stop>
-    requires measures { HasMeasuresWithin context.now.setting.now }
-    requires branches { HasFewBranches context.now.setting.now }
     requires each { length factors.now ≡ length parts.now }
     requires room { HasRoomFor (parts_statements parts.now) maker.old }
     ensures { ChecksParts context.now.setting.now context.now.scope.now factors.now parts.now
@@ -168,8 +169,6 @@ fn branch(
     inner: &SourceValue,
     maker: &mut Maker,
 ) -> Result<Value, Stop>
-    requires measures { HasMeasuresWithin context.now.setting.now }
-    requires branches { HasFewBranches context.now.setting.now }
     requires room { HasRoomFor (value_statements
         (source_value_of (source.Branch place.0 place.1 inner.now))) maker.old }
     ensures { ChecksValue context.now.setting.now context.now.scope.now expected
@@ -198,8 +197,6 @@ fn case(
     arms: &[SourceValueArm],
     maker: &mut Maker,
 ) -> Result<Value, Stop>
-    requires measures { HasMeasuresWithin context.now.setting.now }
-    requires branches { HasFewBranches context.now.setting.now }
     requires room { HasRoomFor (value_statements
         (source_value_of (source.Case var.now arms.now))) maker.old }
     ensures { ChecksValue context.now.setting.now context.now.scope.now expected
@@ -207,7 +204,12 @@ fn case(
         result maker.old maker.new }
 {
     let there = case_variable(context, var, arms.len())?;
-    let made = all_arms(context, there.1, expected, var, arms, &mut maker.next)?;
+    let subject = Subject {
+        var,
+        on: there.1,
+        expected,
+    };
+    let made = all_arms(context, &subject, arms, &mut maker.next)?;
     let site = maker.next;
     maker.body.items.push(Item::Case {
         var: there.0,
@@ -221,61 +223,55 @@ fn case(
     })
 }
 
-// The arms of a case on a variable of this part: those of the value, and those of the body.
+// The arms of a case: those of the value, and those of the body.
 #[cycle(values)]
 fn all_arms(
     context: &Context<'_>,
-    on: Part,
-    expected: usize,
-    var: &Name,
+    subject: &Subject<'_>,
     arms: &[SourceValueArm],
     next: &mut usize,
 ) -> Result<(Items<ValueArm>, Items<Arm>), Stop>
-    requires measures { HasMeasuresWithin context.now.setting.now }
-    requires branches { HasFewBranches context.now.setting.now }
     requires each { length arms.now
-        ≡ length (stands on (shape_at context.now.setting.now on.node)) }
+        ≡ length (stands subject.now.on
+        (shape_at context.now.setting.now subject.now.on.node)) }
     requires room { HasRoom (arms_statements arms.now) 0 next.old }
-    ensures { ChecksArms context.now.setting.now on expected var.now arms.now
-        result next.old next.new }
+    ensures { ChecksArms context.now.setting.now subject.now.on subject.now.expected
+        subject.now.var.now arms.now result next.old next.new }
 {
     let mut values = Items::new(context.alloc);
     let mut bodies = Items::new(context.alloc);
     for (i, arm) in arms.iter().enumerate() {
-        let Some(stand) = stand_at(context.setting, on, i) else {
+        let Some(stand) = stand_at(context.setting, subject.on, i) else {
             unreachable!()
         };
-        let made = one_arm(context, stand, expected, var, arm, next)?;
+        let made = one_arm(context, subject, stand, arm, next)?;
         values.push(made.0)?;
         bodies.push(made.1)?;
     }
     Ok((values, bodies))
 }
 
-// An arm that stands for this: that of the value, and that of the body.
+// An arm of a case that stands for this: that of the value, and that of the body.
 #[cycle(values)]
 fn one_arm(
     context: &Context<'_>,
+    subject: &Subject<'_>,
     stand: Stand,
-    expected: usize,
-    var: &Name,
     arm: &SourceValueArm,
     next: &mut usize,
 ) -> Result<(ValueArm, Arm), Stop>
-    requires measures { HasMeasuresWithin context.now.setting.now }
-    requires branches { HasFewBranches context.now.setting.now }
     requires room { HasRoom (value_statements (source_value_of arm.now.body)) 0 next.old }
-    ensures { ChecksArm context.now.setting.now (stand_of stand) expected var.now arm.now
-        result next.old next.new }
+    ensures { ChecksArm context.now.setting.now (stand_of stand) subject.now.expected
+        subject.now.var.now arm.now result next.old next.new }
 {
-    let opened = pattern(context, stand, var, &arm.pattern)?;
+    let opened = pattern(context, stand, subject.var, &arm.pattern)?;
     let inside = Context {
         alloc: context.alloc,
         setting: context.setting,
         scope: opened.scope.as_slice(),
     };
     let mut maker = Maker::new(context.alloc, *next);
-    let made = value(&inside, expected, &arm.body, &mut maker)?;
+    let made = value(&inside, subject.expected, &arm.body, &mut maker)?;
     *next = maker.next;
     let bind = opened.bind;
     Ok((

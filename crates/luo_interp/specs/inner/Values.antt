@@ -1,22 +1,10 @@
--- Values of the code, their calls, and how far calls go on one structure.
-use Rattle.std.specs.Prelude.{◌≡◌, ◌⊎◌, ℕ, List, [], ◌∷◌}
+-- The calls of values, and how far calls go on one structure.
+use Rattle.std.specs.Prelude.{◌≡◌, ◌⊎◌, ℕ, List}
 use Rattle.luo_model.specs.declared.program.Part.{Part}
-use Rattle.luo_model.specs.declared.value.Value as made
-use Rattle.luo_model.specs.declared.value.ValueArm.{ValueArm}
-use Rattle.luo_model.specs.Program.{Program, Value, Made, Tuple, Branch, Values, no_values, value, ValueArms, no_value_arms, value_arm, shape_of}
+use Rattle.luo_model.specs.Program.{Program, Value, Made, Tuple, Branch, Values, no_values, value, ValueArms, shape_of}
 use Rattle.luo_model.specs.Scopes.Stands.{stands}
 use Rattle.luo_model.specs.Scopes.Fits.{FitsValue, FitsValues, FitsValueArms}
-use Rattle.luo_model.specs.View.{value_of}
 use Rattle.luo_interp.specs.inner.Short.{IsShort}
-
--- the values and arms of a list
-abbrev pub value_list : List made.Value → Values
-value_list [] = no_values
-value_list (v ∷ vs) = value (value_of v) (value_list vs)
-
-abbrev pub value_arm_list : List ValueArm → ValueArms
-value_arm_list [] = no_value_arms
-value_arm_list (a ∷ arms) = value_arm a.bind (value_of a.value) (value_arm_list arms)
 
 abbrev mutual
   -- a value calls g in its own scope

@@ -1,24 +1,15 @@
--- Values and arms of the code as plain data, and what making them gives.
-use Rattle.std.specs.Prelude.{◌≡◌, ℕ, ◌+◌, List, [], ◌∷◌}
+-- What making parts and arms of values gives.
+use Rattle.std.specs.Prelude.{◌≡◌, ℕ, ◌+◌, List, []}
 use Rattle.luo_model.specs.declared.body.Arm.{Arm}
 use Rattle.luo_model.specs.declared.body.Body.{Body}
 use Rattle.luo_model.specs.declared.value.Value.{Value}
 use Rattle.luo_model.specs.declared.value.ValueArm.{ValueArm}
 use Rattle.luo_model.specs.Program as plain
 use Rattle.luo_model.specs.Scopes.ValueBodies.{values_own, values_sites, values_items, value_arms_sites, value_arm_bodies}
-use Rattle.luo_model.specs.Lists.{arm_list}
+use Rattle.luo_model.specs.Lists.{arm_list, value_list, value_arm_list}
 use Rattle.luo_model.specs.View.{value_of, body_of}
 use Rattle.luo_rules.specs.declared.rule.Breach.{Breach}
 use Rattle.luo_rules.specs.inner.ValueMade.{extended}
-
--- values and arms of the code as plain data
-abbrev pub value_list : List Value → plain.Values
-value_list [] = plain.no_values
-value_list (v ∷ vs) = plain.value (value_of v) (value_list vs)
-
-abbrev pub value_arm_list : List ValueArm → plain.ValueArms
-value_arm_list [] = plain.no_value_arms
-value_arm_list (a ∷ arms) = plain.value_arm a.bind (value_of a.value) (value_arm_list arms)
 
 -- parts are made, as a value is
 pub record AreMade (breaches : List Breach) (core : plain.Values) (vs : List Value) (old new : Body)

@@ -1,15 +1,19 @@
 -- The nodes of lists of type expressions, and what is known where nodes are made.
-use Rattle.std.specs.Prelude.{◌≡◌, ℕ, ◌<◌, List, [], ◌∷◌, ◌++◌, length, Some, slice_get}
+use Rattle.std.specs.Prelude.{◌≡◌, ℕ, ◌<◌, List, [], ◌∷◌, ◌++◌, length, Option, Some, None, slice_get}
 use Rattle.luo_model.specs.declared.program.Part.{Part}
 use Rattle.luo_model.specs.declared.program.Node.{Node}
+use Rattle.luo_model.specs.declared.program.Shape.{Shape}
+use Rattle.luo_model.specs.declared.program.Shape.TheVariants as shape
 use Rattle.luo_source.specs.declared.types.TypeExpr.{TypeExpr}
+use Rattle.luo_source.specs.Plain.Types as plain
 use Rattle.luo_source.specs.View.{expr_of}
 use Rattle.luo_rules.specs.declared.names.Meaning.{Meaning}
 use Rattle.luo_rules.specs.Meanings.{meaning}
 use Rattle.luo_types.specs.inner.Held.{nodes_in}
 use Rattle.luo_rules.specs.Definitions.{Definition, definition_meant}
 use Rattle.luo_rules.specs.inner.Naming.{node_of}
-use Rattle.luo_rules.specs.Nodes.{Spot, behind, part_at, nodes_at}
+use Rattle.luo_rules.specs.TypeBreaches.{low_of, high_of}
+use Rattle.luo_rules.specs.Nodes.{Spot, behind, part_at, parts_at, nodes_at, all_nodes_at}
 
 -- names mean definitions below this number alone
 abbrev pub MeanBelow : List (List ℕ × Meaning) → ℕ → Type 0
@@ -31,3 +35,25 @@ module _ (names : List (List ℕ × Meaning)) (defs : List Definition) where
   nodes_of owner at [] = []
   nodes_of owner at (e ∷ es) =
       nodes_at names defs owner at (expr_of e) ++ nodes_of owner (behind at (nodes_in e)) es
+
+  -- the construct of a type expression at this spot, and none for a name
+  abbrev pub construct_at : Spot → plain.TypeExpr → Option Shape
+  construct_at at (plain.Named name) = None
+  construct_at at (plain.Epsilon token) = Some (shape.Atom 0)
+  construct_at at (plain.Atom weight weight_at token) = Some (shape.Atom weight)
+  construct_at at (plain.Union parts) =
+      Some (shape.Union (parts_at names defs (behind at 1) parts))
+  construct_at at (plain.Product parts token) =
+      Some (shape.Product (parts_at names defs (behind at 1) parts))
+  construct_at at (plain.Coll kind part bound token) =
+      Some (shape.Coll kind (part_at names defs (behind at 1) part) (low_of kind bound)
+      (high_of bound))
+
+  -- the nodes inside a construct of definition `owner` that stands at this spot
+  abbrev pub inside_at : ℕ → Spot → plain.TypeExpr → List Node
+  inside_at owner at (plain.Union parts) = all_nodes_at names defs owner (behind at 1) parts
+  inside_at owner at (plain.Product parts token) =
+      all_nodes_at names defs owner (behind at 1) parts
+  inside_at owner at (plain.Coll kind part bound token) =
+      nodes_at names defs owner (behind at 1) part
+  inside_at owner at _ = []

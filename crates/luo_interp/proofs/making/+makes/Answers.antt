@@ -7,7 +7,7 @@ use Rattle.luo_struct.specs.declared.structure.Structure.{Tup, Inj}
 use Rattle.luo_struct.specs.View.{tree_of, tree_list}
 use Rattle.luo_struct.proofs.ViewLemmas.{tuple_tree, branch_tree}
 use Rattle.luo_interp.specs.Makes.{ValueMakes, Makes}
-use Rattle.luo_interp.specs.inner.Values.{value_list, value_arm_list}
+use Rattle.luo_model.specs.Lists.{value_list, value_arm_list}
 use Rattle.luo_interp.specs.inner.ValueSizes.{value_size, values_size}
 use Rattle.luo_interp.proofs.ChargeSteps.{reach, beneath, some_parts, part_reach, got, some_left, tree_at, branch_falls, tuple_falls, few, all_left, proc_at}
 use Rattle.luo_interp.proofs.Outcomes.{ok_other}

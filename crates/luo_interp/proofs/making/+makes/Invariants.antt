@@ -4,7 +4,7 @@ use Rattle.luo_model.specs.View.{plain_of, value_of}
 use Rattle.luo_founded.proofs.Charged.{parts_in}
 use Rattle.luo_struct.specs.View.{tree_of, tree_list}
 use Rattle.luo_interp.specs.Makes.{Makes}
-use Rattle.luo_interp.specs.inner.Values.{value_list}
+use Rattle.luo_model.specs.Lists.{value_list}
 use Rattle.luo_interp.specs.inner.ValueSizes.{value_size, values_size}
 use Rattle.luo_interp.proofs.ChargeSteps.{reach, beneath}
 use Rattle.luo_interp.proofs.MakeSteps.{weight, MadeSoFar}

@@ -16,16 +16,22 @@ use Rattle.luo_types.proofs.Passing.{passed-on}
 use Rattle.luo_rules.proofs.SourceFacts.{within_limits}
 use Rattle.luo_types.proofs.checking.check_parts.Goals as goal
 
+pub invariant_of-context : goal.invariant_of-context
+invariant_of-context c =
+    let source = plain_source c.args.source.now in
+    let same = sym c.in_ok-setting.ensures.setting in
+    record {
+      measures = subst HasMeasuresWithin same (measures-within source c.requires.source);
+      branches = subst HasFewBranches same (branches-few source c.requires.source c.requires.within c.in_ok-setting.ensures.ok);
+    }
+
 pub procedures-requires : goal.procedures-requires
 procedures-requires c =
     let source = plain_source c.args.source.now in
     let limits = within_limits source c.requires.within in
-    let same = sym c.in_ok-setting.ensures.setting in
     record {
       statements = subst (λ ps. sum_by (λ p. body_statements_in p.body) ps ≤ STATEMENT_LIMIT) (sym c.as_slice.ensures) (omega (arith, limits.statements, sum_map (λ p. body_statements p.body) proc_def_of c.args.source.now.procs));
       few = subst (λ ps. length ps ≤ PROCEDURE_LIMIT) (sym c.as_slice.ensures) (omega (arith, limits.procedures, length-map c.args.source.now.procs proc_def_of));
-      within = subst HasMeasuresWithin same (measures-within source c.requires.source);
-      branches = subst HasFewBranches same (branches-few source c.requires.source c.requires.within c.in_ok-setting.ensures.ok);
     }
 
 pub returns-in_err-procs-clause-stops : goal.returns-in_err-procs-clause-stops

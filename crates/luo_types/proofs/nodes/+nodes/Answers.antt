@@ -1,37 +1,49 @@
-use Rattle.std.proofs.Common.{◌≡◌, ◌∙◌, ◌++◌, OnOk, subst, ap, arith}
+use Rattle.std.proofs.Common.{◌∙◌, sym, ap, arith}
 use Rattle.std.proofs.lemmas.List.Sums.{get_or-le-sum_by}
+use Rattle.luo_source.specs.View.{expr_of}
+use Rattle.luo_rules.specs.Nodes.{nodes_at}
 use Rattle.luo_types.specs.inner.Held.{nodes_in}
+use Rattle.luo_types.specs.inner.NodeLists.{nodes_of}
 use Rattle.luo_types.proofs.CountLemmas.{counts_of_union, counts_of_product, counts_of_collection}
 use Rattle.luo_types.proofs.ExpressionLemmas.{union_breaches, product_breaches}
-use Rattle.luo_types.proofs.NodeLemmas.{next_of, nodes_next, union_nodes, product_nodes, collection_nodes, collection_clean}
+use Rattle.luo_types.proofs.NodeLemmas.{next_of, nodes_next, union_inside, product_inside, collection_inside, collection_clean}
 use Rattle.luo_types.proofs.nodes.+nodes.Goals as goal
 
-pub put-put_union-requires : goal.put-put_union-requires
-put-put_union-requires t c =
+pub put_inside-put_all-requires : goal.put_inside-put_all-requires
+put_inside-put_all-requires t c =
     let counts = counts_of_union _ _ _ c.in-Union.is c.as_slice.ensures in
-    (omega (arith, c.decreases, counts.nodes), (omega (arith, c.requires.room, counts.nodes), (c.requires.inside, (union_breaches _ _ _ _ _ c.in-Union.is c.as_slice.ensures ∙ c.requires.clean, omega (arith, c.requires.small, counts.bound)))))
+    let node = ap (λ s. s.node) c.behind.ensures in
+    (omega (arith, c.decreases, counts.nodes), (omega (arith, c.requires.room, counts.nodes, node), (omega (arith, c.requires.inside, node, ap (λ s. s.place) c.behind.ensures), (union_breaches _ _ _ _ _ c.in-Union.is c.as_slice.ensures ∙ c.requires.clean, omega (arith, c.requires.small, counts.bound)))))
 
-pub put-returns-in-Union : goal.put-returns-in-Union
-put-returns-in-Union t c =
-    subst (λ ns. OnOk c.put_union.result (c.put_union.new.nodes ≡ c.args.nodes.now ++ ns)) (union_nodes _ _ c.args.owner c.args.at _ _ _ c.in-Union.is c.as_slice.ensures) c.put_union.ensures
+pub put_inside-returns-in-Union : goal.put_inside-returns-in-Union
+put_inside-returns-in-Union t c =
+    let scheme = c.args.scheme.now in
+    let inside = ap (λ s. nodes_of scheme.names scheme.defs.items c.args.owner s c.as_slice.result.now) c.behind.ensures ∙ union_inside _ _ c.args.owner c.args.at _ _ _ c.in-Union.is c.as_slice.ensures in
+    rw (sym inside) c.put_all.ensures
 
-pub put-put_product-requires : goal.put-put_product-requires
-put-put_product-requires t c =
+pub put_inside-put_all-requires-in-Product : goal.put_inside-put_all-requires-in-Product
+put_inside-put_all-requires-in-Product t c =
     let counts = counts_of_product _ _ _ _ c.in-Product.is c.as_slice-in-Product.ensures in
-    (omega (arith, c.decreases, counts.nodes), (omega (arith, c.requires.room, counts.nodes), (c.requires.inside, (product_breaches _ _ _ _ _ _ c.in-Product.is c.as_slice-in-Product.ensures ∙ c.requires.clean, omega (arith, c.requires.small, counts.bound)))))
+    let node = ap (λ s. s.node) c.behind-in-Product.ensures in
+    (omega (arith, c.decreases, counts.nodes), (omega (arith, c.requires.room, counts.nodes, node), (omega (arith, c.requires.inside, node, ap (λ s. s.place) c.behind-in-Product.ensures), (product_breaches _ _ _ _ _ _ c.in-Product.is c.as_slice-in-Product.ensures ∙ c.requires.clean, omega (arith, c.requires.small, counts.bound)))))
 
-pub put-returns-in-Product : goal.put-returns-in-Product
-put-returns-in-Product t c =
-    subst (λ ns. OnOk c.put_product.result (c.put_product.new.nodes ≡ c.args.nodes.now ++ ns)) (product_nodes _ _ c.args.owner c.args.at _ _ _ _ c.in-Product.is c.as_slice-in-Product.ensures) c.put_product.ensures
+pub put_inside-returns-in-Product : goal.put_inside-returns-in-Product
+put_inside-returns-in-Product t c =
+    let scheme = c.args.scheme.now in
+    let inside = ap (λ s. nodes_of scheme.names scheme.defs.items c.args.owner s c.as_slice-in-Product.result.now) c.behind-in-Product.ensures ∙ product_inside _ _ c.args.owner c.args.at _ _ _ _ c.in-Product.is c.as_slice-in-Product.ensures in
+    rw (sym inside) c.put_all-in-Product.ensures
 
-pub put-put_collection-requires : goal.put-put_collection-requires
-put-put_collection-requires t c =
+pub put_inside-put-requires : goal.put_inside-put-requires
+put_inside-put-requires t c =
     let counts = counts_of_collection _ _ _ _ _ _ c.in-Coll.is c.get.ensures in
-    (omega (arith, c.decreases, counts.nodes), (omega (arith, c.requires.room, counts.nodes), (c.requires.inside, (collection_clean _ _ _ _ _ _ _ _ c.in-Coll.is c.get.ensures c.requires.clean, (omega (arith, c.requires.small, counts.greatest), omega (arith, c.requires.small, counts.greatest))))))
+    let node = ap (λ s. s.node) c.behind-in-Coll.ensures in
+    (omega (arith, c.decreases, counts.nodes), (omega (arith, c.requires.room, counts.nodes, node), (omega (arith, c.requires.inside, node, ap (λ s. s.place) c.behind-in-Coll.ensures), (collection_clean _ _ _ _ _ _ _ _ c.in-Coll.is c.get.ensures c.requires.clean, omega (arith, c.requires.small, counts.greatest)))))
 
-pub put-returns-in-Coll : goal.put-returns-in-Coll
-put-returns-in-Coll t c =
-    subst (λ ns. OnOk c.put_collection.result (c.put_collection.new.nodes ≡ c.args.nodes.now ++ ns)) (collection_nodes _ _ c.args.owner c.args.at _ _ _ _ _ _ c.in-Coll.is c.get.ensures) c.put_collection.ensures
+pub put_inside-returns-in-Coll : goal.put_inside-returns-in-Coll
+put_inside-returns-in-Coll t c =
+    let scheme = c.args.scheme.now in
+    let inside = ap (λ s. nodes_at scheme.names scheme.defs.items c.args.owner s (expr_of c.get.result.now)) c.behind-in-Coll.ensures ∙ collection_inside _ _ c.args.owner c.args.at _ _ _ _ _ _ c.in-Coll.is c.get.ensures in
+    rw (sym inside) c.put.ensures
 
 pub put_all-put-requires : goal.put_all-put-requires
 put_all-put-requires t c =

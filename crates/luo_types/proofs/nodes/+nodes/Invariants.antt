@@ -15,16 +15,10 @@ invariant-put_all-loop-expr l =
     × (l.nodes ++ nodes_of l.scheme.names l.scheme.defs.items l.owner l.spot (drop l.expr-index l.exprs) ≡ l.fn.nodes ++ nodes_of l.scheme.names l.scheme.defs.items l.owner l.fn.at l.exprs)
 
 abbrev pub decreases-put : goal.decreases-put
-decreases-put l = 3 * nodes_in l.expr.now
+decreases-put l = 3 * nodes_in l.expr.now + 2
 
-abbrev pub decreases-put_union : goal.decreases-put_union
-decreases-put_union l = 3 * sum_by nodes_in l.parts.now + 2
-
-abbrev pub decreases-put_product : goal.decreases-put_product
-decreases-put_product l = 3 * sum_by nodes_in l.parts.now + 2
-
-abbrev pub decreases-put_collection : goal.decreases-put_collection
-decreases-put_collection l = 3 * nodes_in l.part.now + 1
+abbrev pub decreases-put_inside : goal.decreases-put_inside
+decreases-put_inside l = 3 * nodes_in l.expr.now + 1
 
 abbrev pub decreases-put_all : goal.decreases-put_all
-decreases-put_all l = 3 * sum_by nodes_in l.exprs.now + 1
+decreases-put_all l = 3 * sum_by nodes_in l.exprs.now + 3

@@ -56,7 +56,7 @@ pub case-arms-requires : goal.case-arms-requires
 case-arms-requires t c =
     let room = case-room c.args.var.now c.args.branches.now c.args.maker.now.body.own c.args.maker.now.next c.requires.room in
     let even = case-even c.args.context.now.setting.now c.args.context.now.scope.now c.args.var.now (length c.args.branches.now) c.in_ok-there.there c.in_ok-there.ensures.ok c.in_ok-there.ensures.arms in
-    (search (rules, the_lemmas), (room, (c.requires.within, even)))
+    (search (rules, the_lemmas), (room, even))
 
 pub case-returns-in_err-made : goal.case-returns-in_err-made
 case-returns-in_err-made t c =
@@ -76,7 +76,7 @@ case-returns t c =
 pub stmt-stmts-requires : goal.stmt-stmts-requires
 stmt-stmts-requires t c =
     let room = block-room _ c.as_slice.result.now c.args.stmt.now c.args.maker.now.body.own c.args.maker.now.next c.in-Block.is c.as_slice.ensures c.requires.room in
-    (search (rules, the_lemmas), (room, c.requires.within))
+    (search (rules, the_lemmas), room)
 
 pub stmt-returns-in_err-stmts-in-Block : goal.stmt-returns-in_err-stmts-in-Block
 stmt-returns-in_err-stmts-in-Block t c =
@@ -105,7 +105,7 @@ pub stmts-loop-one-preserved : goal.stmts-loop-one-preserved
 stmts-loop-one-preserved t c =
     let s = c.args.context.now.setting.now in
     let so = at-stmt s c.args.context.now.scope.now c.args.stmts.now c.args.maker.now.body c.args.maker.now.next c.loop-one.one-index c.one-item.result c.loop-one.maker.body c.loop-one.maker.next c.loop-one.invariant c.loop-one-test.true c.one-item.is in
-    so_far-more s c.args.context.now.scope.now c.args.stmts.now c.args.maker.now.body c.args.maker.now.next c.one-item.result _ c.loop-one.maker.body c.stmt.new.maker.body c.loop-one.maker.next c.stmt.new.maker.next c.requires.within so c.in_ok-stmt.ensures.1.0
+    so_far-more s c.args.context.now.scope.now c.args.stmts.now c.args.maker.now.body c.args.maker.now.next c.one-item.result _ c.loop-one.maker.body c.stmt.new.maker.body c.loop-one.maker.next c.stmt.new.maker.next c.args.context.now.measures so c.in_ok-stmt.ensures.1.0
 
 pub stmts-returns : goal.stmts-returns
 stmts-returns t c =
@@ -120,7 +120,7 @@ walk-returns-in_err-there t c =
 pub walk-stmt-requires : goal.walk-stmt-requires
 walk-stmt-requires t c =
     let room = walk-room c.args.var.now c.args.source.now c.args.each.now c.args.maker.now.body.own c.args.maker.now.next c.requires.room in
-    (search (rules, the_lemmas), (subst (λ m. HasRoom (stmt_statements (stmt_of c.args.each.now)) m.body.own m.next) (sym c.new-made.ensures) room, c.requires.within))
+    (search (rules, the_lemmas), (subst (λ m. HasRoom (stmt_statements (stmt_of c.args.each.now)) m.body.own m.next) (sym c.new-made.ensures) room))
 
 pub walk-returns-in_err-stmt : goal.walk-returns-in_err-stmt
 walk-returns-in_err-stmt t c =

@@ -30,11 +30,11 @@ all_parts-returns t c =
 
 pub all_arms-returns : goal.all_arms-returns
 all_arms-returns t c =
-    let m = arms_end c.args.context.now.setting.now (stands c.args.on (shape_at c.args.context.now.setting.now c.args.on.node)) (Some c.args.expected) c.args.var.now c.args.arms.now c.loop-i.i c.loop-i.values c.loop-i.bodies c.args.next.now c.loop-i.next c.loop-i-test.false c.loop-i.invariant in
+    let m = arms_end c.args.context.now.setting.now (stands c.args.subject.now.on (shape_at c.args.context.now.setting.now c.args.subject.now.on.node)) (Some c.args.subject.now.expected) c.args.subject.now.var.now c.args.arms.now c.loop-i.i c.loop-i.values c.loop-i.bodies c.args.next.now c.loop-i.next c.loop-i-test.false c.loop-i.invariant in
     (m.unbroken, (m, tt))
 
 pub branch-overflow_cast-result : goal.branch-overflow_cast-result
-branch-overflow_cast-result t c = record { fits = branch_small c.args.context.now.setting.now c.args.expected c.in-Some.node c.args.place.0 c.requires.branches c.in-Some.ensures }
+branch-overflow_cast-result t c = record { fits = branch_small c.args.context.now.setting.now c.args.expected c.in-Some.node c.args.place.0 c.args.context.now.branches c.in-Some.ensures }
 
 pub branch-returns-in_err-made-in-Some :
     goal.branch-returns-in_err-made-in-Some
@@ -72,18 +72,18 @@ case-overflow_add-maker t c =
 
 pub case-all_arms-requires : goal.case-all_arms-requires
 case-all_arms-requires t c =
-    (search rules, (c.requires.measures, (c.requires.branches, (case_each c.args.context.now.setting.now c.args.context.now.scope.now c.args.var.now c.args.arms.now c.in_ok-there.there c.in_ok-there.ensures.ok c.in_ok-there.ensures.arms, case_room_inside c.args.var.now c.args.arms.now c.args.maker.now.body.own c.args.maker.now.next c.requires.room))))
+    (search rules, (case_each c.args.context.now.setting.now c.args.context.now.scope.now c.args.var.now c.args.arms.now c.in_ok-there.there c.in_ok-there.ensures.ok c.in_ok-there.ensures.arms, case_room_inside c.args.var.now c.args.arms.now c.args.maker.now.body.own c.args.maker.now.next c.requires.room))
 
 pub one_arm-returns-in_err-opened : goal.one_arm-returns-in_err-opened
 one_arm-returns-in_err-opened t c =
     stopped c.from_residual.result _ _ _ c.from_residual.ensures.1
-    (arm_stops_pattern c.args.context.now.setting.now (stand_of c.args.stand) (Some c.args.expected) c.args.var.now c.args.arm.now _ c.in_err-opened.ensures.stops)
+    (arm_stops_pattern c.args.context.now.setting.now (stand_of c.args.stand) (Some c.args.subject.now.expected) c.args.subject.now.var.now c.args.arm.now _ c.in_err-opened.ensures.stops)
 
 pub branch-value-requires : goal.branch-value-requires
-branch-value-requires t c = (search rules, (c.requires.measures, (c.requires.branches, branch_room c.args.place.0 c.args.place.1 c.args.inner.now c.args.maker.now.body.own c.args.maker.now.next c.requires.room)))
+branch-value-requires t c = (search rules, branch_room c.args.place.0 c.args.place.1 c.args.inner.now c.args.maker.now.body.own c.args.maker.now.next c.requires.room)
 
 pub tuple-all_parts-requires : goal.tuple-all_parts-requires
-tuple-all_parts-requires t c = (search rules, (c.requires.measures, (c.requires.branches, (c.in-Some.ensures.product.1, tuple_room c.args.parts.now c.args.at c.args.maker.now.body.own c.args.maker.now.next c.requires.room))))
+tuple-all_parts-requires t c = (search rules, (c.in-Some.ensures.product.1, tuple_room c.args.parts.now c.args.at c.args.maker.now.body.own c.args.maker.now.next c.requires.room))
 
 pub tuple-returns-in_err-made-in-Some :
     goal.tuple-returns-in_err-made-in-Some
@@ -104,7 +104,7 @@ pub all_parts-loop-i-preserved : goal.all_parts-loop-i-preserved
 all_parts-loop-i-preserved t c =
     let at_part = drop_at c.args.parts.now c.loop-i.i c.index-parts-i.result c.loop-i-test.true c.index-parts-i.is in
     let at_factor = drop_more c.args.factors.now c.loop-i.i no_part (omega (arith, c.loop-i-test.true, c.requires.each)) in
-    parts_more c.args.context.now.setting.now c.args.context.now.scope.now c.args.factors.now c.args.parts.now c.loop-i.i c.loop-i.made c.push.new.self c.args.maker.now.body c.loop-i.maker.body c.value.new.maker.body c.args.maker.now.next c.loop-i.maker.next c.value.new.maker.next _ c.index-parts-i.result c.in_ok-one.one c.requires.measures c.loop-i.invariant at_factor at_part c.in_ok-one.ensures.1.0 c.in_ok-push.ensures.ok
+    parts_more c.args.context.now.setting.now c.args.context.now.scope.now c.args.factors.now c.args.parts.now c.loop-i.i c.loop-i.made c.push.new.self c.args.maker.now.body c.loop-i.maker.body c.value.new.maker.body c.args.maker.now.next c.loop-i.maker.next c.value.new.maker.next _ c.index-parts-i.result c.in_ok-one.one c.args.context.now.measures c.loop-i.invariant at_factor at_part c.in_ok-one.ensures.1.0 c.in_ok-push.ensures.ok
 
 pub all_parts-returns-in_err-one : goal.all_parts-returns-in_err-one
 all_parts-returns-in_err-one t c =
@@ -122,4 +122,4 @@ pub all_arms-returns-in_err-made : goal.all_arms-returns-in_err-made
 all_arms-returns-in_err-made t c =
     let at_arm = drop_at c.args.arms.now c.loop-i.i c.index-arms-i.result c.loop-i-test.true c.index-arms-i.is in
     stopped c.from_residual.result _ _ _ c.from_residual.ensures.1
-    (arms_stop c.args.context.now.setting.now (stands c.args.on (shape_at c.args.context.now.setting.now c.args.on.node)) (Some c.args.expected) c.args.var.now c.args.arms.now c.loop-i.i c.loop-i.values c.loop-i.bodies c.args.next.now c.loop-i.next (stand_of c.in-Some.stand) c.index-arms-i.result _ c.loop-i.invariant (drop-slice_get _ c.loop-i.i (stand_of c.in-Some.stand) (sym c.in-Some.ensures)) at_arm c.in_err-made.ensures.1.1)
+    (arms_stop c.args.context.now.setting.now (stands c.args.subject.now.on (shape_at c.args.context.now.setting.now c.args.subject.now.on.node)) (Some c.args.subject.now.expected) c.args.subject.now.var.now c.args.arms.now c.loop-i.i c.loop-i.values c.loop-i.bodies c.args.next.now c.loop-i.next (stand_of c.in-Some.stand) c.index-arms-i.result _ c.loop-i.invariant (drop-slice_get _ c.loop-i.i (stand_of c.in-Some.stand) (sym c.in-Some.ensures)) at_arm c.in_err-made.ensures.1.1)

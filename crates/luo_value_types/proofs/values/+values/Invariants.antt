@@ -9,4 +9,4 @@ abbrev pub invariant-all_parts-loop-i : goal.invariant-all_parts-loop-i
 invariant-all_parts-loop-i l = PartsSoFar l.context.setting.now l.context.scope.now l.factors l.parts l.i l.made l.initial.maker.body l.maker.body l.initial.maker.next l.maker.next
 
 abbrev pub invariant-all_arms-loop-i : goal.invariant-all_arms-loop-i
-invariant-all_arms-loop-i l = ArmsSoFar l.context.setting.now (stands l.on (shape_at l.context.setting.now l.on.node)) (Some l.expected) l.var l.arms l.i l.values l.bodies l.initial.next l.next
+invariant-all_arms-loop-i l = ArmsSoFar l.context.setting.now (stands l.subject.on (shape_at l.context.setting.now l.subject.on.node)) (Some l.subject.expected) l.subject.var.now l.arms l.i l.values l.bodies l.initial.next l.next
