@@ -16,6 +16,7 @@ pub record NextDefinition (universe : Universe) (names : List (List ℕ × Meani
   pub room : node + own_nodes d.right + sum_by (λ (d : Definition). own_nodes d.right) rest ≤ NODE_LIMIT
   pub clean : expr_breaches universe names d.right ≡ []
   pub clean_rest : flat_map (λ (d : Definition). expr_breaches universe names d.right) rest ≡ []
+  pub small : greatest_bound d.right ≤ BOUND_LIMIT
   pub small_rest : greatest_by (λ (d : Definition). greatest_bound d.right) rest ≤ BOUND_LIMIT
 
 pub next_definition : (universe : Universe) (names : List (List ℕ × Meaning)) (node : ℕ) (ds : List Definition) (i : ℕ) (d : Definition) → i < length ds → d ≡ get_or ds i d
@@ -28,6 +29,7 @@ next_definition universe names node ds i d h is room clean small =
       room = omega (arith, room, ap (sum_by (λ (d : Definition). own_nodes d.right)) cut, sum_by-cons (λ (d : Definition). own_nodes d.right) d (drop (i + 1) ds));
       clean = none.0;
       clean_rest = none.1;
+      small = omega (arith, small, ap (greatest_by (λ (d : Definition). greatest_bound d.right)) cut);
       small_rest = omega (arith, small, ap (greatest_by (λ (d : Definition). greatest_bound d.right)) cut);
     }
 

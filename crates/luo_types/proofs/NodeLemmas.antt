@@ -1,6 +1,6 @@
 -- Nodes in the lists and boxes of type expressions.
 use Rattle.std.proofs.Common.{◌≡◌, ℕ, ◌+◌, ◌<◌, ◌≤◌, List, [], ◌∷◌, ◌++◌, length, get_or, drop, flat_map, sum_by, append_assoc, refl, ap, ◌∙◌, sym, arith, Option, Some, None}
-use Rattle.luo_num.specs.declared.limits.TheConstants.{BOUND_LIMIT, NODE_LIMIT}
+use Rattle.luo_num.specs.declared.limits.TheConstants.{NODE_LIMIT}
 use Rattle.std.proofs.lemmas.List.Sums.{sum_by-cons}
 use Rattle.luo_model.specs.declared.program.Kind.{Kind}
 use Rattle.luo_model.specs.declared.program.Universe.{Universe}
@@ -20,7 +20,7 @@ use Rattle.luo_rules.specs.Definitions.{Definition}
 use Rattle.luo_rules.specs.TypeBreaches.{kind_breaches, low_of, high_of}
 use Rattle.luo_rules.specs.Nodes.{Spot, behind, part_at, parts_at, nodes_at, all_nodes_at}
 use Rattle.luo_types.specs.inner.Held.{nodes_in, bound_in, breaches_in}
-use Rattle.luo_types.specs.inner.NodeLists.{parts_of, nodes_of, construct_at, inside_at}
+use Rattle.luo_types.specs.inner.NodeLists.{FitsAt, AllFitAt, parts_of, nodes_of, construct_at, inside_at}
 use Rattle.luo_types.proofs.ExpressionLemmas.{collection_breaches}
 
 pub none-of-append : (xs ys : List Breach) → xs ++ ys ≡ [] → (xs ≡ []) × (ys ≡ [])
@@ -32,23 +32,18 @@ drop_at xs i x h e = drop_more xs i x h ∙ ap (λ y. y ∷ drop (i + 1) xs) (sy
 
 -- the next of type expressions, and those behind it
 pub record Next (universe : Universe) (names : List (List ℕ × Meaning)) (at : Spot) (e : TypeExpr) (rest : List TypeExpr) : Type 0 where
-  pub room : at.node + nodes_in e + sum_by nodes_in rest ≤ NODE_LIMIT
-  pub clean : breaches_in universe names e ≡ []
-  pub clean_rest : flat_map (breaches_in universe names) rest ≡ []
-  pub small : bound_in e ≤ BOUND_LIMIT
-  pub small_rest : greatest_by bound_in rest ≤ BOUND_LIMIT
+  pub fits : FitsAt universe names at e
+  pub rest_fits : AllFitAt universe names (behind at (nodes_in e)) rest
 
 pub next_of : (universe : Universe) (names : List (List ℕ × Meaning)) (at : Spot) (es : List TypeExpr) (i : ℕ) (e : TypeExpr) → i < length es → e ≡ get_or es i e
-    → at.node + sum_by nodes_in (drop i es) ≤ NODE_LIMIT → flat_map (breaches_in universe names) (drop i es) ≡ [] → greatest_by bound_in (drop i es) ≤ BOUND_LIMIT → Next universe names at e (drop (i + 1) es)
-next_of universe names at es i e h is room clean small =
+    → AllFitAt universe names at (drop i es) → Next universe names at e (drop (i + 1) es)
+next_of universe names at es i e h is all =
     let cut = drop_at es i e h is in
-    let none = none-of-append _ _ (sym (ap (flat_map (breaches_in universe names)) cut) ∙ clean) in
+    let none = none-of-append _ _ (sym (ap (flat_map (breaches_in universe names)) cut) ∙ all.clean) in
+    let room : at.node + nodes_in e + sum_by nodes_in (drop (i + 1) es) ≤ NODE_LIMIT = omega (arith, all.room, ap (sum_by nodes_in) cut, sum_by-cons nodes_in e (drop (i + 1) es)) in
     record {
-      room = omega (arith, room, ap (sum_by nodes_in) cut, sum_by-cons nodes_in e (drop (i + 1) es));
-      clean = none.0;
-      clean_rest = none.1;
-      small = omega (arith, small, ap (greatest_by bound_in) cut);
-      small_rest = omega (arith, small, ap (greatest_by bound_in) cut);
+      fits = record { room = omega (arith, room); clean = none.0; small = omega (arith, all.small, ap (greatest_by bound_in) cut) };
+      rest_fits = record { room = room; clean = none.1; small = omega (arith, all.small, ap (greatest_by bound_in) cut) };
     }
 
 -- the part of a collection without breaches has none

@@ -5,7 +5,7 @@ ghost use Rattle.luo_rules.specs.Counted.{greatest_of, greatest_by};
 ghost use Rattle.luo_rules.specs.TypeBreaches.{low_of, high_of};
 ghost use Rattle.luo_source.specs.View.{expr_of};
 ghost use Rattle.luo_rules.specs.Nodes.{nodes_at};
-ghost use Rattle.luo_types.specs.inner.NodeLists.{construct_at, inside_at, nodes_of};
+ghost use Rattle.luo_types.specs.inner.NodeLists.{FitsAt, AllFitAt, construct_at, inside_at, nodes_of};
 ghost use Rattle.luo_types.specs.inner.Held.{nodes_in, bound_in, breaches_in};
 
 use crate::counts::count_expr;
@@ -39,10 +39,7 @@ fn high_of(bound: Option<Bound>) -> Option<u32>
 
 // The construct of a type expression at this spot, and none for a name.
 fn construct(expr: &TypeExpr, scheme: &Scheme, at: Spot) -> Result<Option<Shape>, NoMemory>
-    requires room { at.node + nodes_in expr.now ≤ NODE_LIMIT }
-    requires inside { at.place ≤ at.node }
-    requires clean { breaches_in scheme.now.universe scheme.now.names expr.now ≡ [] }
-    requires small { bound_in expr.now ≤ BOUND_LIMIT }
+    requires { FitsAt scheme.now.universe scheme.now.names at expr.now }
     ensures { IfOk result (λ made. made
         ≡ construct_at scheme.now.names scheme.now.defs.items at (expr_of expr.now)) }
 {
@@ -81,10 +78,7 @@ pub(crate) fn put(
     at: Spot,
     nodes: &mut Items<Node>,
 ) -> Result<(), NoMemory>
-    requires room { at.node + nodes_in expr.now ≤ NODE_LIMIT }
-    requires inside { at.place ≤ at.node }
-    requires clean { breaches_in scheme.now.universe scheme.now.names expr.now ≡ [] }
-    requires small { bound_in expr.now ≤ BOUND_LIMIT }
+    requires { FitsAt scheme.now.universe scheme.now.names at expr.now }
     ensures { OnOk result (nodes.new ≡ nodes.old
         ++ nodes_at scheme.now.names scheme.now.defs.items owner at (expr_of expr.now)) }
 {
@@ -108,10 +102,7 @@ fn put_inside(
     at: Spot,
     nodes: &mut Items<Node>,
 ) -> Result<(), NoMemory>
-    requires room { at.node + nodes_in expr.now ≤ NODE_LIMIT }
-    requires inside { at.place ≤ at.node }
-    requires clean { breaches_in scheme.now.universe scheme.now.names expr.now ≡ [] }
-    requires small { bound_in expr.now ≤ BOUND_LIMIT }
+    requires { FitsAt scheme.now.universe scheme.now.names at expr.now }
     ensures { OnOk result (nodes.new ≡ nodes.old
         ++ inside_at scheme.now.names scheme.now.defs.items owner at (expr_of expr.now)) }
 {
@@ -136,10 +127,7 @@ fn put_all(
     at: Spot,
     nodes: &mut Items<Node>,
 ) -> Result<(), NoMemory>
-    requires room { at.node + sum_by nodes_in exprs.now ≤ NODE_LIMIT }
-    requires inside { at.place ≤ at.node }
-    requires clean { flat_map (breaches_in scheme.now.universe scheme.now.names) exprs.now ≡ [] }
-    requires small { greatest_by bound_in exprs.now ≤ BOUND_LIMIT }
+    requires { AllFitAt scheme.now.universe scheme.now.names at exprs.now }
     ensures { OnOk result (nodes.new ≡ nodes.old
         ++ nodes_of scheme.now.names scheme.now.defs.items owner at exprs.now) }
 {

@@ -19,7 +19,7 @@ use luo_source::{Name, TypeExpr};
 use std::alloc::Global;
 use std::marker::Model;
 
-/// Where a construct stands: its number as a node, and its place in its definition.
+/// Where a construct stands: its number as a node, and its place in its definition, which is no greater.
 #[derive(Clone, Copy)]
 pub(crate) struct Spot {
     pub node: usize,
@@ -27,12 +27,14 @@ pub(crate) struct Spot {
 }
 
 impl Model for Spot {
-    ghost use Rattle.luo_source.specs.View.{expr_of};
+    ghost use Rattle.std.specs.Prelude.{◌≤◌};
     ghost use Rattle.luo_rules.specs.Nodes.{Spot};
 
     ghost Value = { Spot };
 
     ghost view = { λ s. record { node = s.node; place = s.place } };
+
+    ghost invariant = { λ s. s.place ≤ s.node };
 
     ghost inverse = { λ s. record { node = s.node; place = s.place } };
 }
@@ -40,8 +42,7 @@ impl Model for Spot {
 impl Spot {
     /// So many nodes behind.
     pub fn behind(self, count: usize) -> Spot
-        requires room { self.node + count ≤ NODE_LIMIT }
-        requires inside { self.place ≤ self.node }
+        requires { self.node + count ≤ NODE_LIMIT }
         ensures { result ≡ behind self count }
     {
         Spot {
@@ -131,8 +132,7 @@ impl<'s> Scheme<'s> {
 
     /// The parts that stand for type expressions, one behind the other.
     pub fn parts(&self, at: Spot, exprs: &[TypeExpr]) -> Result<Items<Part>, NoMemory>
-        requires room { at.node + sum_by nodes_in exprs.now ≤ NODE_LIMIT }
-        requires inside { at.place ≤ at.node }
+        requires { at.node + sum_by nodes_in exprs.now ≤ NODE_LIMIT }
         ensures { IfOk result (λ parts. parts
             ≡ parts_of self.now.names self.now.defs.items at exprs.now) }
     {

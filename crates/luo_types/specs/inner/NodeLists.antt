@@ -1,5 +1,7 @@
 -- The nodes of lists of type expressions, and what is known where nodes are made.
-use Rattle.std.specs.Prelude.{◌≡◌, ℕ, ◌<◌, List, [], ◌∷◌, ◌++◌, length, Option, Some, None, slice_get}
+use Rattle.std.specs.Prelude.{◌≡◌, ℕ, ◌+◌, ◌<◌, ◌≤◌, List, [], ◌∷◌, ◌++◌, length, Option, Some, None, slice_get, sum_by, flat_map}
+use Rattle.luo_num.specs.declared.limits.TheConstants.{BOUND_LIMIT, NODE_LIMIT}
+use Rattle.luo_model.specs.declared.program.Universe.{Universe}
 use Rattle.luo_model.specs.declared.program.Part.{Part}
 use Rattle.luo_model.specs.declared.program.Node.{Node}
 use Rattle.luo_model.specs.declared.program.Shape.{Shape}
@@ -8,8 +10,9 @@ use Rattle.luo_source.specs.declared.types.TypeExpr.{TypeExpr}
 use Rattle.luo_source.specs.Plain.Types as plain
 use Rattle.luo_source.specs.View.{expr_of}
 use Rattle.luo_rules.specs.declared.names.Meaning.{Meaning}
+use Rattle.luo_rules.specs.Counted.{greatest_by}
 use Rattle.luo_rules.specs.Meanings.{meaning}
-use Rattle.luo_types.specs.inner.Held.{nodes_in}
+use Rattle.luo_types.specs.inner.Held.{nodes_in, bound_in, breaches_in}
 use Rattle.luo_rules.specs.Definitions.{Definition, definition_meant}
 use Rattle.luo_rules.specs.inner.Naming.{node_of}
 use Rattle.luo_rules.specs.TypeBreaches.{low_of, high_of}
@@ -23,6 +26,21 @@ MeanBelow names n = (text : List ℕ) (i : ℕ) → definition_meant (meaning na
 abbrev pub AreNodes : List (List ℕ × Meaning) → List Definition → List ℕ → Type 0
 AreNodes names defs nodes =
     (i : ℕ) → i < length defs → slice_get nodes i ≡ Some (node_of names defs i)
+
+-- the nodes of a type expression may be put from this spot on: there is room, nothing in it is
+-- broken, and its bounds are small
+pub record FitsAt (universe : Universe) (names : List (List ℕ × Meaning)) (at : Spot)
+    (e : TypeExpr) : Type 0 where
+  pub room : at.node + nodes_in e ≤ NODE_LIMIT
+  pub clean : breaches_in universe names e ≡ []
+  pub small : bound_in e ≤ BOUND_LIMIT
+
+-- those of type expressions may, one behind the other
+pub record AllFitAt (universe : Universe) (names : List (List ℕ × Meaning)) (at : Spot)
+    (es : List TypeExpr) : Type 0 where
+  pub room : at.node + sum_by nodes_in es ≤ NODE_LIMIT
+  pub clean : flat_map (breaches_in universe names) es ≡ []
+  pub small : greatest_by bound_in es ≤ BOUND_LIMIT
 
 module _ (names : List (List ℕ × Meaning)) (defs : List Definition) where
   -- the parts that stand for type expressions, one behind the other

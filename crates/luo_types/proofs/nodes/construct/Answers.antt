@@ -5,11 +5,11 @@ use Rattle.luo_types.proofs.CountLemmas.{counts_of_union, counts_of_product}
 use Rattle.luo_types.proofs.NodeLemmas.{union_construct, product_construct, collection_construct}
 use Rattle.luo_types.proofs.nodes.construct.Goals as goal
 
-pub parts-requires-clause-room : goal.parts-requires-clause-room
-parts-requires-clause-room c = omega (arith, c.requires.room, (counts_of_union _ _ _ c.in-Union.is c.as_slice.ensures).nodes, ap (λ s. s.node) c.behind.ensures)
+pub parts-requires : goal.parts-requires
+parts-requires c = omega (arith, c.requires.room, (counts_of_union _ _ _ c.in-Union.is c.as_slice.ensures).nodes, ap (λ s. s.node) c.behind.ensures)
 
-pub parts-requires-in-Product-clause-room : goal.parts-requires-in-Product-clause-room
-parts-requires-in-Product-clause-room c =
+pub parts-requires-in-Product : goal.parts-requires-in-Product
+parts-requires-in-Product c =
     omega (arith, c.requires.room, (counts_of_product _ _ _ _ c.in-Product.is c.as_slice-in-Product.ensures).nodes, ap (λ s. s.node) c.behind-in-Product.ensures)
 
 pub returns-in_ok-parts-in-Union : goal.returns-in_ok-parts-in-Union

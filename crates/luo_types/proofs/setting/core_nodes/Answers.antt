@@ -1,17 +1,21 @@
 use Rattle.std.proofs.Common.{◌∙◌, ◌++◌, ap, arith}
-use Rattle.luo_rules.specs.Counted.{own_nodes}
+use Rattle.luo_rules.specs.Counted.{own_nodes, greatest_bound}
 use Rattle.luo_rules.specs.Definitions.{Definition}
 use Rattle.luo_rules.specs.TypeBreaches.{expr_breaches}
 use Rattle.luo_rules.specs.Nodes.{nodes_at}
 use Rattle.luo_types.proofs.DefinitionLemmas.{next_definition, nodes_from_next}
 use Rattle.luo_types.proofs.setting.core_nodes.Goals as goal
 
-pub put-requires-clause-clean : goal.put-requires-clause-clean
-put-requires-clause-clean c =
+pub put-requires : goal.put-requires
+put-requires c =
     let s = c.args.scheme.now in
     let inv = c.loop-owner.invariant in
     let next = next_definition s.universe s.names c.loop-owner.node c.as_slice-def-items.result.now c.loop-owner.owner c.def-item.result c.loop-owner-test.true c.def-item.is inv.0 inv.1 inv.2 in
-    ap (λ (d : Definition). expr_breaches s.universe s.names d.right) c.def.view_is ∙ next.clean
+    record {
+      room = omega (arith, next.room, ap (λ (d : Definition). own_nodes d.right) c.def.view_is);
+      clean = ap (λ (d : Definition). expr_breaches s.universe s.names d.right) c.def.view_is ∙ next.clean;
+      small = omega (arith, next.small, ap (λ (d : Definition). greatest_bound d.right) c.def.view_is);
+    }
 
 pub loop-owner-preserved : goal.loop-owner-preserved
 loop-owner-preserved c =
