@@ -1,4 +1,4 @@
--- What an audit finds: few structures, rows whose totals aren't past the last number, and the first total that is.
+-- What an audit finds: few structures, rows whose totals don't overflow, and the first total that does.
 use Rattle.std.proofs.Common.{◌≡◌, ◌⊎◌, ℕ, ◌+◌, ◌<◌, ◌≤◌, take, List, [], ◌∷◌, ◌++◌, length, get_or, inl, inr, refl, sym, ◌∙◌, ap, subst, arith, Some, slice_get, Ok, Err}
 use Rattle.std.proofs.lemmas.List.{take_more, take_all}
 use Rattle.std.proofs.lemmas.Option.{slice_get-get_or, slice_get_within}
@@ -86,7 +86,7 @@ all_few p last none f there n c l count = by (cases c WALKED_LIMIT)
     by (inl h) = h
     by (inr over) = absurd (none (f, n, c, there, l, count, over))
 
--- a row whose total isn't past the last number
+-- a row whose total doesn't overflow
 pub row_not_over : (p : Program) → IsProgram p → (f n : ℕ) (row : Row) → row.n ≡ n → IsRow p f row → row.total ≤ MAX → IsOverAt p f n → ⊥
 row_not_over p q f n row size (P, e, c, h) small (t, total, over) =
     let same : row.total ≡ t = total_one p q f n row.total t (P, e, subst (λ z. IsTotal p P.site z row.total) size h) total in
@@ -187,7 +187,7 @@ module _ (p : Program) (last k : ℕ) (fs : List ℕ) (same : fs ≡ p.analyses)
   pub none_refused : length fs ≤ k → HasNone (AuditRefusal p last)
   none_refused l = no_refusal p last k (subst (λ (z : List ℕ). length z ≤ k) same l) h.none
 
--- the first total past the last number is one
+-- the first total that overflows is one
 pub audit_refusal_one : (p : Program) (last : ℕ) → IsSingle (AuditRefusal p last)
 audit_refusal_one p last a b (k, f, n, h, e) (j, g, m, i, d) = e ∙ (λ z. Refusal Overflow (audit_line (procedure_name p (same.1 z)) (same.2 z))) ∙ sym d
   where

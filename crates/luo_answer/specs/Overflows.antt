@@ -1,4 +1,4 @@
--- What is said of a number past the last one, and its refusal.
+-- What is said of an overflow, and its refusal.
 use Rattle.std.specs.Prelude.{◌≡◌, ◌⊎◌, ◌<◌, ℕ, ◌++◌, List, codes, decimal}
 use Rattle.luo_model.specs.declared.table.Entry.{Entry}
 use Rattle.luo_model.specs.declared.table.Entry.TheVariants.{Count, Total}
@@ -22,7 +22,7 @@ overflow_text p entry n = codes "overflow: " ++ entry_text p entry ++ codes " at
 abbrev pub overflow_line : Program → Entry → ℕ → List ℕ
 overflow_line p entry n = line (overflow_text p entry n)
 
--- of the tables up to a last size, the first entry past the last number is named
+-- of the tables up to a last size, the first entry that overflows is named
 abbrev pub OverflowRefusal : Program → Fill → ℕ → Answer → Type 0
 OverflowRefusal p fill last answer =
     (entry : Entry) × (n : ℕ) × IsFirstOver p last fill entry n

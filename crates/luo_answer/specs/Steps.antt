@@ -29,6 +29,6 @@ abbrev pub workers_of : ℕ → Step ℕ
 workers_of w =
     RefusedWhere ((w ≡ 0) ⊎ (WORKER_LIMIT < w)) Limit workers_line or_makes λ workers. workers ≡ w
 
--- the first entry past the last number, and else no number up to size n is past it
+-- the first entry that overflows, and else no number up to size n does
 abbrev pub tables : Fill → Program → ℕ → Step ⊤
 tables fill p n = OverflowRefusal p fill n or_makes λ _. (m : ℕ) → m ≤ n → NoneOver p fill m

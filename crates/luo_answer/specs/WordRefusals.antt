@@ -39,6 +39,6 @@ refusal_of_structure (S3 size) =
     Refusal way.Refused (line (codes "refused: S3: size " ++ decimal size))
 refusal_of_structure NoMemory = Refusal way.NoMemory []
 
--- the line of a charge past the last number
+-- the line of a charge that overflows
 abbrev pub charge_line : List ℕ
 charge_line = line (codes "overflow: charge")

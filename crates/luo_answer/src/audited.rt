@@ -25,7 +25,7 @@ use luo_report::Table;
 use std::alloc::Global;
 use std::thread::Threads;
 
-// The line of a total past the last number.
+// The line of a total that overflows.
 fn over_bytes(alloc: Global, program: &Program, f: usize, n: u32) -> Result<Vec<u8>, NoMemory>
     ensures { IfOk result (λ text. text.items ≡ audit_line
         (procedure_name (plain_of program.now) f) n) }
@@ -91,8 +91,8 @@ fn row_of<'p, R: Threads + Sync, G: Gate>(
     }
 }
 
-// The rows of procedure f for the sizes up to `last`, or the refusal of the first total past the last
-// number.
+// The rows of procedure f for the sizes up to `last`, or the refusal of the first total that
+// overflows.
 fn rows_of<'p, R: Threads + Sync, G: Gate>(
     rt: &R,
     alloc: Global,
@@ -125,7 +125,7 @@ fn rows_of<'p, R: Threads + Sync, G: Gate>(
 }
 
 /// The table of each analyze line for the sizes up to `last`, each of a procedure of the program, or the
-/// refusal of the first total past the last number.
+/// refusal of the first total that overflows.
 pub fn audited_tables<'p, R: Threads + Sync, G: Gate>(
     rt: &R,
     alloc: Global,

@@ -131,7 +131,7 @@ module _ (p : Program) (f n : ℕ) where
   too_many workers (Err Over) m c k l = absurd (not_few c k l m.0)
   too_many workers (Err NoMemory) m c k l = absurd (not_few c k l m)
 
-  -- and where the total is past the last number
+  -- and where the total overflows
   pub over : IsProgram p → (workers : ℕ) (r : Result Audited AuditError) → MatchResult r (IsAudit p f n workers) (Explains p f n) → IsOver p f n → IfErr r (λ e. (e ≡ Over) ⊎ (e ≡ NoMemory))
   over q workers (Ok a) m (few, (t, (Q, g, k), l)) =
       let (P, e, c, s) = m.right in

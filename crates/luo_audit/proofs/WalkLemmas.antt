@@ -128,7 +128,7 @@ piece_right h f n node workers i on ranker same at size count c first is r small
       (subst (λ a. IsSum (sum_between charges a first.end) r) (ap (λ (z : Span). z.place) is ∙ ap (λ k. start k workers i) long) s);
 }
 
--- a sum past the last number is refused as one
+-- a sum that overflows is refused as one
 pub sums_refused : (charges : List ℕ) (workers : ℕ) (r : Result Audited AuditError) → IsErrAnd r (λ x. x ≡ Over) → MAX < sum charges → Gathers charges workers r
 sums_refused charges workers (Ok a) q l = absurd q
 sums_refused charges workers (Err x) q l = subst (λ (y : AuditError). Gathers charges workers (Err y)) (sym q) l

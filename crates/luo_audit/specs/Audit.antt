@@ -36,7 +36,7 @@ module _ (p : Program) (f n : ℕ) where
   abbrev pub AreFew : Type 0
   AreFew = (c : ℕ) × CountIs c × (c ≤ WALKED_LIMIT)
 
-  -- there are few structures, and their total is past the last number
+  -- there are few structures, and their total overflows
   abbrev pub IsOver : Type 0
   IsOver = AreFew × ((t : ℕ) × TotalIs t × (MAX < t))
 
@@ -48,7 +48,7 @@ module _ (p : Program) (f n : ℕ) where
     pub few : a.row.count ≤ WALKED_LIMIT
     pub small : a.row.total ≤ MAX
 
-  -- too many structures, with their number; few, with a total past the last number; that memory was
+  -- too many structures, with their number; few, with a total that overflows; that memory was
   -- refused says only that they are few
   abbrev pub Explains : AuditError → Type 0
   Explains (TooMany c) = CountIs c × (WALKED_LIMIT < c)

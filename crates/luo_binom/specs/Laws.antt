@@ -32,7 +32,7 @@ BinomialsStep =
     ((m j : ℕ) → suc j * choose (m + j) (suc j) ≡ m * choose (m + j) j)
     × ((m j : ℕ) → choose (m + j) j ≡ choose (m + j) m)
 
--- no binomial of up to 130 things is past the last number of tables, and of 131 things there is one
+-- no binomial of up to 130 things overflows, and of 131 things one does
 abbrev pub FewAreWithin : Type 0
 FewAreWithin =
     ((n k : ℕ) → n ≤ 130 → choose n k ≤ MAX)

@@ -17,7 +17,7 @@ pub fn binomials_step()
     ensures { BinomialsStep }
 {}
 
-/// Every binomial of up to 130 things is a number of tables; `C(131, 65)` is past the last.
+/// Every binomial of up to 130 things is a number of tables; `C(131, 65)` overflows.
 pub fn few_are_within()
     ensures { FewAreWithin }
 {}

@@ -16,7 +16,7 @@ pub const LAST: u32 = SIZE_LIMIT as u32;
 // The cells of a row: the choices of 0 to `LAST` things.
 const WIDE: usize = SIZE_LIMIT as usize + 1;
 
-/// Pascal's triangle up to a row. Contracts see in it the number of that row. A binomial past the last number of tables is marked.
+/// Pascal's triangle up to a row. Contracts see in it the number of that row. A binomial that overflows is marked.
 #[derive(Drop)]
 pub struct Pascal {
     reach: u32,

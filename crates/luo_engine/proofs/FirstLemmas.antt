@@ -1,4 +1,4 @@
--- The first entry past the last number.
+-- The first entry that overflows.
 use Rattle.std.proofs.Common.{◌≡◌, ◌⊎◌, ℕ, ◌+◌, ◌≤◌, ◌<◌, inl, inr, ⊎_elim, List, length, sym, ap, subst, arith}
 use Rattle.luo_num.specs.declared.TheConstants.{MAX}
 use Rattle.luo_model.specs.declared.table.Entry.{Entry}
@@ -22,7 +22,7 @@ count_before p ranks a x y h k (r, q, ir, iq, l) =
     let f : q ≡ rank_of ranks y = rank_one p y q (rank_of ranks y) iq (a.ranked y k) in
     ⊎_elim (λ c. inl (omega (arith, c, e, f))) (λ c. inr (omega (arith, c.0, e, f), c.1)) l
 
--- a count past the last number is the first entry past it, where the totals of smaller sizes are within it
+-- a count that overflows is the first entry that does, where the totals of smaller sizes don't
 pub count_over : (p : Program) (ranks : List ℕ) → AreRanks p ranks → (last filled : ℕ) (fill : Fill) (x : ℕ) → filled ≤ last
     → (fill ≡ All → (i m v : ℕ) → i < length p.sites → m < filled → IsTotal p i m v → v ≤ MAX) → IsFirstPast p ranks filled x → IsFirstOver p last fill (Count x) filled
 count_over p ranks ranked last filled fill x room totals f = record { there = f.there; had = tt; within = room; over = f.past; earlier = earlier }
@@ -46,7 +46,7 @@ total_before p c ranks levels i j ri rj li lj (r, q, l, m, ir, iq, il, im, b) =
     let h : m ≡ rank_of levels j = level_one p c j m (rank_of levels j) im lj in
     ⊎_elim (λ a. inl (omega (arith, a, e, f))) (λ a. inr (omega (arith, a.0, e, f), ⊎_elim (λ d. inl (omega (arith, d, g, h))) (λ d. inr (omega (arith, d.0, g, h), d.1)) a.1)) b
 
--- a total past the last number is the first entry past it, where no count of its size is
+-- a total that overflows is the first entry that does, where no count of its size does
 pub total_over : (p : Program) → IsProgram p → (ranks levels : List ℕ) → ((i : ℕ) → i < length p.sites → IsRank p (site_node p i) (rank_of ranks i) × IsLevel p i (rank_of levels i))
     → (last filled : ℕ) (fill : Fill) (i : ℕ) → filled ≤ last → fill ≡ All → ((x m v : ℕ) → x < length p.nodes → m < filled + 1 → IsCount p x m v → v ≤ MAX)
     → IsFirstPastOf (IsTotal p) (length p.sites) (IsSiteBefore ranks levels) filled i → IsFirstOver p last fill (Total i) filled
@@ -62,7 +62,7 @@ total_over p c ranks levels ranked last filled fill i room all counts f = record
 pub counts_not_all : Counts ≡ All → ⊥
 counts_not_all e = absurd (cc)
 
--- where no count of the size is past the last number, and no total where there are totals, no entry is
+-- where no count of the size overflows, and no total where there are totals, no entry does
 pub none_over : (p : Program) (fill : Fill) (n : ℕ) → ((x v : ℕ) → x < length p.nodes → IsCount p x n v → v ≤ MAX) → (fill ≡ All → (i v : ℕ) → i < length p.sites → IsTotal p i n v → v ≤ MAX) → NoneOver p fill n
 none_over p fill n counts totals (Count x) v h has e = counts x v h e
 none_over p fill n counts totals (Total i) v h has e = totals has i v h e

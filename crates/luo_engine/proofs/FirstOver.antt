@@ -1,4 +1,4 @@
--- At most one entry is the first past the last number, and where none is, no number is past it.
+-- At most one entry is the first that overflows, and where none is, none does.
 use Rattle.std.proofs.Common.{◌≡◌, ℕ, ◌<◌, ◌≤◌, inl, inr, sym, subst, arith, length}
 use Rattle.luo_num.specs.declared.TheConstants.{MAX}
 use Rattle.luo_model.specs.declared.table.Entry.{Entry}
@@ -31,7 +31,7 @@ module _ (p : Program) (q : IsProgram p) (f : IsFounded p) (last : ℕ) (fill : 
   abbrev AllBefore : Entry → ℕ → Type 0
   AllBefore entry n = (other : Entry) (m w : ℕ) → IsThere p other → Has fill other → IsEarlier p other m entry n → IsNumber p other m w → w ≤ MAX
 
-  -- an entry whose earlier ones are within the last number is so too
+  -- an entry whose earlier ones don't overflow doesn't either
   small : (entry : Entry) (n v : ℕ) → n ≤ last → IsThere p entry → Has fill entry → IsNumber p entry n v → AllBefore entry n → v ≤ MAX
   small entry n v h there had is earlier = not_less v MAX (λ over. none entry n (record { there = there; had = had; within = h; over = (v, is, over); earlier = earlier }))
 

@@ -13,9 +13,9 @@ use Rattle.luo_recipes.specs.Tasks.{Doing, does, calls, chooses, walks, Job, job
 use Rattle.luo_recipes.specs.Tasks as plain
 
 -- what stands behind so many
-drop_front : {A : Type 0} (xs ys : List A) → drop (length xs) (xs ++ ys) ≡ ys
-drop_front [] ys = refl
-drop_front (x ∷ xs) ys = drop_front xs ys
+drop_prefix : {A : Type 0} (xs ys : List A) → drop (length xs) (xs ++ ys) ≡ ys
+drop_prefix [] ys = refl
+drop_prefix (x ∷ xs) ys = drop_prefix xs ys
 
 -- ---- one scope
 
@@ -96,7 +96,7 @@ module _ (starts : List ℕ) (factors : List (Option ℕ)) where
         sites = refl;
         row = bare_links from S.parts;
         parts = bare_factors from S.parts;
-        laid = (after, drop_front before (rows_of_scope starts S ++ after) ∙ append_assoc (links_from from S.parts) (None ∷ []) after ∙ ap (λ (l : List (Option Link)). l ++ (None ∷ after)) (bare_are from S.parts));
+        laid = (after, drop_prefix before (rows_of_scope starts S ++ after) ∙ append_assoc (links_from from S.parts) (None ∷ []) after ∙ ap (λ (l : List (Option Link)). l ++ (None ∷ after)) (bare_are from S.parts));
         arity = sym (bare_length from S.parts);
         behind = λ b a l h. behind_of S r b a l h;
       }

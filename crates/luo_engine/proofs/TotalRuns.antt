@@ -125,6 +125,6 @@ totalling_starts plan sites counts totals walks points last sizes width rows is 
   going = λ _. record { ahead = λ i m h. tz i m; asked = asked; wide = p.wide ∙ b; closed = λ r m h g. absurd (omega (arith, g)) };
 }
 
--- a total that is right is within the last number
+-- a total that is right doesn't overflow
 pub total_within : (p : Program) → IsProgram p → (totals : List (List ℕ)) (bound : ℕ) → ((i m : ℕ) → i < length p.sites → m < bound → IsRightOf (IsTotal p) totals i m) → (i m v : ℕ) → i < length p.sites → m < bound → IsTotal p i m v → v ≤ MAX
 total_within p q totals bound right i m v h l e = let r = right i m h l in omega (arith, totals_are_single p (sites_are_apart p q) i m (entry_of totals i m) v r.0 e, r.1)

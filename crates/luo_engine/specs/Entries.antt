@@ -1,4 +1,4 @@
--- The entries of a table in their order, and the first of them past the last number.
+-- The entries of a table in their order, and the first of them that overflows.
 use Rattle.std.specs.Prelude.{◌≡◌, ◌⊎◌, ℕ, ◌<◌, ◌≤◌, length}
 use Rattle.luo_num.specs.declared.TheConstants.{MAX}
 use Rattle.luo_model.specs.declared.table.Entry.{Entry}
@@ -45,7 +45,7 @@ abbrev pub IsEarlier : Program → Entry → ℕ → Entry → ℕ → Type 0
 IsEarlier p other m entry n = LessOr m n (Precedes p other entry)
 
 -- of the entries of the sizes up to the last, this one at size n is the first whose number is past
--- the last number of tables
+-- the greatest number of tables
 pub record IsFirstOver (p : Program) (last : ℕ) (fill : Fill) (entry : Entry) (n : ℕ) : Type 0 where
   pub there : IsThere p entry
   pub had : Has fill entry
@@ -54,7 +54,7 @@ pub record IsFirstOver (p : Program) (last : ℕ) (fill : Fill) (entry : Entry) 
   pub earlier : (other : Entry) (m v : ℕ) → IsThere p other → Has fill other
       → IsEarlier p other m entry n → IsNumber p other m v → v ≤ MAX
 
--- no number of size n is past the last number
+-- no number of size n overflows
 abbrev pub NoneOver : Program → Fill → ℕ → Type 0
 NoneOver p fill n =
     (entry : Entry) (v : ℕ) → IsThere p entry → Has fill entry → IsNumber p entry n v → v ≤ MAX

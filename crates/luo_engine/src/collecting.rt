@@ -93,7 +93,7 @@ pub fn here_at(table: &Table, x: usize, n: usize, low: u32, high: Option<u32>) -
 }
 
 /// The first n entries.
-pub fn front(row: &[u128], n: usize) -> &[u128]
+pub fn prefix(row: &[u128], n: usize) -> &[u128]
     requires { n ≤ length row.now }
     ensures { result.now ≡ take n row.now }
 {
@@ -149,7 +149,7 @@ pub fn collection_at(
             high,
         } => {
             let here = here_at(counts, part.node, n, *low, *high);
-            let comp = front(counts.row(part.node), n);
+            let comp = prefix(counts.row(part.node), n);
             ask(tables, x, plan.pascal(), comp, here)
         }
         _ => unreachable!(),

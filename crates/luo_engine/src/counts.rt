@@ -77,7 +77,7 @@ fn count_at(
     }
 }
 
-/// Fills in the counts of size n, in order, up to the first that is past the last number, which is answered.
+/// Fills in the counts of size n, in order, up to the first that overflows, which is answered.
 pub fn fill_counts(
     plan: &Plan,
     counts: &mut Table,

@@ -22,7 +22,7 @@ use luo_num::limits::SIZE_LIMIT;
 use std::alloc::Global;
 use std::marker::Model;
 
-/// The first entry past the last number, with its size.
+/// The first entry that overflows, with its size.
 #[derive(Clone, Copy, Debug, PartialEq, Eq)]
 pub struct Overflow {
     pub entry: Entry,
@@ -187,7 +187,7 @@ impl<'p> Engine<'p> {
     ///
     /// # Errors
     ///
-    /// An overflow names the first entry past the last number; the smaller sizes stay as they are.
+    /// An overflow names the first entry that overflows; the smaller sizes stay as they are.
     pub fn extend(&mut self) -> Result<(), Overflow>
         requires room { self.old.filled ≤ self.old.last }
         requires going { self.old.stopped ≡ false }

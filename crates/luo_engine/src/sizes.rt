@@ -22,7 +22,7 @@ use crate::tasks::Sites;
 use crate::totals::fill_totals;
 use crate::walks::CollectionWalk;
 
-/// The counts of size n and the partial products, or the first node past the last number.
+/// The counts of size n and the partial products, or the first node that overflows.
 pub fn extend_counts(
     plan: &Plan,
     counts: &mut Table,
@@ -58,7 +58,7 @@ pub fn extend_counts(
     past
 }
 
-/// The totals of size n and the charged products, or the first site past the last number. The counts
+/// The totals of size n and the charged products, or the first site that overflows. The counts
 /// of size n are known.
 pub fn extend_totals(
     plan: &Plan,

@@ -85,8 +85,7 @@ fn total_at(
     }
 }
 
-/// Fills in the totals of size n, in order, up to the first that is past the last number, which is
-/// answered.
+/// Fills in the totals of size n, in order, up to the first that overflows, which is answered.
 pub fn fill_totals(
     plan: &Plan,
     sites: &Sites,

@@ -11,7 +11,7 @@ ghost use Rattle.luo_recipes.specs.Asked.{GoesWithAs, unasked_walk, total_asked}
 ghost use Rattle.luo_recipes.specs.Collections.{table_at, HasTable, AreCollections};
 ghost use Rattle.luo_recipes.specs.Walks.{IsWalk, walk_at, HasWalk, IsWalkAsked, HasAnswered, AllowsOne, HasTotals};
 
-use crate::collecting::{front, here_at};
+use crate::collecting::{here_at, prefix};
 use crate::collections::Collection;
 use crate::plan::Plan;
 use crate::table::Table;
@@ -119,8 +119,8 @@ pub fn walk_total(
             high,
         } => {
             let here = here_at(totals, s, n, *low, *high);
-            let comp = front(counts.row(part.node), n);
-            let body = front(totals.row(s), n);
+            let comp = prefix(counts.row(part.node), n);
+            let body = prefix(totals.row(s), n);
             ask(
                 walks,
                 i,

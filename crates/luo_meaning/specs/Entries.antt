@@ -104,7 +104,7 @@ Has fill (Count x) = Unit {0}
 Has fill (Total i) = fill ≡ All
 
 -- of the entries of the sizes up to the last, this one at size n is the first whose number is past
--- the last number of tables
+-- the greatest number of tables
 pub record IsFirstOver (source : Source) (last : ℕ) (fill : Fill) (entry : Entry)
     (n : ℕ) : Type 0 where
   pub had : Has fill entry

@@ -15,8 +15,8 @@ pub record Counted : Type 0 where
 abbrev pub last_of : List (List ℕ) → ℕ
 last_of rows = length rows - 1
 
--- row n has the count of each node at size n, none of them past the last number; and there is a
--- row, and no more than sizes can number
+-- row n has the count of each node at size n, none of which overflows; and there is a row, and no
+-- more than sizes can number
 pub record AreCounts (p : Program) (rows : List (List ℕ)) : Type 0 where
   pub some : 1 ≤ length rows
   pub numbered : length rows ≤ 2 ^ 32

@@ -1,4 +1,4 @@
--- What marks keep: numbers past the last one may be marked at each step.
+-- What marks keep: numbers that overflow may be marked at each step.
 use Rattle.std.proofs.Common.{arith}
 use Rattle.std.proofs.lemmas.Grind.{common_steps}
 use Rattle.luo_num.specs.Laws.{CappedSum, CappedProduct, CappedSmall, CappedPast}

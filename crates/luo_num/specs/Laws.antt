@@ -15,6 +15,6 @@ CappedProduct = (a b : ℕ) → capped (capped a * capped b) ≡ capped (a * b)
 abbrev pub CappedSmall : Type 0
 CappedSmall = (n : ℕ) → n ≤ MAX → capped n ≡ n
 
--- exactly a number past the last one is marked
+-- exactly a number that overflows is marked
 abbrev pub CappedPast : Type 0
 CappedPast = (n : ℕ) → (MAX < capped n) ↔ (MAX < n)

@@ -30,7 +30,7 @@ pub trait Files {
         ensures faults { NoneFell (faults self.old) (faults self.new) }
         ensures cause { OnErr result (Rose (faults self.old name.now) (faults self.new name.now)) };
 
-    /// Moves the next bytes of the file that was found last to the front of `buf`, and answers how many:
+    /// Moves the next bytes of the file that was found last to the start of `buf`, and answers how many:
     /// 0 only where none is left. `Failed` comes only where the count of each found name rose.
     fn read(&mut self, buf: &mut [u8]) -> Result<usize, Failed>
         requires room { 0 < length buf.old }
@@ -55,7 +55,7 @@ pub trait Sink {
     /// How often the sink failed, a count of at most `2^64 - 1` that stays there once it is there.
     ghost faults: { Self → ℕ };
 
-    /// Takes a front of `piece`, of at least one byte, and answers its length. `Failed` comes only where
+    /// Takes a prefix of `piece`, of at least one byte, and answers its length. `Failed` comes only where
     /// the count rose, and then nothing was taken.
     fn write(&mut self, piece: &[u8]) -> Result<usize, Failed>
         requires { 0 < length piece.now }

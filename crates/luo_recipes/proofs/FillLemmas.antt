@@ -1,4 +1,4 @@
--- One more entry of the counts is filled in, or is the first past the last number.
+-- One more entry of the counts is filled in, or is the first that overflows.
 use Rattle.std.proofs.Common.{◌≡◌, ◌⊎◌, ℕ, ◌+◌, ◌≤◌, ◌<◌, inl, inr, ⊎_elim, List, [], ◌∷◌, length, drop, slice_get, refl, sym, ◌∙◌, ap, subst, arith, Some, None, Option}
 use Rattle.luo_num.specs.declared.TheConstants.{MAX}
 use Rattle.luo_num.specs.Mark.{capped}

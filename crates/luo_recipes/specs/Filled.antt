@@ -26,7 +26,7 @@ pub record IsOrderOf (size : ℕ) (Before : ℕ → ℕ → Type 0) (order : Lis
   pub rising : (i j x y : ℕ) → i < j → slice_get order i ≡ Some x → slice_get order j ≡ Some y
       → Before x y
 
--- the entry is the number of x at size n, and is within the last number
+-- the entry is the number of x at size n, and doesn't overflow
 abbrev pub IsRightOf : (ℕ → ℕ → ℕ → Type 0) → List (List ℕ) → ℕ → ℕ → Type 0
 IsRightOf Is table x n = Is x n (entry_of table x n) × (entry_of table x n ≤ MAX)
 
@@ -48,7 +48,7 @@ pub record NumbersTo (Is : ℕ → ℕ → ℕ → Type 0) (x n value : ℕ) : T
   pub is_number : Is x n number
   pub marked : value ≡ capped number
 
--- the number of x at size n is past the last number, and none that comes before it is
+-- the number of x at size n overflows, and none that comes before it is
 pub record IsFirstPastOf (Is : ℕ → ℕ → ℕ → Type 0) (size : ℕ) (Before : ℕ → ℕ → Type 0)
     (n x : ℕ) : Type 0 where
   pub there : x < size

@@ -16,7 +16,8 @@ pub struct Signature {
     pub result: Option<Option<usize>>,
 }
 
-/// The types of a program with their nodes, its names, and the signatures of its procedures.
+/// The typing environment of bodies: the types of a program with their nodes, its names, and the
+/// signatures of its procedures.
 #[derive(Drop)]
 pub struct Setting {
     pub universe: Universe,

@@ -41,14 +41,14 @@ where_cases d A w = by (nat_le d 32) refl w
     by true e a = (grind arith, a)
     by false e a = absurd a
 
-calm_front : (d : ℕ) (ls : List Lexeme) (j : ℕ) → Calm d ls → j ≤ length ls → closed (take j ls) + 32 < d + opened (take j ls) → ⊥
-calm_front d [] zero c l deep = omega (arith, (where_cases d (Unit {0}) c).0)
-calm_front d [] (suc j) c l deep = omega arith
-calm_front d (x ∷ ls) zero c l deep = omega (arith, (where_cases d (Calm (d + opens x - closes x) ls) c).0)
-calm_front d (x ∷ ls) (suc j) c l deep = calm_front (d + opens x - closes x) ls j (where_cases d (Calm (d + opens x - closes x) ls) c).1 (omega (arith, l)) (omega (arith, deep))
+calm_prefix : (d : ℕ) (ls : List Lexeme) (j : ℕ) → Calm d ls → j ≤ length ls → closed (take j ls) + 32 < d + opened (take j ls) → ⊥
+calm_prefix d [] zero c l deep = omega (arith, (where_cases d (Unit {0}) c).0)
+calm_prefix d [] (suc j) c l deep = omega arith
+calm_prefix d (x ∷ ls) zero c l deep = omega (arith, (where_cases d (Calm (d + opens x - closes x) ls) c).0)
+calm_prefix d (x ∷ ls) (suc j) c l deep = calm_prefix (d + opens x - closes x) ls j (where_cases d (Calm (d + opens x - closes x) ls) c).1 (omega (arith, l)) (omega (arith, deep))
 
 pub calm_shallow : (ls : List Lexeme) → Calm 0 ls → IsShallow ls
-calm_shallow ls c j l deep = calm_front 0 ls j c l (omega (arith, deep))
+calm_shallow ls c j l deep = calm_prefix 0 ls j c l (omega (arith, deep))
 
 -- single lines
 

@@ -36,7 +36,7 @@ Choices =
 
 -- the text begins so
 abbrev pub Begins : List ℕ → List ℕ → Type 0
-Begins front text = take (length front) text ≡ front
+Begins prefix text = take (length prefix) text ≡ prefix
 
 -- the text ends so
 abbrev pub Ends : List ℕ → List ℕ → Type 0

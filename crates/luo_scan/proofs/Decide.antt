@@ -12,7 +12,7 @@ use Rattle.luo_scan.specs.declared.token.TokenKind.{TokenKind}
 use Rattle.luo_scan.specs.declared.token.TokenKind.TheVariants as kind
 use Rattle.luo_scan.specs.declared.token.Token.{Token}
 use Rattle.luo_scan.specs.Bytes.{IsSeparator, IsDigit, IsLetter, IsNameByte}
-use Rattle.luo_scan.specs.Fronts.{Stops}
+use Rattle.luo_scan.specs.Prefixes.{Stops}
 use Rattle.luo_scan.specs.Spellings.{spelling, sign}
 use Rattle.luo_scan.specs.Tokens.{Begins, BeginsNot, IsWithin, TokensFrom, at_end, skipped, taken, LexicalFault, bad_byte, long_name, large_number, FaultFrom, no_piece, name_limit, number_limit, behind_separator, behind_token}
 use Rattle.luo_scan.proofs.Exclusions.{word_of, word_of-spelling, mark_of, mark_of-sign}
@@ -56,22 +56,22 @@ list_or p q =
     let d = bytes_eq-Decides p q in
     elim (cases_Bool (bytes_eq p q)) as (λ _. Decided (p ≡ q)) [ inl t ↦ inl (d.0 t) | inr f ↦ inr (λ e. let t = d.1 e in cc) ]
 
--- the longest front of a kind
+-- the longest prefix of a kind
 record Cut (P : ℕ → Type 0) (text : List ℕ) : Type 0 where
-  front : List ℕ
+  prefix : List ℕ
   rest : List ℕ
-  whole : front ++ rest ≡ text
-  all : AllByRecursion P front
+  whole : prefix ++ rest ≡ text
+  all : AllByRecursion P prefix
   stops : Stops P rest
 
 cut_more : (P : ℕ → Type 0) (b : ℕ) (bs : List ℕ) → P b → Cut P bs → Cut P (b ∷ bs)
-cut_more P b bs p c = record { front = b ∷ c.front; rest = c.rest; whole = ap (λ z. b ∷ z) c.whole; all = (p, c.all); stops = c.stops }
+cut_more P b bs p c = record { prefix = b ∷ c.prefix; rest = c.rest; whole = ap (λ z. b ∷ z) c.whole; all = (p, c.all); stops = c.stops }
 
 cut : (P : ℕ → Type 0) → ((b : ℕ) → Decided (P b)) → (text : List ℕ) → Cut P text
-cut P d [] = record { front = []; rest = []; whole = refl; all = tt; stops = tt }
+cut P d [] = record { prefix = []; rest = []; whole = refl; all = tt; stops = tt }
 cut P d (b ∷ bs) = elim (d b) as (λ _. Cut P (b ∷ bs)) [
   | inl p ↦ cut_more P b bs p (cut P d bs)
-  | inr n ↦ record { front = []; rest = b ∷ bs; whole = refl; all = tt; stops = n }
+  | inr n ↦ record { prefix = []; rest = b ∷ bs; whole = refl; all = tt; stops = n }
 ]
 
 -- the longest piece of a text
@@ -88,9 +88,9 @@ piece_behind b ps rest text what e h =
 name_or_word : (b : ℕ) (text : List ℕ) → IsLetter b → Piece (b ∷ text)
 name_or_word b text l =
     let c = cut IsNameByte name_byte_or text in
-    elim (list_or (spelling (word_of (b ∷ c.front))) (b ∷ c.front)) as (λ _. Piece (b ∷ text)) [
-      | inl e ↦ piece_behind b c.front c.rest text _ c.whole (begins_word (word_of (b ∷ c.front)) b c.front c.rest e c.stops)
-      | inr n ↦ piece_behind b c.front c.rest text _ c.whole (begins_name b c.front c.rest l c.all c.stops (λ w e. n (ap spelling (sym (ap word_of e) ∙ word_of-spelling w) ∙ e)))
+    elim (list_or (spelling (word_of (b ∷ c.prefix))) (b ∷ c.prefix)) as (λ _. Piece (b ∷ text)) [
+      | inl e ↦ piece_behind b c.prefix c.rest text _ c.whole (begins_word (word_of (b ∷ c.prefix)) b c.prefix c.rest e c.stops)
+      | inr n ↦ piece_behind b c.prefix c.rest text _ c.whole (begins_name b c.prefix c.rest l c.all c.stops (λ w e. n (ap spelling (sym (ap word_of e) ∙ word_of-spelling w) ∙ e)))
     ]
 
 number_at : (b : ℕ) (text : List ℕ) → IsDigit b → Piece (b ∷ text)
@@ -98,19 +98,19 @@ number_at b text d =
     let c = cut IsDigit digit_or text in
     elim (cases_eq b 48) as (λ _. Piece (b ∷ text)) [
       | inl e ↦ subst (λ z. Piece (z ∷ text)) (sym e) (record { piece = 48 ∷ []; rest = text; what = Some (kind.Number 0); begins = begins_zero text })
-      | inr n ↦ piece_behind b c.front c.rest text _ c.whole (begins_number b c.front c.rest d n c.all c.stops)
+      | inr n ↦ piece_behind b c.prefix c.rest text _ c.whole (begins_number b c.prefix c.rest d n c.all c.stops)
     ]
 
 -- a mark that begins a text is its first byte or its first two bytes
-sign_front : (m : Mark) (b : ℕ) (bs after : List ℕ) → sign m ≡ b ∷ bs → take (length (sign m)) (b ∷ (bs ++ after)) ≡ sign m
-sign_front m b bs after e = subst (λ z. take (length z) (b ∷ (bs ++ after)) ≡ z) (sym e) (take-append_seam (b ∷ bs) after)
+sign_prefix : (m : Mark) (b : ℕ) (bs after : List ℕ) → sign m ≡ b ∷ bs → take (length (sign m)) (b ∷ (bs ++ after)) ≡ sign m
+sign_prefix m b bs after e = subst (λ z. take (length z) (b ∷ (bs ++ after)) ≡ z) (sym e) (take-append_seam (b ∷ bs) after)
 
 marked : (b : ℕ) (text : List ℕ) (n : ℕ) → sign (mark_of (take (suc n) (b ∷ text))) ≡ take (suc n) (b ∷ text) → Piece (b ∷ text)
 marked b text n e = piece_behind b (take n text) (drop n text) text _ (take-append-drop n text) (begins_mark (mark_of (take (suc n) (b ∷ text))) b (take n text) (drop n text) e)
 
 mark_again : (m : Mark) (b : ℕ) (bs after text : List ℕ) (n : ℕ) → sign m ≡ b ∷ bs → text ≡ bs ++ after → length (sign m) ≡ suc n → sign (mark_of (take (suc n) (b ∷ text))) ≡ take (suc n) (b ∷ text)
 mark_again m b bs after text n e f l =
-    let h : take (suc n) (b ∷ text) ≡ sign m = ap (λ z. take (suc n) (b ∷ z)) f ∙ (ap (λ k. take k (b ∷ (bs ++ after))) (sym l) ∙ sign_front m b bs after e) in
+    let h : take (suc n) (b ∷ text) ≡ sign m = ap (λ z. take (suc n) (b ∷ z)) f ∙ (ap (λ k. take k (b ∷ (bs ++ after))) (sym l) ∙ sign_prefix m b bs after e) in
     ap (λ z. sign (mark_of z)) h ∙ (ap sign (mark_of-sign m) ∙ sym h)
 
 mark_or : (b : ℕ) (text : List ℕ) → (IsSeparator b → ⊥) → b ≢ 37 → (IsLetter b → ⊥) → (IsDigit b → ⊥) → Piece (b ∷ text) ⊎ BeginsNot (b ∷ text)
@@ -145,7 +145,7 @@ piece_or b text =
       comment_at : b ≡ 37 → Piece (b ∷ text)
       comment_at e =
           let c = cut (λ z. z ≢ 10) comment_byte_or text in
-          subst (λ z. Piece (z ∷ text)) (sym e) (piece_behind 37 c.front c.rest text None c.whole (begins_comment c.front c.rest c.all c.stops))
+          subst (λ z. Piece (z ∷ text)) (sym e) (piece_behind 37 c.prefix c.rest text None c.whole (begins_comment c.prefix c.rest c.all c.stops))
 
 -- tokens or a fault from a byte on
 abbrev Answer : ℕ → List ℕ → Type 0

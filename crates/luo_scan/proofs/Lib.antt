@@ -1,4 +1,4 @@
-pub mod Fronts
+pub mod Prefixes
 pub mod Shapes
 pub mod Exclusions
 pub mod Longest

@@ -9,7 +9,7 @@ use Rattle.luo_scan.specs.declared.token.TokenKind.{TokenKind}
 use Rattle.luo_scan.specs.declared.token.TokenKind.TheVariants as kind
 use Rattle.luo_scan.specs.Bytes.{IsSeparator, IsDigit, IsLetter, IsNameByte}
 use Rattle.luo_scan.specs.Faults.{IsSome, IsFaulty}
-use Rattle.luo_scan.specs.Fronts.{IsRun}
+use Rattle.luo_scan.specs.Prefixes.{IsRun}
 use Rattle.luo_scan.specs.Spellings.{spelling, sign, value_after}
 use Rattle.luo_scan.specs.Tokens.{Begins, bad_byte, long_name, large_number, no_piece, name_limit, number_limit}
 use Rattle.luo_scan.proofs.Longest.{begins_separator, begins_comment, begins_name, begins_word, begins_zero, begins_number, begins_mark, begins_not}
@@ -66,9 +66,9 @@ number_cut (b ∷ t) (suc m) l s z r = record {
   begins = joined b t m _ (begins_number b (take m t) (drop m t) s z r.all.1 r.stops);
 }
 
-mark_front : (m : Mark) (p after : List ℕ) → IsMarkLike p → sign m ≡ p → IsCut (p ++ after) (length p) (Some (kind.Mark m))
-mark_front m [] after h e = absurd h
-mark_front m (b ∷ ps) after h e = record {
+mark_prefix : (m : Mark) (p after : List ℕ) → IsMarkLike p → sign m ≡ p → IsCut (p ++ after) (length p) (Some (kind.Mark m))
+mark_prefix m [] after h e = absurd h
+mark_prefix m (b ∷ ps) after h e = record {
   some = (omega arith, omega (arith, length-append (b ∷ ps) after));
   begins = subst (λ z. Begins (b ∷ (ps ++ after)) z (drop (length (b ∷ ps)) (b ∷ (ps ++ after))) (Some (kind.Mark m))) (sym (take-append_seam (b ∷ ps) after))
       (subst (λ z. Begins (b ∷ (ps ++ after)) (b ∷ ps) z (Some (kind.Mark m))) (sym (drop-append_seam (b ∷ ps) after)) (begins_mark m b ps after e));
@@ -76,7 +76,7 @@ mark_front m (b ∷ ps) after h e = record {
 
 pub mark_cut : (m : Mark) (text after : List ℕ) → text ≡ sign m ++ after → IsCut text (length (sign m)) (Some (kind.Mark m))
 mark_cut m text after e =
-    subst (λ z. IsCut z (length (sign m)) (Some (kind.Mark m))) (sym e) (mark_front m (sign m) after (mark_like m) refl)
+    subst (λ z. IsCut z (length (sign m)) (Some (kind.Mark m))) (sym e) (mark_prefix m (sign m) after (mark_like m) refl)
 
 pub no_cut : (text : List ℕ) → 0 < length text → (IsSeparator (get_or text 0 0) → ⊥) → get_or text 0 0 ≢ 37 → (IsLetter (get_or text 0 0) → ⊥) → (IsDigit (get_or text 0 0) → ⊥) → ((m : Mark) (after : List ℕ) → text ≢ sign m ++ after) → IsFaulty text bad_byte
 no_cut [] l s c n d m at = absurd (omega arith)

@@ -14,8 +14,8 @@ pub record Same (p q r s : List ℕ) (k l : Option TokenKind) : Type 0 where
   pub rests : r ≡ s
   pub kinds : k ≡ l
 
-fronts : (p r q s : List ℕ) → p ++ r ≡ q ++ s → length p ≡ length q → (p ≡ q) × (r ≡ s)
-fronts p r q s e l = (
+prefixes : (p r q s : List ℕ) → p ++ r ≡ q ++ s → length p ≡ length q → (p ≡ q) × (r ≡ s)
+prefixes p r q s e l = (
   sym (take-append_seam p r) ∙ (ap (λ z. take (length p) z) e ∙ (ap (λ n. take n (q ++ s)) l ∙ take-append_seam q s)),
   sym (drop-append_seam p r) ∙ (ap (λ z. drop (length p) z) e ∙ (ap (λ n. drop n (q ++ s)) l ∙ drop-append_seam q s)),
 )
@@ -26,7 +26,7 @@ one_piece text other p r q s k l a b e =
     let m = a.longest q s l (e ∙ b.whole) b.is in
     let n = b.longest p r k (sym e ∙ a.whole) a.is in
     let l' : length p ≡ length q = omega arith in
-    let f = fronts p r q s (sym a.whole ∙ (e ∙ b.whole)) l' in
+    let f = prefixes p r q s (sym a.whole ∙ (e ∙ b.whole)) l' in
     record { pieces = f.0; rests = f.1; kinds = one_kind p k l a.is (subst (λ z. IsPiece z l) (sym f.0) b.is) }
 
 pub begins_some : (text p r : List ℕ) (k : Option TokenKind) → Begins text p r k → text ≡ [] → ⊥

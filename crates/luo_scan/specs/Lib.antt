@@ -2,6 +2,6 @@ pub mod Bytes
 pub mod Spellings
 pub mod Tokens
 pub mod Lexemes
-pub mod Fronts
+pub mod Prefixes
 pub mod Faults
 pub mod Laws

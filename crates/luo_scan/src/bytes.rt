@@ -1,7 +1,7 @@
 // Bytes by their class, and how far a class goes.
 ghost use Rattle.std.specs.Prelude.{IsTrue, ◌↔◌};
 ghost use Rattle.luo_scan.specs.Bytes.{IsSeparator, IsDigit, IsLetter};
-ghost use Rattle.luo_scan.specs.Fronts.{IsOf, IsRun};
+ghost use Rattle.luo_scan.specs.Prefixes.{IsOf, IsRun};
 
 /// Which bytes go on with a piece.
 #[derive(Clone, Copy)]

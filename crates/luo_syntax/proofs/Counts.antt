@@ -57,18 +57,18 @@ closed_kinds : (at : ℕ) (text : List ℕ) (ts : List Token) → closed (lexeme
 closed_kinds at text [] = refl
 closed_kinds at text (t ∷ ts) = ap (λ z. closes_kind t.kind + z) (closed_kinds (at + 1) text ts)
 
-opened_front : (text : List ℕ) (ts : List Token) (j : ℕ) → opened (take j (lexemes text ts)) ≡ kinds_opened (take j ts)
-opened_front text ts j = ap opened (sym (first_lexemes j 0 text ts)) ∙ opened_kinds 0 text (take j ts)
+opened_prefix : (text : List ℕ) (ts : List Token) (j : ℕ) → opened (take j (lexemes text ts)) ≡ kinds_opened (take j ts)
+opened_prefix text ts j = ap opened (sym (first_lexemes j 0 text ts)) ∙ opened_kinds 0 text (take j ts)
 
-closed_front : (text : List ℕ) (ts : List Token) (j : ℕ) → closed (take j (lexemes text ts)) ≡ kinds_closed (take j ts)
-closed_front text ts j = ap closed (sym (first_lexemes j 0 text ts)) ∙ closed_kinds 0 text (take j ts)
+closed_prefix : (text : List ℕ) (ts : List Token) (j : ℕ) → closed (take j (lexemes text ts)) ≡ kinds_closed (take j ts)
+closed_prefix text ts j = ap closed (sym (first_lexemes j 0 text ts)) ∙ closed_kinds 0 text (take j ts)
 
 pub shallow_text : (ts : List Token) → IsShallowTo (length ts) ts → (text : List ℕ) → IsShallow (lexemes text ts)
-shallow_text ts s text j a d = s j (omega (arith, a, as_many 0 text ts)) (omega (arith, d, opened_front text ts j, closed_front text ts j))
+shallow_text ts s text j a d = s j (omega (arith, a, as_many 0 text ts)) (omega (arith, d, opened_prefix text ts j, closed_prefix text ts j))
 
 pub first_deep : (ts : List Token) (i : ℕ) → i < length ts → kinds_closed (take (i + 1) ts) + DEPTH_LIMIT < kinds_opened (take (i + 1) ts) → IsShallowTo i ts → (text : List ℕ) → IsFirstDeep (lexemes text ts) i
 first_deep ts i a deep s text = (
   omega (arith, a, as_many 0 text ts),
-  omega (arith, deep, opened_front text ts (i + 1), closed_front text ts (i + 1)),
-  λ j b d. s j b (omega (arith, d, opened_front text ts j, closed_front text ts j)),
+  omega (arith, deep, opened_prefix text ts (i + 1), closed_prefix text ts (i + 1)),
+  λ j b d. s j b (omega (arith, d, opened_prefix text ts j, closed_prefix text ts j)),
 )

@@ -1,4 +1,4 @@
-pub mod Fronts
+pub mod Prefixes
 pub mod Nexts
 pub mod Lexemes
 pub mod Spelled

@@ -6,7 +6,7 @@ use Rattle.luo_scan.specs.Lexemes.{Lexeme, lexeme}
 use Rattle.luo_source.specs.declared.names.Name.{Name}
 use Rattle.luo_source.specs.Ends.{No}
 use Rattle.luo_syntax.specs.inner.Next.{IsNext, next, IsNextAt, next_at, IsName, next_name, NoNumber, Misses, MissesNumber, TakesAt, TakesKind, TakesNumber, TakesAnyNumber, first_kind}
-use Rattle.luo_syntax.proofs.Fronts.{BeginAlike, empty, begin}
+use Rattle.luo_syntax.proofs.Prefixes.{BeginAlike, empty, begin}
 
 -- what comes next where another kind was missed
 pub next_past : {what that : TokenKind} {from at to : List Lexeme} → Misses what from at → IsNext that at to → IsNext that from to

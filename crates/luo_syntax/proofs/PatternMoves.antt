@@ -11,7 +11,7 @@ use Rattle.luo_source.specs.Ends.{No, EndsPattern}
 use Rattle.luo_syntax.specs.inner.Next.{next, next_at, next_name}
 use Rattle.luo_source.specs.GrammarStatements.{IsPattern, pattern_named, pattern_whole, pattern_named_parts, pattern_parts, pattern_any, pattern_any_whole}
 use Rattle.luo_syntax.specs.inner.StopsPatterns.{PatternEnds, PatternStops, no_pattern, in_pattern_parts, past_any_as, past_named_as, in_named_parts}
-use Rattle.luo_syntax.proofs.Fronts.{nothing, put, Moves, BeginAlike, Stuck}
+use Rattle.luo_syntax.proofs.Prefixes.{nothing, put, Moves, BeginAlike, Stuck}
 use Rattle.luo_source.proofs.Behind.{behind}
 use Rattle.luo_syntax.proofs.Nexts.{no_alike, misses_alike}
 use Rattle.luo_syntax.proofs.Spelled.{a_name, name_fit}
@@ -19,20 +19,20 @@ use Rattle.luo_source.proofs.OneTypes.{names_one}
 use Rattle.luo_syntax.proofs.NamesMoves.{names_moves, names_stuck, names_no}
 
 pub pattern_moves : {from to : List Lexeme} {p : Pattern} → IsPattern from to p → Moves (λ a b. IsPattern a b p) from to
-pattern_moves (pattern_named {text} {at}) = record { front = put (lexeme kind.Name text at) nothing; cut = refl; moves = λ o. pattern_named }
-pattern_moves (pattern_whole {text} {b} {inner} {at} {k} {inner_at}) = record { front = put (lexeme kind.Name text at) (put (lexeme (kind.Word KwAs) b k) (put (lexeme kind.Name inner inner_at) nothing)); cut = refl; moves = λ o. pattern_whole }
+pattern_moves (pattern_named {text} {at}) = record { prefix = put (lexeme kind.Name text at) nothing; cut = refl; moves = λ o. pattern_named }
+pattern_moves (pattern_whole {text} {b} {inner} {at} {k} {inner_at}) = record { prefix = put (lexeme kind.Name text at) (put (lexeme (kind.Word KwAs) b k) (put (lexeme kind.Name inner inner_at) nothing)); cut = refl; moves = λ o. pattern_whole }
 pattern_moves (pattern_named_parts {text} {b} {at} {k} p) = let m = names_moves p in record {
-  front = put (lexeme kind.Name text at) (put (lexeme (kind.Mark LeftRound) b k) m.front);
+  prefix = put (lexeme kind.Name text at) (put (lexeme (kind.Mark LeftRound) b k) m.prefix);
   cut = ap (λ z. lexeme kind.Name text at ∷ lexeme (kind.Mark LeftRound) b k ∷ z) m.cut;
   moves = λ o. pattern_named_parts (m.moves o);
 }
 pattern_moves (pattern_parts {b} {at} p) = let m = names_moves p in record {
-  front = put (lexeme (kind.Mark LeftRound) b at) m.front;
+  prefix = put (lexeme (kind.Mark LeftRound) b at) m.prefix;
   cut = ap (λ z. lexeme (kind.Mark LeftRound) b at ∷ z) m.cut;
   moves = λ o. pattern_parts (m.moves o);
 }
-pattern_moves (pattern_any {b} {at}) = record { front = put (lexeme (kind.Mark Underscore) b at) nothing; cut = refl; moves = λ o. pattern_any }
-pattern_moves (pattern_any_whole {b} {c} {text} {at} {k} {name_at}) = record { front = put (lexeme (kind.Mark Underscore) b at) (put (lexeme (kind.Word KwAs) c k) (put (lexeme kind.Name text name_at) nothing)); cut = refl; moves = λ o. pattern_any_whole }
+pattern_moves (pattern_any {b} {at}) = record { prefix = put (lexeme (kind.Mark Underscore) b at) nothing; cut = refl; moves = λ o. pattern_any }
+pattern_moves (pattern_any_whole {b} {c} {text} {at} {k} {name_at}) = record { prefix = put (lexeme (kind.Mark Underscore) b at) (put (lexeme (kind.Word KwAs) c k) (put (lexeme kind.Name text name_at) nothing)); cut = refl; moves = λ o. pattern_any_whole }
 
 -- a pattern ends before all lists that begin alike
 pub pattern_ends_alike : {a b : List Lexeme} (p : Pattern) → BeginAlike a b → PatternEnds p a → PatternEnds p b
@@ -45,32 +45,32 @@ pattern_ends_alike (pattern.AnyWhole n at) b e = tt
 
 pub pattern_stuck : {from at : List Lexeme} → PatternStops from at → Stuck Pattern PatternStops IsPattern from at
 pattern_stuck (no_pattern {from} {at} e l u n) = record {
-  front = nothing;
+  prefix = nothing;
   cut = sym e;
   alike = λ o b. let there : (what : TokenKind) → No what from → No what o = λ what m. no_alike b (subst (No what) (sym e) m) in
       no_pattern refl (there _ l) (there _ u) (there _ n);
   goes_on = λ to s. (a_name ∷ to, (name_fit, s), _, pattern_named);
 }
 pattern_stuck (in_pattern_parts (next_at {bytes = b} {at = k}) s) = let m = names_stuck s in record {
-  front = put (lexeme (kind.Mark LeftRound) b k) m.front;
+  prefix = put (lexeme (kind.Mark LeftRound) b k) m.prefix;
   cut = ap (λ z. lexeme (kind.Mark LeftRound) b k ∷ z) m.cut;
   alike = λ o b. in_pattern_parts next_at (m.alike o b);
   goes_on = λ to s. let g = m.goes_on to s in (g.0, g.1, _, pattern_parts g.3);
 }
 pattern_stuck (past_any_as (next_at {bytes = b} {at = k}) (next {bytes = c} {at = l}) m) = record {
-  front = put (lexeme (kind.Mark Underscore) b k) (put (lexeme (kind.Word KwAs) c l) nothing);
+  prefix = put (lexeme (kind.Mark Underscore) b k) (put (lexeme (kind.Word KwAs) c l) nothing);
   cut = ap (λ z. lexeme (kind.Mark Underscore) b k ∷ lexeme (kind.Word KwAs) c l ∷ z) (sym m.0);
   alike = λ o b. past_any_as next_at next (misses_alike m b);
   goes_on = λ to s. (a_name ∷ to, (name_fit, s), _, pattern_any_whole);
 }
 pattern_stuck (past_named_as (next_name {text} {at = k}) (next {bytes = c} {at = l}) m) = record {
-  front = put (lexeme kind.Name text k) (put (lexeme (kind.Word KwAs) c l) nothing);
+  prefix = put (lexeme kind.Name text k) (put (lexeme (kind.Word KwAs) c l) nothing);
   cut = ap (λ z. lexeme kind.Name text k ∷ lexeme (kind.Word KwAs) c l ∷ z) (sym m.0);
   alike = λ o b. past_named_as next_name next (misses_alike m b);
   goes_on = λ to s. (a_name ∷ to, (name_fit, s), _, pattern_whole);
 }
 pattern_stuck (in_named_parts (next_name {text} {at = k}) (next {bytes = c} {at = l}) s) = let m = names_stuck s in record {
-  front = put (lexeme kind.Name text k) (put (lexeme (kind.Mark LeftRound) c l) m.front);
+  prefix = put (lexeme kind.Name text k) (put (lexeme (kind.Mark LeftRound) c l) m.prefix);
   cut = ap (λ z. lexeme kind.Name text k ∷ lexeme (kind.Mark LeftRound) c l ∷ z) m.cut;
   alike = λ o b. in_named_parts next_name next (m.alike o b);
   goes_on = λ to s. let g = m.goes_on to s in (g.0, g.1, _, pattern_named_parts g.3);

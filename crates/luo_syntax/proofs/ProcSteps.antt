@@ -10,7 +10,7 @@ use Rattle.luo_source.specs.Ends.{No}
 use Rattle.luo_syntax.specs.inner.Next.{Misses}
 use Rattle.luo_source.specs.Grammar.{IsProc, proc, IsAnalyze, analyze}
 use Rattle.luo_syntax.specs.inner.StopsProgram.{BodyStops, no_body, in_block, past_block, in_result, ResultStops, no_result, past_result, in_value, past_value, one_result, one_param, no_left, no_param, no_colon, no_on, no_right, whole_statements, whole_value, no_procedure, no_proc_name, in_param, in_body, no_analyze, no_analyze_name, no_analyze_end}
-use Rattle.luo_syntax.proofs.Fronts.{Moves}
+use Rattle.luo_syntax.proofs.Prefixes.{Moves}
 use Rattle.luo_syntax.proofs.Nexts.{is_next}
 use Rattle.luo_syntax.proofs.ProcMoves.{body_moves}
 use Rattle.luo_syntax.proofs.ProcStuck.{reads_proc, reads_analyze}
@@ -20,7 +20,7 @@ analyze_shorter analyze = omega arith
 
 -- what was read isn't longer than what it was read from
 moved_no_longer : {Is : List Lexeme → List Lexeme → Type 0} {from to : List Lexeme} → Moves Is from to → length to ≤ length from
-moved_no_longer {to} m = omega (arith, ap length (m.cut ∙ m.front.is to), length-append m.front.list to)
+moved_no_longer {to} m = omega (arith, ap length (m.cut ∙ m.prefix.is to), length-append m.prefix.list to)
 
 pub proc_shorter : {from to : List Lexeme} {p : ProcDef} → IsProc from to p → length to < length from
 proc_shorter (proc p) = omega (arith, moved_no_longer (body_moves p))

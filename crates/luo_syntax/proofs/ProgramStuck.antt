@@ -15,7 +15,7 @@ use Rattle.luo_source.specs.GrammarTypes.{type_def, measure_def}
 use Rattle.luo_source.specs.Grammar.{proc, analyze, AreAnalyses, last_analysis, more_analyses, FromProcs, no_procs, more_procs, FromMeasures, no_measures, more_measures, FromTypes, no_types, more_types, IsProgram, labelled, unlabelled, unlabelled_unsaid}
 use Rattle.luo_syntax.specs.Viable.{AllSpelled}
 use Rattle.luo_syntax.specs.inner.StopsProgram.{AnalysesStop, in_analysis, past_analysis, FromProcsStop, in_proc, past_proc, past_procs, FromMeasuresStop, in_measure, past_measure, past_measures, FromTypesStop, in_type, past_type, past_types, labelled_said, unlabelled_said, nothing_said, past_labelled, past_unlabelled, ProgramStops, in_head, past_head}
-use Rattle.luo_syntax.proofs.Fronts.{nothing, put, both, Stuck}
+use Rattle.luo_syntax.proofs.Prefixes.{nothing, put, both, Stuck}
 use Rattle.luo_syntax.proofs.Begins.{next_before, no_before, some_before}
 use Rattle.luo_source.proofs.Behind.{behind}
 use Rattle.luo_syntax.proofs.Nexts.{misses_alike, next_no}
@@ -37,15 +37,15 @@ an_analysis_fit to s = (word_fit KwAnalyze, (name_fit, (mark_fit Semicolon, s)))
 
 analyses_stuck : {from at : List Lexeme} → AnalysesStop from at → Stuck (List Name) AnalysesStop AreAnalyses from at
 analyses_stuck (in_analysis s) = let k = analyze_stuck s in record {
-  front = k.front;
+  prefix = k.prefix;
   cut = k.cut;
   alike = λ o t. in_analysis (k.alike o t);
   goes_on = λ to f. let g = k.goes_on to f in (g.0, g.1, _, last_analysis g.3);
 }
 analyses_stuck (past_analysis p n s) = let m = analyze_moves p in let k = analyses_stuck s in record {
-  front = both m.front k.front;
-  cut = m.cut ∙ ap m.front.before k.cut;
-  alike = λ o t. past_analysis (m.moves _) (some_before k.front k.cut n t) (k.alike o t);
+  prefix = both m.prefix k.prefix;
+  cut = m.cut ∙ ap m.prefix.before k.cut;
+  alike = λ o t. past_analysis (m.moves _) (some_before k.prefix k.cut n t) (k.alike o t);
   goes_on = λ to f. let g = k.goes_on to f in (g.0, g.1, _, more_analyses (m.moves _) g.3);
 }
 
@@ -61,21 +61,21 @@ ReadsProcs from to r = FromProcs from to r.0 r.1
 
 procs_stuck : {from at : List Lexeme} → FromProcsStop from at → Stuck (List ProcDef × List Name) FromProcsStop ReadsProcs from at
 procs_stuck (in_proc n s) = let k = proc_stuck s in record {
-  front = k.front;
+  prefix = k.prefix;
   cut = k.cut;
-  alike = λ o t. in_proc (next_before k.front k.cut n t).1 (k.alike o t);
+  alike = λ o t. in_proc (next_before k.prefix k.cut n t).1 (k.alike o t);
   goes_on = λ to f. let g = k.goes_on (an_analysis to) (an_analysis_fit to f) in (g.0, g.1, (_, _), more_procs g.3 (no_procs (last_analysis analyze)));
 }
 procs_stuck (past_proc p s) = let m = proc_moves p in let k = procs_stuck s in record {
-  front = both m.front k.front;
-  cut = m.cut ∙ ap m.front.before k.cut;
+  prefix = both m.prefix k.prefix;
+  cut = m.cut ∙ ap m.prefix.before k.cut;
   alike = λ o t. past_proc (m.moves _) (k.alike o t);
   goes_on = λ to f. let g = k.goes_on to f in (g.0, g.1, (_, _), more_procs (m.moves _) g.3);
 }
 procs_stuck (past_procs n s) = let k = analyses_stuck s in record {
-  front = k.front;
+  prefix = k.prefix;
   cut = k.cut;
-  alike = λ o t. past_procs (no_before k.front k.cut n t) (k.alike o t);
+  alike = λ o t. past_procs (no_before k.prefix k.cut n t) (k.alike o t);
   goes_on = λ to f. let g = k.goes_on to f in (g.0, g.1, (_, _), no_procs g.3);
 }
 
@@ -92,21 +92,21 @@ ReadsMeasures from to r = FromMeasures from to r.0 r.1 r.2
 
 measures_stuck : {from at : List Lexeme} → FromMeasuresStop from at → Stuck (List MeasureDef × List ProcDef × List Name) FromMeasuresStop ReadsMeasures from at
 measures_stuck (in_measure n s) = let k = measure_stuck s in record {
-  front = k.front;
+  prefix = k.prefix;
   cut = k.cut;
-  alike = λ o t. in_measure (next_before k.front k.cut n t).1 (k.alike o t);
+  alike = λ o t. in_measure (next_before k.prefix k.cut n t).1 (k.alike o t);
   goes_on = λ to f. let g = k.goes_on (an_analysis to) (an_analysis_fit to f) in (g.0, g.1, (_, _, _), more_measures g.3 (no_measures (no_procs (last_analysis analyze))));
 }
 measures_stuck (past_measure p s) = let m = measure_moves p in let k = measures_stuck s in record {
-  front = both m.front k.front;
-  cut = m.cut ∙ ap m.front.before k.cut;
+  prefix = both m.prefix k.prefix;
+  cut = m.cut ∙ ap m.prefix.before k.cut;
   alike = λ o t. past_measure (m.moves _) (k.alike o t);
   goes_on = λ to f. let g = k.goes_on to f in (g.0, g.1, (_, _, _), more_measures (m.moves _) g.3);
 }
 measures_stuck (past_measures n s) = let k = procs_stuck s in record {
-  front = k.front;
+  prefix = k.prefix;
   cut = k.cut;
-  alike = λ o t. past_measures (no_before k.front k.cut n t) (k.alike o t);
+  alike = λ o t. past_measures (no_before k.prefix k.cut n t) (k.alike o t);
   goes_on = λ to f. let g = k.goes_on to f in (g.0, g.1, (_, _, _), no_measures g.3);
 }
 
@@ -123,21 +123,21 @@ ReadsTypes from to r = FromTypes from to r.0 r.1 r.2 r.3
 
 types_stuck : {from at : List Lexeme} → FromTypesStop from at → Stuck (List TypeDef × List MeasureDef × List ProcDef × List Name) FromTypesStop ReadsTypes from at
 types_stuck (in_type n s) = let k = type_def_stuck s in record {
-  front = k.front;
+  prefix = k.prefix;
   cut = k.cut;
-  alike = λ o t. in_type (next_before k.front k.cut n t).1 (k.alike o t);
+  alike = λ o t. in_type (next_before k.prefix k.cut n t).1 (k.alike o t);
   goes_on = λ to f. let g = k.goes_on (an_analysis to) (an_analysis_fit to f) in (g.0, g.1, (_, _, _, _), more_types g.3 (no_types (no_measures (no_procs (last_analysis analyze)))));
 }
 types_stuck (past_type p s) = let m = type_def_moves p in let k = types_stuck s in record {
-  front = both m.front k.front;
-  cut = m.cut ∙ ap m.front.before k.cut;
+  prefix = both m.prefix k.prefix;
+  cut = m.cut ∙ ap m.prefix.before k.cut;
   alike = λ o t. past_type (m.moves _) (k.alike o t);
   goes_on = λ to f. let g = k.goes_on to f in (g.0, g.1, (_, _, _, _), more_types (m.moves _) g.3);
 }
 types_stuck (past_types n s) = let k = measures_stuck s in record {
-  front = k.front;
+  prefix = k.prefix;
   cut = k.cut;
-  alike = λ o t. past_types (no_before k.front k.cut n t) (k.alike o t);
+  alike = λ o t. past_types (no_before k.prefix k.cut n t) (k.alike o t);
   goes_on = λ to f. let g = k.goes_on to f in (g.0, g.1, (_, _, _, _), no_types g.3);
 }
 
@@ -151,33 +151,33 @@ types_no (past_types n s) (more_types (type_def q r) qs) e = n _ _ _ e
 
 pub program_stuck : {from at : List Lexeme} → ProgramStops from at → Stuck Source ProgramStops IsProgram from at
 program_stuck (in_head (past_labelled (next {bytes = b} {at = k}) m)) = record {
-  front = put (lexeme (kind.Word KwLabelled) b k) nothing;
+  prefix = put (lexeme (kind.Word KwLabelled) b k) nothing;
   cut = ap (λ z. lexeme (kind.Word KwLabelled) b k ∷ z) (sym m.0);
   alike = λ o t. in_head (past_labelled next (misses_alike m t));
   goes_on = λ to f. (a_mark Semicolon ∷ an_analysis to, (mark_fit Semicolon, an_analysis_fit to f), _, labelled (no_types (no_measures (no_procs (last_analysis analyze)))));
 }
 program_stuck (in_head (past_unlabelled (next {bytes = b} {at = k}) m)) = record {
-  front = put (lexeme (kind.Word KwUnlabelled) b k) nothing;
+  prefix = put (lexeme (kind.Word KwUnlabelled) b k) nothing;
   cut = ap (λ z. lexeme (kind.Word KwUnlabelled) b k ∷ z) (sym m.0);
   alike = λ o t. in_head (past_unlabelled next (misses_alike m t));
   goes_on = λ to f. (a_mark Semicolon ∷ an_analysis to, (mark_fit Semicolon, an_analysis_fit to f), _, unlabelled (no_types (no_measures (no_procs (last_analysis analyze)))));
 }
 program_stuck (past_head (labelled_said (next {bytes = b} {at = k}) (next {bytes = c} {at = l})) s) = let r = types_stuck s in record {
-  front = put (lexeme (kind.Word KwLabelled) b k) (put (lexeme (kind.Mark Semicolon) c l) r.front);
+  prefix = put (lexeme (kind.Word KwLabelled) b k) (put (lexeme (kind.Mark Semicolon) c l) r.prefix);
   cut = ap (λ z. lexeme (kind.Word KwLabelled) b k ∷ lexeme (kind.Mark Semicolon) c l ∷ z) r.cut;
   alike = λ o t. past_head (labelled_said next next) (r.alike o t);
   goes_on = λ to f. let g = r.goes_on to f in (g.0, g.1, _, labelled g.3);
 }
 program_stuck (past_head (unlabelled_said (next {bytes = b} {at = k}) (next {bytes = c} {at = l})) s) = let r = types_stuck s in record {
-  front = put (lexeme (kind.Word KwUnlabelled) b k) (put (lexeme (kind.Mark Semicolon) c l) r.front);
+  prefix = put (lexeme (kind.Word KwUnlabelled) b k) (put (lexeme (kind.Mark Semicolon) c l) r.prefix);
   cut = ap (λ z. lexeme (kind.Word KwUnlabelled) b k ∷ lexeme (kind.Mark Semicolon) c l ∷ z) r.cut;
   alike = λ o t. past_head (unlabelled_said next next) (r.alike o t);
   goes_on = λ to f. let g = r.goes_on to f in (g.0, g.1, _, unlabelled g.3);
 }
 program_stuck (past_head (nothing_said m n) s) = let r = types_stuck s in record {
-  front = r.front;
+  prefix = r.prefix;
   cut = sym m.0 ∙ r.cut;
-  alike = λ o t. past_head (nothing_said (refl, no_before r.front (sym m.0 ∙ r.cut) m.1 t) (no_before r.front (sym m.0 ∙ r.cut) n t)) (r.alike o t);
+  alike = λ o t. past_head (nothing_said (refl, no_before r.prefix (sym m.0 ∙ r.cut) m.1 t) (no_before r.prefix (sym m.0 ∙ r.cut) n t)) (r.alike o t);
   goes_on = λ to f. let g = r.goes_on to f in (g.0, g.1, _, unlabelled_unsaid g.3);
 }
 

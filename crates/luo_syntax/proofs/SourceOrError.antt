@@ -1,4 +1,4 @@
--- Tokens derive a source, or an error explains why not: of every list of lexemes there is a longest front that begins some program.
+-- Tokens derive a source, or an error explains why not: of every list of lexemes there is a longest prefix that begins some program.
 use Rattle.std.proofs.Common.{◌≡◌, ℕ, zero, suc, ◌+◌, ◌<◌, ◌≤◌, List, [], ◌∷◌, length, take, refl, sym, subst, arith, ⊎_elim}
 use Rattle.std.specs.Prelude.{◌⊎◌}
 use Rattle.std.proofs.Math.Seq.{take-length}
@@ -15,7 +15,7 @@ use Rattle.luo_source.specs.declared.source.Source.{Source}
 use Rattle.luo_source.specs.Grammar.{IsProgram, analyze, last_analysis, no_procs, no_measures, no_types, unlabelled_unsaid}
 use Rattle.luo_syntax.specs.SourceOrError.{HasSource, HasError}
 use Rattle.luo_syntax.specs.Viable.{AllSpelled, IsViable, IsLongestViable, IsDeep, IsShallow, IsFirstDeep, closed, opened, Explains}
-use Rattle.luo_syntax.proofs.Final.{viable_front}
+use Rattle.luo_syntax.proofs.Final.{viable_prefix}
 use Rattle.luo_syntax.proofs.Spelled.{a_word, a_mark, a_name, word_fit, mark_fit, name_fit}
 
 -- some program begins with nothing: `analyze a;`
@@ -28,9 +28,9 @@ take_none [] = refl
 take_none (l ∷ ls) = refl
 
 module _ (ls : List Lexeme) where
-  -- there can't but be a longest front that begins some program
+  -- there can't but be a longest prefix that begins some program
   module _ (none : (k : ℕ) → IsLongestViable ls k → ⊥) where
-    -- from this length on no front begins one
+    -- from this length on no prefix begins one
     down : (d k : ℕ) → k + d ≡ length ls + 1 → (j : ℕ) → k ≤ j → j ≤ length ls → IsViable (take j ls) → ⊥
     down zero k e j a b v = absurd (omega (arith, e))
     down (suc d) k e j a b v =
@@ -44,9 +44,9 @@ module _ (ls : List Lexeme) where
     no_longest : ⊥
     no_longest = down (length ls + 1) 0 (omega arith) 0 (omega arith) (omega arith) (subst IsViable (sym (take_none ls)) none_viable)
 
-  -- where a front is too deep, there is a first lexeme with which one is
+  -- where a prefix is too deep, there is a first lexeme with which one is
   module _ (last : ℕ) (within : last ≤ length ls) (deep : IsDeep (take last ls)) where
-    -- up to this length no front is
+    -- up to this length no prefix is
     up : (d k : ℕ) → k + d ≡ last → ((j : ℕ) → j ≤ k → IsDeep (take j ls) → ⊥) → (m : ℕ) × IsFirstDeep ls m
     up zero k e before = absurd (before last (omega (arith, e)) deep)
     up (suc d) k e before =
@@ -72,7 +72,7 @@ module _ (ls : List Lexeme) where
     shallow s p j within deep =
         let (m, first) = first_deep j within deep in
         let whole : IsViable ls = ([], tt, s, subst (λ z. IsProgram z [] s) (sym (append-nil ls)) p) in
-        no_depth m (first, viable_front (m + 1) (length ls) ls spelled (omega (arith, first.0)) (subst IsViable (sym (take-length ls)) whole))
+        no_depth m (first, viable_prefix (m + 1) (length ls) ls spelled (omega (arith, first.0)) (subst IsViable (sym (take-length ls)) whole))
 
 pub source_or_error : (text : List ℕ) (ts : List Token) → Tokens text ts → (HasSource text ts → ⊥) → (HasError text ts → ⊥) → ⊥
 source_or_error text ts t no_source no_error =

@@ -15,14 +15,14 @@ use Rattle.luo_syntax.proofs.Lexemes.{as_many, first_lexemes}
 use Rattle.luo_syntax.proofs.Final.{longest, none_read, stops_within}
 use Rattle.luo_syntax.proofs.AllRead.{explained, stops_first, deep_first, deep_read}
 
-inside_front : (n count : ℕ) (ts : List Token) → AllInside count ts → AllInside count (take n ts)
-inside_front zero count ts a = tt
-inside_front (suc n) count [] a = tt
-inside_front (suc n) count (t ∷ ts) (a, b, c) = (a, b, inside_front n count ts c)
+inside_prefix : (n count : ℕ) (ts : List Token) → AllInside count ts → AllInside count (take n ts)
+inside_prefix zero count ts a = tt
+inside_prefix (suc n) count [] a = tt
+inside_prefix (suc n) count (t ∷ ts) (a, b, c) = (a, b, inside_prefix n count ts c)
 
 -- the first tokens of a text lie inside it
 pub first_inside : (n : ℕ) (text : List ℕ) (ts : List Token) → Tokens text ts → AllInside (length text) (take n ts)
-first_inside n text ts t = inside_front n (length text) ts (tokens_inside text ts t)
+first_inside n text ts t = inside_prefix n (length text) ts (tokens_inside text ts t)
 
 stops_from : (text : List ℕ) (ts : List Token) {from at : List Lexeme} → from ≡ lexemes text ts → ProgramStops from at → ProgramStops (lexemes text ts) at
 stops_from text ts {at} e s = subst (λ z. ProgramStops z at) e s

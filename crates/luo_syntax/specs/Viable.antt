@@ -1,4 +1,4 @@
--- Which fronts begin a program, and what an error says.
+-- Which prefixes begin a program, and what an error says.
 use Rattle.std.specs.Prelude.{ℕ, ◌+◌, ◌≤◌, ◌<◌, List, [], ◌∷◌, ◌++◌, take, length}
 use Rattle.std.specs.List.{AllByRecursion}
 use Rattle.luo_num.specs.declared.limits.TheConstants.{DEPTH_LIMIT}
@@ -24,10 +24,10 @@ IsNoProgram ls = (s : Source) → IsProgram ls [] s → ⊥
 
 -- these lexemes begin some program
 abbrev pub IsViable : List Lexeme → Type 0
-IsViable front =
-    (more : List Lexeme) × AllSpelled more × (s : Source) × IsProgram (front ++ more) [] s
+IsViable prefix =
+    (more : List Lexeme) × AllSpelled more × (s : Source) × IsProgram (prefix ++ more) [] s
 
--- the front of this length is the longest that begins some program
+-- the prefix of this length is the longest that begins some program
 pub record IsLongestViable (ls : List Lexeme) (k : ℕ) : Type 0 where
   pub within : k ≤ length ls
   pub viable : IsViable (take k ls)
@@ -64,7 +64,7 @@ closed (l ∷ ls) = closes l + closed ls
 
 -- behind these lexemes more than the limit are open
 abbrev pub IsDeep : List Lexeme → Type 0
-IsDeep front = closed front + DEPTH_LIMIT < opened front
+IsDeep prefix = closed prefix + DEPTH_LIMIT < opened prefix
 
 -- nowhere among these lexemes more than the limit are open
 abbrev pub IsShallow : List Lexeme → Type 0
@@ -86,7 +86,7 @@ StopsWhole ls (Grammar k) = IsLongestViable ls k × IsNoProgram ls
 StopsWhole ls (Depth k) = ⊥
 StopsWhole ls NoMemory = Unit {0}
 
--- an error says where the longest front ends that begins some program, or where too many are open;
+-- an error says where the longest prefix ends that begins some program, or where too many are open;
 -- that memory ran out says nothing of the lexemes
 abbrev pub Explains : List Lexeme → SyntaxError → Type 0
 Explains ls (Grammar k) = IsLongestViable ls k × IsNoProgram ls × ((j : ℕ) → IsDeepAt ls j → ⊥)

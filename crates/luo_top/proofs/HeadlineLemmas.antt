@@ -2,7 +2,7 @@
 use Rattle.std.proofs.Common.{◌≡◌, ℕ, List, sym, ◌∙◌, subst, refl, inl, inr, Option, None, Some, Result, Ok, Err, OnOk, OnErr}
 use Rattle.std.specs.Prelude.{codes, ◌⊎◌, ◌↔◌}
 use Rattle.std.specs.Io.KnownBytes.{Appends}
-use Rattle.luo_outside.specs.Bytes.{TookFront}
+use Rattle.luo_outside.specs.Bytes.{TookPrefix}
 use Rattle.luo_outside.specs.Causes.{Rose}
 use Rattle.luo_answer.specs.declared.refusal.Refusal.{Refusal}
 use Rattle.luo_answer.specs.declared.refusal.Refusal.TheVariants as why
@@ -23,11 +23,11 @@ use Rattle.luo_top.specs.inner.Answered.{IsAnswer}
 use Rattle.luo_top.proofs.OutcomeKept.{outcome_kept}
 use Rattle.luo_top.proofs.WrittenOutcome.{written_single}
 
--- a sink took a line, or its count rose and it took a front of it
-pub took : {S T W : Type 0} (sink : Sinking S) (bytes : List ℕ) (r : Result T W) → OnOk r (Appends sink.taken_old sink.taken_new bytes) → OnErr r (TookFront sink.taken_old sink.taken_new bytes)
+-- a sink took a line, or its count rose and it took a prefix of it
+pub took : {S T W : Type 0} (sink : Sinking S) (bytes : List ℕ) (r : Result T W) → OnOk r (Appends sink.taken_old sink.taken_new bytes) → OnErr r (TookPrefix sink.taken_old sink.taken_new bytes)
     → OnErr r (Rose sink.faults_old sink.faults_new) → TookLine sink bytes
-took sink bytes (Ok x) ok front rose = inl ok
-took sink bytes (Err e) ok front rose = inr (rose, front)
+took sink bytes (Ok x) ok prefix rose = inl ok
+took sink bytes (Err e) ok prefix rose = inr (rose, prefix)
 
 abbrev IsDone : Status → Type 0
 IsDone Done = Unit {0}

@@ -37,7 +37,7 @@ lexical-single text a b (f, at, p, e) (g, by, q, h) =
 tokens-single : (text : List ℕ) → IsSingle (Tokens text)
 tokens-single text ts us p q = one_list 0 0 text text ts us p q refl refl
 
--- the longest front and the first opener too deep are one
+-- the longest prefix and the first opener too deep are one
 longest_one : (ls : List Lexeme) (j k : ℕ) → IsLongestViable ls j → IsLongestViable ls k → j ≡ k
 longest_one ls j k a b =
     ⊎_elim (λ (h : j ≤ k). ⊎_elim (λ (g : k ≤ j). omega arith) (λ (g : j < k). absurd (a.longest k g b.within b.viable)) (cases k j))

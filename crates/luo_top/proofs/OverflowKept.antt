@@ -1,4 +1,4 @@
--- The first number past the last one, and what is said of it, by the core form of a source and by the source as it is written.
+-- The first overflow, and what is said of it, by the core form of a source and by the source as it is written.
 use Rattle.std.proofs.Common.{◌≡◌, ◌↔◌, ℕ, List, ◌++◌, Option, sym, ap, ◌∙◌, inl, inr}
 use Rattle.std.specs.Prelude.{codes, decimal}
 use Rattle.luo_model.specs.declared.program.Def.{Def}

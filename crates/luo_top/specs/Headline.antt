@@ -2,7 +2,7 @@
 use Rattle.std.specs.Prelude.{◌≡◌, ◌⊎◌, ◌↔◌, ℕ, List, codes, Option, Some}
 use Rattle.std.specs.Io.KnownBytes.{Appends}
 use Rattle.luo_finite.specs.Listing.{In}
-use Rattle.luo_outside.specs.Bytes.{TookFront}
+use Rattle.luo_outside.specs.Bytes.{TookPrefix}
 use Rattle.luo_outside.specs.Causes.{Rose}
 use Rattle.luo_answer.specs.declared.status.Status.{Status}
 use Rattle.luo_answer.specs.declared.status.Status.TheVariants.{Done, Usage, Refused, Limit, Overflow, ReadFault, WriteFault, NoMemory}
@@ -52,10 +52,10 @@ IsUntouched sink = sink.new ≡ sink.old
 abbrev pub Took : {S : Type 0} → Sinking S → List ℕ → Type 0
 Took sink bytes = Appends sink.taken_old sink.taken_new bytes
 
--- its count rose, and it took a front of these bytes
+-- its count rose, and it took a prefix of these bytes
 abbrev pub TookPart : {S : Type 0} → Sinking S → List ℕ → Type 0
 TookPart sink bytes =
-    Rose sink.faults_old sink.faults_new × TookFront sink.taken_old sink.taken_new bytes
+    Rose sink.faults_old sink.faults_new × TookPrefix sink.taken_old sink.taken_new bytes
 
 abbrev pub TookLine : {S : Type 0} → Sinking S → List ℕ → Type 0
 TookLine sink bytes = Took sink bytes ⊎ TookPart sink bytes
@@ -103,7 +103,7 @@ pub record IsRight {O E : Type 0} (run : Run O E) (status : Status) : Type 0 whe
   -- a file that the outcome rests on failed
   pub read_fault : status ≡ ReadFault
       → IsUntouched run.out × FileFailed run × TookLine run.err (line (codes "read fault"))
-  -- the outcome is an output, and a front of it was taken
+  -- the outcome is an output, and a prefix of it was taken
   pub write_fault : status ≡ WriteFault
       → ((bytes : List ℕ) × Answers run (Output bytes) × TookPart run.out bytes)
       × TookLine run.err (line (codes "write fault"))

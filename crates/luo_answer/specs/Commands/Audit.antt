@@ -25,27 +25,27 @@ HasTooMany p last =
 abbrev pub few : Program → ℕ → Step ⊤
 few p last = refused_where (HasTooMany p last) Limit structures_line
 
--- the total of procedure f at size n is past the last number
+-- the total of procedure f at size n overflows
 abbrev pub IsOverAt : Program → ℕ → ℕ → Type 0
 IsOverAt p f n = (t : ℕ) × TotalIs p f n t × (MAX < t)
 
--- f is the procedure of analyze line k, and its total at size n is past the last number
+-- f is the procedure of analyze line k, and its total at size n overflows
 abbrev pub IsTotalOver : Program → ℕ → ℕ → ℕ → Type 0
 IsTotalOver p k f n = (slice_get p.analyses k ≡ Some f) × IsOverAt p f n
 
--- of the sizes up to `last` on the analyze lines, the first whose total is past the last number
+-- of the sizes up to `last` on the analyze lines, the first whose total overflows
 pub record IsFirstTotalOver (p : Program) (last k f n : ℕ) : Type 0 where
   pub within : n ≤ last
   pub over : IsTotalOver p k f n
   pub first : (j g m : ℕ) → m ≤ last → IsEarlier j m k n → IsTotalOver p j g m → ⊥
 
--- the first total past the last number is named
+-- the first total that overflows is named
 abbrev pub AuditRefusal : Program → ℕ → Answer → Type 0
 AuditRefusal p last answer =
     (k : ℕ) × (f : ℕ) × (n : ℕ) × IsFirstTotalOver p last k f n
     × (answer ≡ Refusal Overflow (audit_line (procedure_name p f) n))
 
--- a total past the last number, and else none is
+-- a total that overflows, and else none is
 abbrev pub audited : Program → ℕ → Step ⊤
 audited p last = AuditRefusal p last or_makes λ _. ⊤
 

@@ -43,12 +43,12 @@ StructureRefusal p x text answer =
 abbrev pub structure_of : Program → ℕ → List ℕ → Step Tree
 structure_of p x text = StructureRefusal p x text or_makes Reads p x text
 
--- a charge past the last number
+-- a charge that overflows
 abbrev pub ChargeRefusal : Program → ℕ → Tree → Answer → Type 0
 ChargeRefusal p f t answer =
     (q : ℕ) × Charges p f t q × (MAX < q) × (answer ≡ Refusal Overflow charge_line)
 
--- a charge past the last number, and else what procedure f charges on t
+-- a charge that overflows, and else what procedure f charges on t
 abbrev pub charge_of : Program → ℕ → Tree → Step ℕ
 charge_of p f t = ChargeRefusal p f t or_makes Charges p f t
 

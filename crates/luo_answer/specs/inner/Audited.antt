@@ -30,19 +30,18 @@ IsFew p f last false =
 abbrev pub Names : Program → ℕ → ℕ → answer.Answer → Type 0
 Names p f n a = a ≡ answer.Refusal way.Overflow (audit_line (procedure_name p f) n)
 
--- of the sizes up to `last`, n is the first at which the total of procedure f is past the last
--- number
+-- of the sizes up to `last`, n is the first at which the total of procedure f overflows
 abbrev pub IsFirstOf : Program → ℕ → ℕ → ℕ → Type 0
 IsFirstOf p f last n =
     (n ≤ last) × IsOverAt p f n × ((m : ℕ) → m < n → IsOverAt p f m → ⊥)
 
--- the row of procedure f of size n, whose total isn't past the last number, or the refusal of one
+-- the row of procedure f of size n, whose total doesn't overflow, or the refusal of one
 -- that is
 abbrev pub AuditsRow : Program → ℕ → ℕ → Result Row Refusal → Type 0
 AuditsRow p f n (Ok row) = (row.n ≡ n) × IsRow p f row × (row.total ≤ MAX)
 AuditsRow p f n (Err e) = RefusedBy (λ a. IsOverAt p f n × Names p f n a) e
 
--- the rows of procedure f for the sizes up to `last`, of which no total is past the last number, or
+-- the rows of procedure f for the sizes up to `last`, of which no total overflows, or
 -- the refusal of the first that is
 abbrev pub AuditsRows : Program → ℕ → ℕ → Result (List Row) Refusal → Type 0
 AuditsRows p f last (Ok rows) =

@@ -14,7 +14,7 @@ filled_to p fill last k =
 abbrev pub full : Held → Fill → ℕ → Run
 full p fill last = filled_to p fill last (last + 1)
 
--- the first k sizes are filled, and none of their numbers is past the last one
+-- the first k sizes are filled, and none of their numbers overflows
 pub record IsFilledTo (p : Held) (fill : Fill) (last k : ℕ) (run : Run) : Type 0 where
   pub is : run ≡ filled_to p fill last k
   pub none_over : (m : ℕ) → m < k → NoneOver (plain_of p) fill m

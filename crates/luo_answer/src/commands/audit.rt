@@ -19,8 +19,8 @@ use luo_outside::Gate;
 use std::alloc::Global;
 use std::thread::Threads;
 
-// The report with what the workers find, where there are few structures and no total is past the last
-// number.
+// The report with what the workers find, where there are few structures and no total
+// overflows.
 fn audit_counted<'p, R: Threads + Sync, G: Gate>(
     rt: &R,
     alloc: Global,

@@ -35,7 +35,7 @@ fn put_entry(text: &mut Vec<u8>, program: &Program, entry: Entry) -> Result<(), 
     }
 }
 
-// The line of an entry past the last number.
+// The line of an entry that overflows.
 fn overflow_bytes(alloc: Global, program: &Program, over: Overflow) -> Result<Vec<u8>, NoMemory>
     ensures { IfOk result (λ text. text.items ≡ overflow_line
         (plain_of program.now) over.entry over.n) }
@@ -49,7 +49,7 @@ fn overflow_bytes(alloc: Global, program: &Program, over: Overflow) -> Result<Ve
     Ok(text)
 }
 
-// The refusal of the first entry past the last number.
+// The refusal of the first entry that overflows.
 fn overflow_refusal(alloc: Global, program: &Program, over: Overflow) -> Refusal
     ensures { (fill : Fill) (last : ℕ)
         → IsFirstOver (plain_of program.now) last fill over.entry over.n

@@ -21,7 +21,7 @@ pub record IsPieceSum (p : Program) (f n workers i : ℕ) (found : Result ℕ Au
   pub sum : (charges : List ℕ) → AreCharges p f n charges
       → IsSum (piece_sum charges workers i) found
 
--- the sums of the pieces of these charges, and the sum of all; or that is past the last number
+-- the sums of the pieces of these charges, and the sum of all; or that overflows
 abbrev pub Gathers : List ℕ → ℕ → Result Audited AuditError → Type 0
 Gathers charges workers (Ok a) =
     (a.sums ≡ piece_sums charges workers) × (a.row.total ≡ sum charges) × (sum charges ≤ MAX)

@@ -32,29 +32,29 @@ HasTooManyOf source last =
 abbrev pub few_of : Source → ℕ → Step ⊤
 few_of source last = refused_where (HasTooManyOf source last) Limit structures_line
 
--- the total of procedure d at size n is past the last number
+-- the total of procedure d at size n overflows
 abbrev pub IsOverOf : Source → ProcDef → ℕ → Type 0
 IsOverOf source d n =
     (t : ℕ) × IsTotalOf source (Named d.on) (ProcCharges source d.name.text) n t × (MAX < t)
 
--- d is the procedure of analyze line k, and its total at size n is past the last number
+-- d is the procedure of analyze line k, and its total at size n overflows
 abbrev pub IsTotalOverOf : Source → ℕ → ProcDef → ℕ → Type 0
 IsTotalOverOf source k d n = IsAnalyzed source k d × IsOverOf source d n
 
--- of the sizes up to `last` on the analyze lines, the first whose total is past the last number
+-- of the sizes up to `last` on the analyze lines, the first whose total overflows
 pub record IsFirstTotalOverOf (source : Source) (last k : ℕ) (d : ProcDef) (n : ℕ) : Type 0 where
   pub within : n ≤ last
   pub over : IsTotalOverOf source k d n
   pub first : (j : ℕ) (e : ProcDef) (m : ℕ) → m ≤ last → IsEarlier j m k n
       → IsTotalOverOf source j e m → ⊥
 
--- the first total past the last number is named
+-- the first total that overflows is named
 abbrev pub AuditRefusalOf : Source → ℕ → Answer → Type 0
 AuditRefusalOf source last answer =
     (k : ℕ) × (d : ProcDef) × (n : ℕ) × IsFirstTotalOverOf source last k d n
     × (answer ≡ Refusal Overflow (audit_line d.name.text n))
 
--- a total past the last number, and else none is
+-- a total that overflows, and else none is
 abbrev pub audited_of : Source → ℕ → Step ⊤
 audited_of source last = AuditRefusalOf source last or_makes λ _. ⊤
 

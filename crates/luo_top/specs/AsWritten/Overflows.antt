@@ -1,4 +1,4 @@
--- What is said of a number past the last one, by what its source means as it is written.
+-- What is said of an overflow, by what its source means as it is written.
 use Rattle.std.specs.Prelude.{◌≡◌, ℕ, ◌++◌, List, codes, decimal}
 use Rattle.luo_model.specs.declared.table.Entry.{Entry}
 use Rattle.luo_model.specs.declared.table.Fill.{Fill}
@@ -8,7 +8,7 @@ use Rattle.luo_answer.specs.declared.status.Status.TheVariants.{Overflow}
 use Rattle.luo_answer.specs.Answer.{Answer, Refusal}
 use Rattle.luo_answer.specs.Lines.{line}
 
--- of the counts and totals up to a last size, the first past the last number is named: `overflow:
+-- of the counts and totals up to a last size, the first that overflows is named: `overflow:
 -- count of t.0 at size 30`
 abbrev pub OverflowRefusalOf : Source → Fill → ℕ → Answer → Type 0
 OverflowRefusalOf source fill last answer =

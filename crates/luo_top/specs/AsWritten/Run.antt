@@ -67,7 +67,7 @@ named_structure source name text =
     (λ answer. (e : StructError) × IsNoStructure source name text e
     × (answer ≡ refusal_of_structure e)) or_makes ReadsOf source name text
 
--- a charge past the last number, and else what the procedure of this name charges on t
+-- a charge that overflows, and else what the procedure of this name charges on t
 abbrev pub procedure_charge : Source → List ℕ → Tree → Step ℕ
 procedure_charge source name t =
     (λ answer. (q : ℕ) × ProcCharges source name t q × (MAX < q)

@@ -23,8 +23,8 @@ pub row-requires : goal.row-requires
 row-requires c =
     component_row c.args.plan.now c.node_at-x.ensures.plan c.args.counts.now c.args.tables.now.items c.args.n c.args.k c.node_at-x.result c.in-Coll.low c.in-Coll.kind c.in-Coll.part c.in-Coll.high c.node_at-x.ensures.place (sym c.shape.ensures ∙ c.in-Coll.is) c.requires.counted c.requires.tables
 
-pub front-comp-requires : goal.front-comp-requires
-front-comp-requires c =
+pub prefix-comp-requires : goal.prefix-comp-requires
+prefix-comp-requires c =
     let r = component_reaches c.args.plan.now c.node_at-x.ensures.plan c.args.counts.now c.args.tables.now.items c.args.n c.args.k c.node_at-x.result c.in-Coll.low c.in-Coll.kind c.in-Coll.part c.in-Coll.high c.node_at-x.ensures.place (sym c.shape.ensures ∙ c.in-Coll.is) c.requires.counted c.requires.tables in
     omega (arith, r, ap length c.row.ensures)
 
@@ -35,12 +35,12 @@ ask-requires-clause-there c =
 pub ask-requires-clause-goes_on : goal.ask-requires-clause-goes_on
 ask-requires-clause-goes_on c =
     goes_on c.args.plan.now c.node_at-x.ensures.plan c.args.counts.now c.args.tables.now.items c.args.n c.args.k c.node_at-x.result c.in-Coll.low c.in-Coll.kind c.in-Coll.part c.in-Coll.high c.node_at-x.ensures.place (sym c.shape.ensures ∙ c.in-Coll.is) c.requires.counted c.requires.tables
-    c.here_at-here.result c.here_at-here.ensures.one c.here_at-here.ensures.alone c.row.result.now c.front-comp.result.now c.row.ensures c.front-comp.ensures c.requires.reached
+    c.here_at-here.result c.here_at-here.ensures.one c.here_at-here.ensures.alone c.row.result.now c.prefix-comp.result.now c.row.ensures c.prefix-comp.ensures c.requires.reached
 
 pub ask-requires-clause-reached : goal.ask-requires-clause-reached
 ask-requires-clause-reached c =
     let l = comp_long c.args.plan.now c.node_at-x.ensures.plan c.args.counts.now c.args.tables.now.items c.args.n c.args.k c.node_at-x.result c.in-Coll.low c.in-Coll.kind c.in-Coll.part c.in-Coll.high c.node_at-x.ensures.place (sym c.shape.ensures ∙ c.in-Coll.is) c.requires.counted c.requires.tables
-    c.here_at-here.result c.here_at-here.ensures.one c.here_at-here.ensures.alone c.row.result.now c.front-comp.result.now c.row.ensures c.front-comp.ensures in
+    c.here_at-here.result c.here_at-here.ensures.one c.here_at-here.ensures.alone c.row.result.now c.prefix-comp.result.now c.row.ensures c.prefix-comp.ensures in
     omega (arith, l, c.requires.reached, c.pascal.ensures)
 
 pub unreachable-requires : goal.unreachable-requires
@@ -59,9 +59,9 @@ returns-clause-number c =
     let e : slice_index c.args.plan.now.order c.args.k ≡ c.node_at-x.result = get_or_from_slice_get c.args.plan.now.order c.args.k c.node_at-x.result 0 c.node_at-x.ensures.place in
     subst (λ x. CountsTo (plain_of c.args.plan.now.program) x c.args.n c.ask.result) (sym e)
     (number_is c.args.plan.now c.node_at-x.ensures.plan c.args.counts.now c.args.tables.now.items c.args.n c.args.k c.node_at-x.result c.in-Coll.low c.in-Coll.kind c.in-Coll.part c.in-Coll.high c.node_at-x.ensures.place (sym c.shape.ensures ∙ c.in-Coll.is) c.requires.counted c.requires.tables
-    c.here_at-here.result c.here_at-here.ensures.one c.here_at-here.ensures.alone c.row.result.now c.front-comp.result.now c.row.ensures c.front-comp.ensures c.ask.result c.ask.ensures.answer)
+    c.here_at-here.result c.here_at-here.ensures.one c.here_at-here.ensures.alone c.row.result.now c.prefix-comp.result.now c.row.ensures c.prefix-comp.ensures c.ask.result c.ask.ensures.answer)
 
 pub returns-clause-tables : goal.returns-clause-tables
 returns-clause-tables c =
     next c.args.plan.now c.node_at-x.ensures.plan c.args.counts.now c.args.tables.now.items c.args.n c.args.k c.node_at-x.result c.in-Coll.low c.in-Coll.kind c.in-Coll.part c.in-Coll.high c.node_at-x.ensures.place (sym c.shape.ensures ∙ c.in-Coll.is) c.requires.counted c.requires.tables
-    c.here_at-here.result c.here_at-here.ensures.one c.here_at-here.ensures.alone c.row.result.now c.front-comp.result.now c.row.ensures c.front-comp.ensures c.ask.new.tables.items c.ask.result c.ask.ensures.kept
+    c.here_at-here.result c.here_at-here.ensures.one c.here_at-here.ensures.alone c.row.result.now c.prefix-comp.result.now c.row.ensures c.prefix-comp.ensures c.ask.new.tables.items c.ask.result c.ask.ensures.kept

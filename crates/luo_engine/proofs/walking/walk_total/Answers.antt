@@ -6,8 +6,8 @@ pub row-requires : goal.row-requires
 row-requires c = component_row c.args.plan.now c.node_of-x.ensures.plan c.args.counts.now c.args.totals.now c.args.tables.now c.args.walks.now.items c.args.i c.args.s c.args.n c.node_of-x.result c.in-Coll.low c.in-Coll.kind c.in-Coll.part c.in-Coll.high c.node_of-x.ensures.node
     (sym c.shape.ensures ∙ c.in-Coll.is) c.requires.counted
 
-pub front-comp-requires : goal.front-comp-requires
-front-comp-requires c =
+pub prefix-comp-requires : goal.prefix-comp-requires
+prefix-comp-requires c =
     let r = component_reaches c.args.plan.now c.node_of-x.ensures.plan c.args.counts.now c.args.totals.now c.args.tables.now c.args.walks.now.items c.args.i c.args.s c.args.n c.node_of-x.result c.in-Coll.low c.in-Coll.kind c.in-Coll.part c.in-Coll.high c.node_of-x.ensures.node
     (sym c.shape.ensures ∙ c.in-Coll.is) c.requires.counted in
     omega (arith, r, ap length c.row.ensures)
@@ -24,16 +24,16 @@ pub ask-requires-clause-goes_with : goal.ask-requires-clause-goes_with
 ask-requires-clause-goes_with c = goes_with c.args.plan.now c.node_of-x.ensures.plan c.args.counts.now c.args.totals.now c.args.tables.now c.args.walks.now.items c.args.i c.args.s c.args.n c.node_of-x.result c.in-Coll.low c.in-Coll.kind c.in-Coll.part c.in-Coll.high c.node_of-x.ensures.node
     (sym c.shape.ensures ∙ c.in-Coll.is) c.requires.counted
     c.requires.tables c.requires.totals c.requires.one c.requires.asks c.requires.reached c.here_at-here.result c.here_at-here.ensures.one c.here_at-here.ensures.alone
-    c.row.result.now c.front-comp.result.now c.row-in-Coll.result.now c.front-body.result.now c.row.ensures c.front-comp.ensures c.row-in-Coll.ensures c.front-body.ensures c.table_of.result.now c.table_of.ensures c.requires.walk
+    c.row.result.now c.prefix-comp.result.now c.row-in-Coll.result.now c.prefix-body.result.now c.row.ensures c.prefix-comp.ensures c.row-in-Coll.ensures c.prefix-body.ensures c.table_of.result.now c.table_of.ensures c.requires.walk
 
 pub returns-clause-total : goal.returns-clause-total
 returns-clause-total c = number_is c.args.plan.now c.node_of-x.ensures.plan c.args.counts.now c.args.totals.now c.args.tables.now c.args.walks.now.items c.args.i c.args.s c.args.n c.node_of-x.result c.in-Coll.low c.in-Coll.kind c.in-Coll.part c.in-Coll.high c.node_of-x.ensures.node
     (sym c.shape.ensures ∙ c.in-Coll.is) c.requires.counted
     c.requires.tables c.requires.totals c.requires.one c.requires.asks c.requires.reached c.here_at-here.result c.here_at-here.ensures.one c.here_at-here.ensures.alone
-    c.row.result.now c.front-comp.result.now c.row-in-Coll.result.now c.front-body.result.now c.row.ensures c.front-comp.ensures c.row-in-Coll.ensures c.front-body.ensures c.table_of.result.now c.table_of.ensures c.requires.walk c.ask.result c.ask.ensures.answer
+    c.row.result.now c.prefix-comp.result.now c.row-in-Coll.result.now c.prefix-body.result.now c.row.ensures c.prefix-comp.ensures c.row-in-Coll.ensures c.prefix-body.ensures c.table_of.result.now c.table_of.ensures c.requires.walk c.ask.result c.ask.ensures.answer
 
 pub returns-clause-walks : goal.returns-clause-walks
 returns-clause-walks c = λ small walk. next c.args.plan.now c.node_of-x.ensures.plan c.args.counts.now c.args.totals.now c.args.tables.now c.args.walks.now.items c.args.i c.args.s c.args.n c.node_of-x.result c.in-Coll.low c.in-Coll.kind c.in-Coll.part c.in-Coll.high c.node_of-x.ensures.node
     (sym c.shape.ensures ∙ c.in-Coll.is) c.requires.counted
     c.requires.tables c.requires.totals c.requires.one c.requires.asks c.requires.reached c.here_at-here.result c.here_at-here.ensures.one c.here_at-here.ensures.alone
-    c.row.result.now c.front-comp.result.now c.row-in-Coll.result.now c.front-body.result.now c.row.ensures c.front-comp.ensures c.row-in-Coll.ensures c.front-body.ensures c.table_of.result.now c.table_of.ensures walk c.ask.new.walks.items c.ask.result c.ask.ensures.kept small
+    c.row.result.now c.prefix-comp.result.now c.row-in-Coll.result.now c.prefix-body.result.now c.row.ensures c.prefix-comp.ensures c.row-in-Coll.ensures c.prefix-body.ensures c.table_of.result.now c.table_of.ensures walk c.ask.new.walks.items c.ask.result c.ask.ensures.kept small

@@ -3,8 +3,8 @@ use Rattle.luo_outside.proofs.Sent.{sent_more}
 use Rattle.luo_outside.proofs.sending.send.Goals as goal
 
 -- nothing to send has no rest
-no_rest : (bytes front rest : List ℕ) → bytes ≡ front ++ rest → bytes ≡ [] → 0 < length rest → ⊥
-no_rest bytes front rest whole none some = omega (arith, length-append front rest, ap length (sym whole ∙ none))
+no_rest : (bytes prefix rest : List ℕ) → bytes ≡ prefix ++ rest → bytes ≡ [] → 0 < length rest → ⊥
+no_rest bytes prefix rest whole none some = omega (arith, length-append prefix rest, ap length (sym whole ∙ none))
 
 pub loop-rest-preserved : goal.loop-rest-preserved
 loop-rest-preserved g c =

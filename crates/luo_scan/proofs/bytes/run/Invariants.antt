@@ -1,6 +1,6 @@
 use Rattle.std.proofs.Common.{take}
 use Rattle.std.specs.List.{AllByRecursion}
-use Rattle.luo_scan.specs.Fronts.{IsOf}
+use Rattle.luo_scan.specs.Prefixes.{IsOf}
 use Rattle.luo_scan.proofs.bytes.run.Given as goal
 
 abbrev pub invariant-loop-count : goal.invariant-loop-count

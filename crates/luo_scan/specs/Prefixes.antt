@@ -1,4 +1,4 @@
--- Fronts of a text.
+-- Prefixes of a text.
 use Rattle.std.specs.Prelude.{◌≢◌, ℕ, List, [], ◌∷◌, take, drop, ◌≤◌, length}
 use Rattle.std.specs.List.{AllByRecursion}
 use Rattle.luo_scan.specs.declared.bytes.Class.{Class}
