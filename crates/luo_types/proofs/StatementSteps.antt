@@ -1,13 +1,11 @@
 -- How single statements are checked and added.
-use Rattle.std.proofs.Common.{◌≡◌, ℕ, ◌+◌, ◌<◌, List, [], ◌∷◌, ◌++◌, Some, true, length, nat_eq, refl, sym, ◌∙◌, ap, subst, add-zero, arith}
-use Rattle.std.proofs.lemmas.Bool.{eqb-true}
+use Rattle.std.proofs.Common.{◌≡◌, ℕ, ◌+◌, ◌<◌, List, [], ◌∷◌, Some, true, length, nat_eq, refl, sym, ◌∙◌, ap, subst, add-zero, arith}
 use Rattle.luo_model.specs.declared.body.Arm.{Arm}
 use Rattle.luo_model.specs.declared.body.Body.{Body}
 use Rattle.luo_model.specs.declared.body.Item.{Item}
 use Rattle.luo_model.specs.declared.body.Item as done
 use Rattle.luo_model.specs.Program as plain
 use Rattle.luo_model.specs.Scopes.Stands.{stands}
-use Rattle.luo_model.specs.Scopes.ValueBodies.{join_items}
 use Rattle.luo_model.specs.View.{body_of, item_of, item_list}
 use Rattle.luo_source.specs.declared.names.Name.{Name}
 use Rattle.luo_source.specs.declared.statements.SourceArm.{SourceArm}
@@ -23,25 +21,19 @@ use Rattle.luo_rules.specs.Breaches.{StopsAt}
 use Rattle.luo_rules.specs.Meanings.{measure_use, procedure_use, value_of, procedure_of}
 use Rattle.luo_rules.specs.Patterns.{case_breaches}
 use Rattle.luo_rules.specs.Settings.{meant, signature_meant, shape_at, found, place_of, argument_breaches, case_stands}
+use Rattle.luo_value_types.specs.inner.Items.{HasItem}
 use Rattle.luo_value_types.specs.inner.Room.{HasRoom}
 use Rattle.luo_rules.specs.inner.ValueMade.{extended}
-use Rattle.luo_model.proofs.ViewLemmas.{case_item}
-use Rattle.luo_model.proofs.ViewLemmas.{walk_item}
-use Rattle.luo_rules.proofs.Joins.{items_none, item_list_append, extended_none, extended_empty}
+use Rattle.luo_model.proofs.ViewLemmas.{case_item, walk_item}
+use Rattle.luo_rules.proofs.Joins.{items_none, extended_none, extended_empty}
 use Rattle.luo_value_types.proofs.StopLemmas.{none-append, case-arms}
 use Rattle.luo_rules.specs.Counted.{stmt_statements, stmts_statements, arms_statements}
 use Rattle.luo_rules.specs.StatementBreaches.{walk_breaches, stmt_breaches, stmts_breaches, arms_breaches}
 use Rattle.luo_rules.specs.StatementCore.{stmt_sites, arms_sites, arms_core}
 use Rattle.luo_rules.specs.inner.StatementLists.{stmt_does}
-use Rattle.luo_types.specs.inner.StatementsMade.{IsStmtAdded, AreStmtsAdded, AreArmsMade, IsWalked, HasItem}
+use Rattle.luo_types.specs.inner.StatementsMade.{IsStmtAdded, AreStmtsAdded, AreArmsMade, IsWalked}
 use Rattle.luo_types.proofs.StatementRoom.{sites-within, arm_sites-within, room-inside}
 use Rattle.luo_rules.proofs.StatementForms.{block-breaches, block-does, block-sites, block-statements, case-breaches, case-does, case-sites, case-statements, walk_scope, walk-breaches, walk-does, walk-sites, walk-statements}
-
-pub has-item : (own : ℕ) (old items : List Item) (item : Item) → items ≡ old ++ item ∷ [] → HasItem (item_of item) (record { own = own; items = old }) (record { own = own; items = items })
-has-item own old items item e =
-    ap (λ is. plain.Does own (item_list is)) e
-    ∙ ap (plain.Does own) (item_list_append old (item ∷ []))
-    ∙ ap (λ n. plain.Does n (join_items (item_list old) (plain.item (item_of item) plain.no_items))) (sym (add-zero own))
 
 module _ (s : Setting) (scope : List Variable) (old new : Body) (first : ℕ) where
   pub skip-added : IsStmtAdded s scope Skip old old first first
@@ -142,10 +134,6 @@ case-site var arms own next after room e = omega (arith, room.sites, case-statem
 
 pub walk-site : (var source : Name) (inner : Stmt) (own next after : ℕ) → HasRoom (stmt_statements (stmt_of (Forall var source inner))) own next → after ≡ next + stmt_sites (stmt_of inner) → after + 1 < 8589934592
 walk-site var source inner own next after room e = omega (arith, room.sites, walk-statements var source inner, sites-within (stmt_of inner), e)
-
--- a case has an arm for each thing to stand for
-pub case-even : (s : Setting) (scope : List Variable) (var : Name) (count : ℕ) (v : ℕ × Part) → found scope var ≡ Some v → nat_eq count (length (case_stands s (found scope var))) ≡ true → count ≡ length (stands v.1 (shape_at s v.1.node))
-case-even s scope var count v e f = eqb-true count _ f ∙ ap (λ o. length (case_stands s o)) e
 
 -- the statement at hand is this one
 pub stmt-is : (s : Setting) (scope : List Variable) (stmt one : Stmt) (old new body : Body) (first next after : ℕ) → stmt ≡ one → body ≡ new → after ≡ next → IsStmtAdded s scope one old new first next → IsStmtAdded s scope stmt old body first after

@@ -22,12 +22,12 @@ ghost use Rattle.luo_rules.specs.inner.StatementLists.{stmts_does};
 ghost use Rattle.luo_rules.specs.Whole.{result_breaches, body_breaches, proc_breaches, procs_breaches};
 
 use crate::rules::check_name;
-use crate::statements::{one_variable, stmts, take_site};
+use crate::statements::{one_variable, stmts};
 use luo_model::{Body, Made, Part, Proc, Universe};
 use luo_num::Items;
 use luo_rules::{Meaning, Rule, Setting, Stop};
 use luo_source::{Name, ProcBody, ProcDef, SourceValue, Stmt};
-use luo_value_types::{Context, Maker, breach, use_procedure, use_type, value};
+use luo_value_types::{Context, Maker, breach, take_site, use_procedure, use_type, value};
 use std::alloc::Global;
 
 // A procedure with a result stands in an unlabelled program.

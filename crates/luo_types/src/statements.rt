@@ -14,38 +14,19 @@ ghost use Rattle.luo_source.specs.View.{stmt_of, stmt_list, source_arm_list};
 ghost use Rattle.luo_rules.specs.Counted.{stmt_statements, stmts_statements, arms_statements};
 ghost use Rattle.luo_rules.specs.StatementBreaches.{walk_breaches, stmt_breaches};
 ghost use Rattle.luo_rules.specs.inner.StatementLists.{one_arm_breaches, arm_statements};
-ghost use Rattle.luo_types.specs.inner.StatementsMade.{HasItem, IsWalked};
+ghost use Rattle.luo_types.specs.inner.StatementsMade.{IsWalked};
 ghost use Rattle.luo_types.specs.inner.StatementChecks.{ChecksCharge, ChecksStmt, ChecksStmts, ChecksArm, ChecksArms};
 ghost use Rattle.luo_value_types.specs.inner.Values.{HasRoomFor};
 
 use luo_model::{Arm, Body, Item, Part, Shape};
 use luo_num::Items;
-use luo_rules::{Rule, Setting, Stop, Variable};
+use luo_rules::{Rule, Stop, Variable};
 use luo_source::{Name, SourceArm, Stmt};
 use luo_value_types::{
-    Context, Maker, Stand, argument, breach_at, case_variable, pattern, stand_at, use_measure,
-    use_procedure, variable,
+    Context, Maker, Stand, argument, arm_stand, breach_at, case_variable, pattern, push_item,
+    take_site, use_measure, use_procedure, variable,
 };
 use std::alloc::{AllocError, Global};
-
-// Puts an item behind those of a body.
-fn push_item(body: &mut Body, item: Item) -> Result<(), AllocError>
-    ensures { OnOk result (HasItem (item_of item) body.old body.new) }
-{
-    body.items.push(item)?;
-    Ok(())
-}
-
-// The next site.
-pub(crate) fn take_site(next: &mut usize) -> usize
-    requires { next.old < 2 ^ 33 }
-    ensures taken { result ≡ next.old }
-    ensures left { next.new ≡ next.old + 1 }
-{
-    let site = *next;
-    *next += 1;
-    site
-}
 
 // Checks a charge and adds it to the body.
 fn charge(context: &Context<'_>, measure: &Name, body: &mut Body) -> Result<(), Stop>
@@ -76,18 +57,6 @@ fn call(context: &Context<'_>, callee: &Name, arg: &Name, maker: &mut Maker) -> 
         },
     )?;
     Ok(())
-}
-
-// What the arm at this place stands for, in a case on this part.
-fn arm_stand(setting: &Setting, on: Part, place: usize) -> Stand
-    requires { place < length (stands on (shape_at setting.now on.node)) }
-    ensures { slice_get (stands on (shape_at setting.now on.node)) place
-        ≡ Some (stand_of result) }
-{
-    match stand_at(setting, on, place) {
-        Some(stand) => stand,
-        None => unreachable!(),
-    }
 }
 
 // Checks an arm that stands for this, in a case on this variable, and makes it.

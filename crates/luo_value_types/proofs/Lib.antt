@@ -1,3 +1,4 @@
+pub mod ItemLemmas
 pub mod ValueRoom
 pub mod StopLemmas
 pub mod PatternLemmas

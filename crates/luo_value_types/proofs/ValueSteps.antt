@@ -1,5 +1,5 @@
 -- What is broken and made in the forms of a value.
-use Rattle.std.proofs.Common.{◌≡◌, ℕ, zero, suc, ◌+◌, ◌^◌, ◌<◌, ◌≤◌, List, [], ◌∷◌, ◌++◌, Option, Some, None, true, false, Result, map, length, nat_eq, codes, decimal, eq-eqb, is_some, if◌then◌else◌, refl, ap, sym, subst, ◌∙◌, arith, add-zero}
+use Rattle.std.proofs.Common.{◌≡◌, ℕ, zero, suc, ◌+◌, ◌^◌, ◌<◌, ◌≤◌, List, [], ◌∷◌, ◌++◌, Option, Some, None, true, false, Result, map, length, nat_eq, codes, decimal, eq-eqb, is_some, if◌then◌else◌, ap, sym, subst, ◌∙◌, arith, add-zero}
 use Rattle.std.specs.Result.{IsErrAnd}
 use Rattle.std.proofs.lemmas.Bool.{eqb-true}
 use Rattle.std.proofs.lemmas.Result.{err_from_is_err_and}
@@ -20,7 +20,7 @@ use Rattle.luo_model.specs.declared.value.ValueArm.{ValueArm}
 use Rattle.luo_model.specs.Invariant.{inner_parts}
 use Rattle.luo_model.specs.Program as plain
 use Rattle.luo_model.specs.Scopes.Stands.{Stand, stands, factors}
-use Rattle.luo_model.specs.Scopes.ValueBodies.{join_items, value_arms_sites, value_arm_bodies}
+use Rattle.luo_model.specs.Scopes.ValueBodies.{value_arms_sites, value_arm_bodies}
 use Rattle.luo_model.specs.View.{value_of, body_of, item_list, item_of}
 use Rattle.luo_source.specs.View.{source_value_of}
 use Rattle.luo_rules.specs.declared.rule.Breach.{Breach}
@@ -33,6 +33,7 @@ use Rattle.luo_rules.specs.Meanings.{procedure_use, procedure_of}
 use Rattle.luo_rules.specs.Settings.{meant, signature_meant, shape_at, found, place_of, argument_breaches, case_stands}
 use Rattle.luo_rules.specs.Patterns.{bound, case_breaches, has_factors}
 use Rattle.luo_value_types.specs.Checks.{Checks}
+use Rattle.luo_value_types.specs.inner.Items.{HasItem}
 use Rattle.luo_value_types.specs.inner.Room.{HasFewBranches, HasRoom}
 use Rattle.luo_rules.specs.Statements.{value_statements}
 use Rattle.luo_rules.specs.ValueBreaches.{value_breaches, given_breaches, result_breaches, charge_use, is_atom, misplaced, branch_at, branch_of, part_nodes}
@@ -40,7 +41,7 @@ use Rattle.luo_rules.specs.ValueCore.{value_core, weight_of, charge_of}
 use Rattle.luo_rules.specs.inner.ValueLists.{AreMade, ArmsAreMade}
 use Rattle.luo_value_types.specs.inner.Lists.{parts_breaches, parts_core, parts_statements, arms_breaches, arms_core, arms_statements}
 use Rattle.luo_rules.specs.inner.ValueMade.{extended, IsMade}
-use Rattle.luo_rules.proofs.Joins.{items_none, extended_none, item_list_append}
+use Rattle.luo_rules.proofs.Joins.{items_none, extended_none}
 use Rattle.luo_value_types.proofs.StopLemmas.{StopsAt-left, none-append, case-arms}
 use Rattle.luo_rules.proofs.ValueForms.{tuple_breaches, tuple_core, tuple_statements, branch_breaches, branch_core, branch_statements, case_value_breaches, case_core, case_statements}
 use Rattle.luo_value_types.proofs.ValueRoom.{sites_within}
@@ -63,18 +64,17 @@ given_made s scope e v name place b next is unbroken there = made_along s scope 
   numbered = sym (add-zero next);
 })
 
--- items behind those of a body
-item_behind : (b : Body) (items : List Item) (i : Item) (more : plain.Item) → items ≡ b.items ++ i ∷ [] → item_of i ≡ more → plain.Does b.own (item_list items) ≡ extended (body_of b) (plain.Does 0 (plain.item more plain.no_items))
-item_behind b items i more e f =
-    ap (λ z. plain.Does z (item_list items)) (sym (add-zero b.own))
-    ∙ ap (plain.Does (b.own + 0)) (ap item_list e ∙ item_list_append b.items (i ∷ []) ∙ ap (λ z. join_items (item_list b.items) (plain.item z plain.no_items)) f)
-
-pub call_made : (s : Setting) (scope : List Variable) (e : ℕ) (callee arg : Name) (var procedure : ℕ) (b : Body) (items : List Item) (next : ℕ) → (procedure_use (meant s callee) callee or_if_none result_breaches (Some e) (signature_meant s (meant s callee)).result callee) ≡ [] → procedure ≡ procedure_of (meant s callee) → argument_breaches (found scope arg) (signature_meant s (meant s callee)).on arg callee ≡ [] → var ≡ place_of (found scope arg) → items ≡ b.items ++ done.Call var procedure next ∷ [] → IsMade (value_breaches s scope (Some e) (source_value_of (source.Made callee arg))) (value_core s scope (Some e) (source_value_of (source.Made callee arg))) (made.Call var procedure) b (record { own = b.own; items = items }) next (next + 1)
-call_made s scope e callee arg var procedure b items next left ep right ev pushed = record {
+pub call_made : (s : Setting) (scope : List Variable) (e : ℕ) (callee arg : Name) (var procedure : ℕ) (b new : Body) (next site after : ℕ) → (procedure_use (meant s callee) callee or_if_none result_breaches (Some e) (signature_meant s (meant s callee)).result callee) ≡ [] → procedure ≡ procedure_of (meant s callee)
+    → argument_breaches (found scope arg) (signature_meant s (meant s callee)).on arg callee ≡ [] → var ≡ place_of (found scope arg) → site ≡ next → after ≡ next + 1 → HasItem (plain.Call var procedure site) b new
+    → IsMade (value_breaches s scope (Some e) (source_value_of (source.Made callee arg))) (value_core s scope (Some e) (source_value_of (source.Made callee arg))) (made.Call var procedure) b new next after
+call_made s scope e callee arg var procedure b new next site after left ep right ev taken counted has = record {
   unbroken = none-append _ _ left right;
   formed = ap (λ z. plain.Made z procedure) ev ∙ ap (plain.Made (place_of (found scope arg))) ep;
-  behind = item_behind b items (done.Call var procedure next) _ pushed (ap (λ z. plain.Call z procedure next) ev ∙ ap (λ z. plain.Call (place_of (found scope arg)) z next) ep);
-  numbered = refl;
+  behind =
+      has
+      ∙ ap (λ i. extended (body_of b) (plain.Does 0 (plain.item i plain.no_items)))
+      (ap (λ z. plain.Call z procedure site) ev ∙ ap (λ z. plain.Call (place_of (found scope arg)) z site) ep ∙ ap (plain.Call (place_of (found scope arg)) (procedure_of (meant s callee))) taken);
+  numbered = counted;
 }
 
 pub atom_made : (s : Setting) (e : ℕ) (charge : Option Name) (at weight own : ℕ) (b : Body) → charge_use s charge ≡ [] → own ≡ charge_of s charge → shape_at s e ≡ shape.Atom weight → (scope : List Variable) (next : ℕ) → IsMade (value_breaches s scope (Some e) (source_value_of (source.Atom charge at))) (value_core s scope (Some e) (source_value_of (source.Atom charge at))) (made.Atom weight own) b (record { own = b.own + own; items = b.items }) next next
@@ -168,8 +168,9 @@ case_is s scope e var arms there ef en =
     ∙ case-arms s (found scope var) there var (length arms) (arms_breaches s (case_stands s (found scope var)) (Some e) var arms) ef en
     ∙ ap (λ z. arms_breaches s (case_stands s z) (Some e) var arms) ef
 
-pub case_each : (s : Setting) (scope : List Variable) (var : Name) (arms : List SourceValueArm) (there : ℕ × Part) → found scope var ≡ Some there → nat_eq (length arms) (length (case_stands s (found scope var))) ≡ true → length arms ≡ length (stands there.1 (shape_at s there.1.node))
-case_each s scope var arms there ef en = eqb-true _ _ (ap (λ z. nat_eq (length arms) (length (case_stands s z))) (sym ef) ∙ en)
+-- a case has an arm for each thing to stand for
+pub case_each : (s : Setting) (scope : List Variable) (var : Name) (count : ℕ) (there : ℕ × Part) → found scope var ≡ Some there → nat_eq count (length (case_stands s (found scope var))) ≡ true → count ≡ length (stands there.1 (shape_at s there.1.node))
+case_each s scope var count there ef en = eqb-true _ _ (ap (λ z. nat_eq count (length (case_stands s z))) (sym ef) ∙ en)
 
 pub case_variable_stops : (s : Setting) (scope : List Variable) (e : ℕ) (var : Name) (arms : List SourceValueArm) (stop : Stop) → ((inner : List Breach) → StopsAt (case_breaches s (found scope var) var (length arms) inner) stop) → StopsAt (value_breaches s scope (Some e) (source_value_of (source.Case var arms))) stop
 case_variable_stops s scope e var arms stop h = subst (λ z. StopsAt z stop) (sym (case_value_breaches s scope (Some e) var arms)) (h _)
@@ -177,18 +178,23 @@ case_variable_stops s scope e var arms stop h = subst (λ z. StopsAt z stop) (sy
 pub case_stops : (s : Setting) (scope : List Variable) (e : ℕ) (var : Name) (arms : List SourceValueArm) (there : ℕ × Part) (stop : Stop) → found scope var ≡ Some there → nat_eq (length arms) (length (case_stands s (found scope var))) ≡ true → StopsAt (arms_breaches s (stands there.1 (shape_at s there.1.node)) (Some e) var arms) stop → StopsAt (value_breaches s scope (Some e) (source_value_of (source.Case var arms))) stop
 case_stops s scope e var arms there stop ef en h = subst (λ z. StopsAt z stop) (sym (case_is s scope e var arms there ef en)) h
 
-pub case_made : (s : Setting) (scope : List Variable) (e : ℕ) (var : Name) (arms : List SourceValueArm) (there : ℕ × Part) (values : List ValueArm) (bodies : List Arm) (b : Body) (items : List Item) (first site : ℕ) → found scope var ≡ Some there → nat_eq (length arms) (length (case_stands s (found scope var))) ≡ true → ArmsAreMade (arms_breaches s (stands there.1 (shape_at s there.1.node)) (Some e) var arms) (arms_core s (stands there.1 (shape_at s there.1.node)) (Some e) arms) values bodies first site → items ≡ b.items ++ done.Case there.0 bodies site ∷ [] → IsMade (value_breaches s scope (Some e) (source_value_of (source.Case var arms))) (value_core s scope (Some e) (source_value_of (source.Case var arms))) (made.Case there.0 values) b (record { own = b.own; items = items }) first (site + 1)
-case_made s scope e var arms there values bodies b items first site ef en m pushed =
+pub case_made : (s : Setting) (scope : List Variable) (e : ℕ) (var : Name) (arms : List SourceValueArm) (there : ℕ × Part) (values : List ValueArm) (bodies : List Arm) (b new : Body) (first mid site after : ℕ) → found scope var ≡ Some there → nat_eq (length arms) (length (case_stands s (found scope var))) ≡ true
+    → ArmsAreMade (arms_breaches s (stands there.1 (shape_at s there.1.node)) (Some e) var arms) (arms_core s (stands there.1 (shape_at s there.1.node)) (Some e) arms) values bodies first mid → site ≡ mid → after ≡ mid + 1 → HasItem (item_of (done.Case there.0 bodies site)) b new
+    → IsMade (value_breaches s scope (Some e) (source_value_of (source.Case var arms))) (value_core s scope (Some e) (source_value_of (source.Case var arms))) (made.Case there.0 values) b new first after
+case_made s scope e var arms there values bodies b new first mid site after ef en m taken counted has =
     let core = arms_core s (stands there.1 (shape_at s there.1.node)) (Some e) arms in
     let same : value_core s scope (Some e) (source_value_of (source.Case var arms)) ≡ plain.Chosen there.0 core = case_core s scope (Some e) var arms ∙ ap (λ z. plain.Chosen (place_of z) (arms_core s (case_stands s z) (Some e) arms)) ef in
-    let one : IsMade (arms_breaches s (stands there.1 (shape_at s there.1.node)) (Some e) var arms) (plain.Chosen there.0 core) (made.Case there.0 values) b (record { own = b.own; items = items }) first (site + 1) = record {
+    let one : IsMade (arms_breaches s (stands there.1 (shape_at s there.1.node)) (Some e) var arms) (plain.Chosen there.0 core) (made.Case there.0 values) b new first after = record {
       unbroken = m.unbroken;
       formed = case_value there.0 values ∙ ap (plain.Chosen there.0) m.formed;
-      behind = item_behind b items (done.Case there.0 bodies site) _ pushed (case_item there.0 bodies site ∙ ap (λ z. plain.Case there.0 z site) m.bodied ∙ ap (plain.Case there.0 (value_arm_bodies first core)) m.numbered);
-      numbered = omega (arith, m.numbered);
+      behind =
+          has
+          ∙ ap (λ i. extended (body_of b) (plain.Does 0 (plain.item i plain.no_items)))
+          (case_item there.0 bodies site ∙ ap (λ z. plain.Case there.0 z site) m.bodied ∙ ap (plain.Case there.0 (value_arm_bodies first core)) (taken ∙ m.numbered));
+      numbered = omega (arith, counted, m.numbered);
     } in
-    subst (λ z. IsMade z (value_core s scope (Some e) (source_value_of (source.Case var arms))) (made.Case there.0 values) b (record { own = b.own; items = items }) first (site + 1)) (sym (case_is s scope e var arms there ef en))
-    (subst (λ z. IsMade (arms_breaches s (stands there.1 (shape_at s there.1.node)) (Some e) var arms) z (made.Case there.0 values) b (record { own = b.own; items = items }) first (site + 1)) (sym same) one)
+    subst (λ z. IsMade z (value_core s scope (Some e) (source_value_of (source.Case var arms))) (made.Case there.0 values) b new first after) (sym (case_is s scope e var arms there ef en))
+    (subst (λ z. IsMade (arms_breaches s (stands there.1 (shape_at s there.1.node)) (Some e) var arms) z (made.Case there.0 values) b new first after) (sym same) one)
 
 -- room inside
 pub tuple_room : (parts : List SourceValue) (at own next : ℕ) → HasRoom (value_statements (source_value_of (source.Tuple parts at))) own next → HasRoom (parts_statements parts) own next
@@ -211,7 +217,7 @@ arms_sites_within s [] e (a ∷ arms) = omega arith
 arms_sites_within s (stand ∷ stands) e (a ∷ arms) = omega (arith, sites_within s (bound s stand a.pattern) e (source_value_of a.body), arms_sites_within s stands e arms)
 
 -- the site behind those of the arms
-pub case_next_small : (s : Setting) (stands : List Stand) (e : Option ℕ) (var : Name) (arms : List SourceValueArm) (own first next : ℕ) → HasRoom (value_statements (source_value_of (source.Case var arms))) own first → next ≡ first + value_arms_sites (arms_core s stands e arms) → next + 1 < 2 ^ 64
+pub case_next_small : (s : Setting) (stands : List Stand) (e : Option ℕ) (var : Name) (arms : List SourceValueArm) (own first next : ℕ) → HasRoom (value_statements (source_value_of (source.Case var arms))) own first → next ≡ first + value_arms_sites (arms_core s stands e arms) → next < 2 ^ 33
 case_next_small s stands e var arms own first next room numbered =
     let all = case_room var arms own first room in
     omega (arith, all.sites, arms_sites_within s stands e arms, numbered)

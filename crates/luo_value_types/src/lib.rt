@@ -2,6 +2,7 @@
 #![tactic(auto)]
 
 mod context;
+mod items;
 mod patterns;
 mod scope;
 mod shared;
@@ -12,10 +13,11 @@ mod value_statements;
 mod values;
 
 pub use context::{Context, Maker};
+pub use items::{push_item, take_site};
 pub use luo_rules::{Breach, Meaning, Names, Rule, Setting, Signature, Stop, Variable};
 pub use patterns::{Opened, has_factors, pattern};
 pub use scope::{argument, find, variable};
-pub use stands::{Stand, case_variable, stand_at, stand_count};
+pub use stands::{Stand, arm_stand, case_variable, stand_at, stand_count};
 pub use uses::{breach, breach_at, use_measure, use_procedure, use_type};
 pub use value_statements::count_statements;
 pub use values::value;

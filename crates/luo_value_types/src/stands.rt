@@ -1,5 +1,5 @@
 // What the arms of a case stand for.
-ghost use Rattle.std.specs.Prelude.{◌≡◌, List, true, Some, nat_eq, length, slice_get, IfOk, IfErr, OnOk};
+ghost use Rattle.std.specs.Prelude.{◌≡◌, ◌<◌, List, true, Some, nat_eq, length, slice_get, IfOk, IfErr, OnOk};
 ghost use Rattle.std.specs.Option.{option_map};
 ghost use Rattle.luo_model.specs.Scopes.Stands.{stands};
 ghost use Rattle.luo_rules.specs.Breaches.{StopsAt};
@@ -67,6 +67,18 @@ pub fn stand_at(setting: &Setting, on: Part, place: usize) -> Option<Stand>
     match setting.shape(on.node) {
         Some(shape) => stand_in(shape, on, place),
         None => None,
+    }
+}
+
+/// What the arm at this place stands for, in a case on this part that has so many.
+pub fn arm_stand(setting: &Setting, on: Part, place: usize) -> Stand
+    requires { place < length (stands on (shape_at setting.now on.node)) }
+    ensures { slice_get (stands on (shape_at setting.now on.node)) place
+        ≡ Some (stand_of result) }
+{
+    match stand_at(setting, on, place) {
+        Some(stand) => stand,
+        None => unreachable!(),
     }
 }
 

@@ -13,9 +13,10 @@ ghost use Rattle.luo_value_types.specs.inner.Values.{HasRoomFor, ChecksValue, Ch
 ghost use Rattle.luo_value_types.specs.inner.Values.{ChecksArms, ChecksArm};
 
 use crate::context::{Context, Maker};
+use crate::items::{push_item, take_site};
 use crate::patterns::pattern;
 use crate::scope::argument;
-use crate::stands::{Stand, case_variable, stand_at};
+use crate::stands::{Stand, arm_stand, case_variable};
 use crate::uses::breach;
 use crate::value_leaves::{
     branch_node, callee_of, charge_at, factors_at, given, no_branch, weight_at,
@@ -80,12 +81,15 @@ fn call(
 {
     let procedure = callee_of(context, expected, callee)?;
     let var = argument(context, context.setting.meant(callee), arg, callee)?;
-    maker.body.items.push(Item::Call {
-        var,
-        callee: procedure,
-        site: maker.next,
-    })?;
-    maker.next += 1;
+    let site = take_site(&mut maker.next);
+    push_item(
+        &mut maker.body,
+        Item::Call {
+            var,
+            callee: procedure,
+            site,
+        },
+    )?;
     Ok(Value::Call {
         var,
         callee: procedure,
@@ -210,13 +214,15 @@ fn case(
         expected,
     };
     let made = all_arms(context, &subject, arms, &mut maker.next)?;
-    let site = maker.next;
-    maker.body.items.push(Item::Case {
-        var: there.0,
-        arms: made.1,
-        site,
-    })?;
-    maker.next += 1;
+    let case_site = take_site(&mut maker.next);
+    push_item(
+        &mut maker.body,
+        Item::Case {
+            var: there.0,
+            arms: made.1,
+            site: case_site,
+        },
+    )?;
     Ok(Value::Case {
         var: there.0,
         arms: made.0,
@@ -241,9 +247,7 @@ fn all_arms(
     let mut values = Items::new(context.alloc);
     let mut bodies = Items::new(context.alloc);
     for (i, arm) in arms.iter().enumerate() {
-        let Some(stand) = stand_at(context.setting, subject.on, i) else {
-            unreachable!()
-        };
+        let stand = arm_stand(context.setting, subject.on, i);
         let made = one_arm(context, subject, stand, arm, next)?;
         values.push(made.0)?;
         bodies.push(made.1)?;

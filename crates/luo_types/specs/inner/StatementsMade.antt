@@ -28,11 +28,6 @@ pub record IsAdded (breaches : List Breach) (does : plain.Body) (sites : ℕ) (o
   pub behind : body_of new ≡ extended (body_of old) does
   pub numbered : next ≡ first + sites
 
--- a body with this item behind what it has
-abbrev pub HasItem : plain.Item → Body → Body → Type 0
-HasItem i old new =
-    body_of new ≡ extended (body_of old) (plain.Does 0 (plain.item i plain.no_items))
-
 -- a statement was checked and added
 abbrev pub IsStmtAdded : Setting → List Variable → Stmt → Body → Body → ℕ → ℕ → Type 0
 IsStmtAdded s scope stmt old new first next =

@@ -14,9 +14,9 @@ use Rattle.luo_rules.specs.StatementBreaches.{stmt_breaches}
 use Rattle.luo_rules.specs.StatementCore.{stmt_sites}
 use Rattle.luo_types.specs.inner.StatementsMade.{IsStmtAdded}
 use Rattle.luo_types.proofs.ArmsSoFar.{at-arm, arms-stop, arms-more, arms-all}
-use Rattle.luo_value_types.proofs.ValueSteps.{stopped}
+use Rattle.luo_value_types.proofs.ValueSteps.{stopped, case_each}
 use Rattle.luo_types.proofs.StatementsSoFar.{at-stmt, so_far-more, so_far-all}
-use Rattle.luo_types.proofs.StatementSteps.{skip-added, charge-added, case-variable_stops, case-stops, case-added, case-room, case-site, case-even, walk-variable_stops, walk-stops, walk-added, walk-room, walk-site, block-room, block-added, block-stops, stmt-is, added-ok}
+use Rattle.luo_types.proofs.StatementSteps.{skip-added, charge-added, case-variable_stops, case-stops, case-added, case-room, case-site, walk-variable_stops, walk-stops, walk-added, walk-room, walk-site, block-room, block-added, block-stops, stmt-is, added-ok}
 use Rattle.luo_types.proofs.statements.+statements.Goals as goal
 use Rattle.luo_types.proofs.statements.+statements.Goals.{stmt-in-Skip, stmt-in-Charge+in_ok-charge-in-Charge, stmt-in-Call+in_ok-call-in-Call, stmt-in-Block+in_ok-stmts-in-Block, stmt-in-Case+in_ok-case-in-Case, stmt-in-Forall+in_ok-walk-in-Forall}
 
@@ -55,7 +55,7 @@ case-returns-in_err-there t c =
 pub case-arms-requires : goal.case-arms-requires
 case-arms-requires t c =
     let room = case-room c.args.var.now c.args.branches.now c.args.maker.now.body.own c.args.maker.now.next c.requires.room in
-    let even = case-even c.args.context.now.setting.now c.args.context.now.scope.now c.args.var.now (length c.args.branches.now) c.in_ok-there.there c.in_ok-there.ensures.ok c.in_ok-there.ensures.arms in
+    let even = case_each c.args.context.now.setting.now c.args.context.now.scope.now c.args.var.now (length c.args.branches.now) c.in_ok-there.there c.in_ok-there.ensures.ok c.in_ok-there.ensures.arms in
     (search (rules, the_lemmas), (room, even))
 
 pub case-returns-in_err-made : goal.case-returns-in_err-made

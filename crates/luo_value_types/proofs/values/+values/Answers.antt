@@ -1,4 +1,4 @@
-use Rattle.std.proofs.Common.{rules, Some, None, sym, arith}
+use Rattle.std.proofs.Common.{rules, length, Some, None, arith}
 use Rattle.std.proofs.lemmas.List.{drop_more}
 use Rattle.luo_model.specs.declared.program.Part.{Part}
 use Rattle.luo_model.specs.Scopes.Stands.{stands}
@@ -63,16 +63,16 @@ case-returns-in_err-made t c =
 
 pub case-returns : goal.case-returns
 case-returns t c =
-    let m = case_made c.args.context.now.setting.now c.args.context.now.scope.now c.args.expected c.args.var.now c.args.arms.now c.in_ok-there.there c.in_ok-made.made.0 c.in_ok-made.made.1 c.args.maker.now.body c.push.new.self c.args.maker.now.next c.all_arms.new.next c.in_ok-there.ensures.ok c.in_ok-there.ensures.arms c.in_ok-made.ensures.1.0 c.in_ok-push.ensures.ok in
+    let m = case_made c.args.context.now.setting.now c.args.context.now.scope.now c.args.expected c.args.var.now c.args.arms.now c.in_ok-there.there c.in_ok-made.made.0 c.in_ok-made.made.1 c.args.maker.now.body c.push_item.new.body c.args.maker.now.next c.all_arms.new.next c.take_site-case_site.result c.take_site-case_site.new.next c.in_ok-there.ensures.ok c.in_ok-there.ensures.arms c.in_ok-made.ensures.1.0 c.take_site-case_site.ensures.taken c.take_site-case_site.ensures.left c.in_ok-push_item.ensures in
     (m.unbroken, (m, tt))
 
-pub case-overflow_add-maker : goal.case-overflow_add-maker
-case-overflow_add-maker t c =
-    record { fits = case_next_small c.args.context.now.setting.now (stands c.in_ok-there.there.1 (shape_at c.args.context.now.setting.now c.in_ok-there.there.1.node)) (Some c.args.expected) c.args.var.now c.args.arms.now c.args.maker.now.body.own c.args.maker.now.next c.all_arms.new.next c.requires.room c.in_ok-made.ensures.1.0.numbered }
+pub case-take_site-case_site-requires : goal.case-take_site-case_site-requires
+case-take_site-case_site-requires t c =
+    case_next_small c.args.context.now.setting.now (stands c.in_ok-there.there.1 (shape_at c.args.context.now.setting.now c.in_ok-there.there.1.node)) (Some c.args.expected) c.args.var.now c.args.arms.now c.args.maker.now.body.own c.args.maker.now.next c.all_arms.new.next c.requires.room c.in_ok-made.ensures.1.0.numbered
 
 pub case-all_arms-requires : goal.case-all_arms-requires
 case-all_arms-requires t c =
-    (search rules, (case_each c.args.context.now.setting.now c.args.context.now.scope.now c.args.var.now c.args.arms.now c.in_ok-there.there c.in_ok-there.ensures.ok c.in_ok-there.ensures.arms, case_room_inside c.args.var.now c.args.arms.now c.args.maker.now.body.own c.args.maker.now.next c.requires.room))
+    (search rules, (case_each c.args.context.now.setting.now c.args.context.now.scope.now c.args.var.now (length c.args.arms.now) c.in_ok-there.there c.in_ok-there.ensures.ok c.in_ok-there.ensures.arms, case_room_inside c.args.var.now c.args.arms.now c.args.maker.now.body.own c.args.maker.now.next c.requires.room))
 
 pub one_arm-returns-in_err-opened : goal.one_arm-returns-in_err-opened
 one_arm-returns-in_err-opened t c =
@@ -116,10 +116,10 @@ all_parts-returns-in_err-one t c =
 pub all_arms-loop-i-preserved : goal.all_arms-loop-i-preserved
 all_arms-loop-i-preserved t c =
     let at_arm = drop_at c.args.arms.now c.loop-i.i c.index-arms-i.result c.loop-i-test.true c.index-arms-i.is in
-    arms_more _ _ _ _ _ _ _ _ _ _ _ _ _ _ _ _ _ c.loop-i.invariant (drop-slice_get _ c.loop-i.i (stand_of c.in-Some.stand) (sym c.in-Some.ensures)) at_arm c.in_ok-made.ensures.1.0 c.in_ok-push.ensures.ok c.in_ok-push-2.ensures.ok
+    arms_more _ _ _ _ _ _ _ _ _ _ _ _ _ _ _ _ _ c.loop-i.invariant (drop-slice_get _ c.loop-i.i (stand_of c.arm_stand-stand.result) c.arm_stand-stand.ensures) at_arm c.in_ok-made.ensures.1.0 c.in_ok-push.ensures.ok c.in_ok-push-2.ensures.ok
 
 pub all_arms-returns-in_err-made : goal.all_arms-returns-in_err-made
 all_arms-returns-in_err-made t c =
     let at_arm = drop_at c.args.arms.now c.loop-i.i c.index-arms-i.result c.loop-i-test.true c.index-arms-i.is in
     stopped c.from_residual.result _ _ _ c.from_residual.ensures.1
-    (arms_stop c.args.context.now.setting.now (stands c.args.subject.now.on (shape_at c.args.context.now.setting.now c.args.subject.now.on.node)) (Some c.args.subject.now.expected) c.args.subject.now.var.now c.args.arms.now c.loop-i.i c.loop-i.values c.loop-i.bodies c.args.next.now c.loop-i.next (stand_of c.in-Some.stand) c.index-arms-i.result _ c.loop-i.invariant (drop-slice_get _ c.loop-i.i (stand_of c.in-Some.stand) (sym c.in-Some.ensures)) at_arm c.in_err-made.ensures.1.1)
+    (arms_stop c.args.context.now.setting.now (stands c.args.subject.now.on (shape_at c.args.context.now.setting.now c.args.subject.now.on.node)) (Some c.args.subject.now.expected) c.args.subject.now.var.now c.args.arms.now c.loop-i.i c.loop-i.values c.loop-i.bodies c.args.next.now c.loop-i.next (stand_of c.arm_stand-stand.result) c.index-arms-i.result _ c.loop-i.invariant (drop-slice_get _ c.loop-i.i (stand_of c.arm_stand-stand.result) c.arm_stand-stand.ensures) at_arm c.in_err-made.ensures.1.1)
