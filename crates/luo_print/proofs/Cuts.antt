@@ -8,7 +8,7 @@ use Rattle.luo_scan.specs.declared.token.TokenKind.{TokenKind}
 use Rattle.luo_scan.specs.declared.token.TokenKind.TheVariants as kind
 use Rattle.luo_scan.specs.declared.token.Token.{Token}
 use Rattle.luo_scan.specs.Bytes.{IsSeparator, IsNameByte}
-use Rattle.luo_scan.specs.Fronts.{Stops}
+use Rattle.luo_scan.specs.Prefixes.{Stops}
 use Rattle.luo_scan.specs.Spellings.{spelling, sign}
 use Rattle.luo_scan.specs.Laws.{IsFit}
 use Rattle.luo_scan.specs.Lexemes.{Lexeme, lexeme, lexemes_from}

@@ -6,7 +6,7 @@ use Rattle.std.proofs.lemmas.Fmt.{decimal_by_steps_wide}
 use Rattle.luo_num.specs.declared.limits.TheConstants.{NUMBER_LIMIT}
 use Rattle.luo_scan.specs.declared.token.TokenKind.TheVariants as kind
 use Rattle.luo_scan.specs.Bytes.{IsDigit, IsNameByte}
-use Rattle.luo_scan.specs.Fronts.{Stops}
+use Rattle.luo_scan.specs.Prefixes.{Stops}
 use Rattle.luo_scan.specs.Spellings.{value_after}
 use Rattle.luo_scan.specs.Tokens.{Begins}
 use Rattle.luo_scan.proofs.Longest.{begins_zero, begins_number}
