@@ -1,3 +1,4 @@
 pub mod Cuts
 pub mod AuditLemmas
 pub mod WalkLemmas
+pub mod FactLemmas

@@ -1,5 +1,5 @@
 -- What the words of this crate have to give.
-use Rattle.std.specs.Prelude.{◌≡◌, ◌⊎◌, ℕ, ◌+◌, ◌/◌, ◌<◌, List, length, sum}
+use Rattle.std.specs.Prelude.{◌≡◌, ◌⊎◌, ℕ, ◌+◌, ◌/◌, ◌<◌, List, [], ◌∷◌, length, sum}
 use Rattle.luo_model.specs.Invariant.{IsProgram}
 use Rattle.luo_model.specs.Program.{Program}
 use Rattle.luo_audit.specs.Pieces.{start, piece_sums}
@@ -30,3 +30,11 @@ abbrev pub RowsAgree : Type 0
 RowsAgree =
     (p : Program) → IsProgram p → (f n v w : ℕ) (a b : Audited) → IsAudit p f n v a
     → IsAudit p f n w b → a.row ≡ b.row
+
+-- what the permutations of three points charge by their cycles, in pieces for 1, 2, 4 and 7 workers
+abbrev pub PiecesOfPermutations : Type 0
+PiecesOfPermutations =
+    let cycles : List ℕ = 3 ∷ 2 ∷ 2 ∷ 2 ∷ 1 ∷ 1 ∷ [] in
+    (piece_sums cycles 1 ≡ 11 ∷ []) × (piece_sums cycles 2 ≡ 7 ∷ 4 ∷ [])
+    × (piece_sums cycles 4 ≡ 5 ∷ 4 ∷ 1 ∷ 1 ∷ [])
+    × (piece_sums cycles 7 ≡ 3 ∷ 2 ∷ 2 ∷ 2 ∷ 1 ∷ 1 ∷ 0 ∷ [])

@@ -1,5 +1,6 @@
 //! The laws of pieces. Nothing is computed here.
 ghost use Rattle.luo_audit.specs.Laws.{PiecesAreEven, PiecesAddUp, SumsAddUp, RowsAgree};
+ghost use Rattle.luo_audit.specs.Laws.{PiecesOfPermutations};
 
 /// The pieces go from the first place to the last, and their lengths differ by at most one.
 pub fn pieces_are_even()
@@ -19,4 +20,9 @@ pub fn sums_add_up()
 /// Whatever the numbers of workers, audits of one procedure and size have one row.
 pub fn rows_agree()
     ensures { RowsAgree }
+{}
+
+/// The pieces of the permutations of three points, by cycles, for 1, 2, 4 and 7 workers.
+pub fn pieces_of_permutations()
+    ensures { PiecesOfPermutations }
 {}

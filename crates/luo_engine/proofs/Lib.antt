@@ -14,3 +14,4 @@ pub mod WalkTables
 pub mod TotalRuns
 pub mod EntryOrder
 pub mod FirstOver
+pub mod EntryOrderLemmas

@@ -11,3 +11,5 @@ pub mod UpTo
 pub mod WrittenLemmas
 pub mod ViewLemmas
 pub mod TextLemmas
+pub mod TextFactLemmas
+pub mod ExactFactLemmas

@@ -5,3 +5,5 @@ pub mod Laws
 pub mod Written
 pub mod View
 pub mod Text
+pub mod TextFacts
+pub mod ExactFacts

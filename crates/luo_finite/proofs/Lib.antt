@@ -22,3 +22,4 @@ pub mod Orders
 pub mod OrderedPlaces
 pub mod Choices
 pub mod PlacesExist
+pub mod CircleFacts

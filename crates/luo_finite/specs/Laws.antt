@@ -1,8 +1,9 @@
 -- What the words of this crate have to give, said of tests on numbers.
-use Rattle.std.specs.Prelude.{◌≡◌, ◌<◌, ◌*◌, ℕ, List, Bool, IsTrue, length}
+use Rattle.std.specs.Prelude.{◌≡◌, ◌⊎◌, ◌<◌, ◌*◌, ℕ, List, [], ◌∷◌, Bool, IsTrue, length}
 use Rattle.luo_finite.specs.Listing.{Lists, Counts, Sums, Totals, Pairwise, Neighbours}
 use Rattle.luo_finite.specs.Range.{sum_below}
 use Rattle.luo_finite.specs.Steps.{◌or_else◌, IsSingle}
+use Rattle.luo_finite.specs.Walk.{IsNamedCircle}
 
 -- the test gives true at n
 abbrev pub Passes : (ℕ → Bool) → ℕ → Type 0
@@ -57,3 +58,14 @@ abbrev pub NeighboursDecide : Type 0
 NeighboursDecide =
     (r : ℕ → ℕ → Bool) (xs : List ℕ) → ((x y z : ℕ) → Relates r x y → Relates r y z → Relates r x z)
     → Neighbours (Relates r) xs → Pairwise (Relates r) xs
+
+-- 0 leads to 1 and to 2, and both lead back
+abbrev pub Forks : ℕ → ℕ → Type 0
+Forks x y = ((x ≡ 0) × ((y ≡ 1) ⊎ (y ≡ 2))) ⊎ ((y ≡ 0) × ((x ≡ 1) ⊎ (x ≡ 2)))
+
+-- of two shortest circles the first in order is named, and of no other number than the least on one
+abbrev pub FirstCircleIsNamed : Type 0
+FirstCircleIsNamed =
+    IsNamedCircle Forks 0 (0 ∷ 1 ∷ 0 ∷ []) × (IsNamedCircle Forks 0 (0 ∷ 2 ∷ 0 ∷ []) → ⊥)
+    × (IsNamedCircle Forks 1 (1 ∷ 0 ∷ 1 ∷ []) → ⊥)
+    × (IsNamedCircle Forks 0 (0 ∷ 1 ∷ 0 ∷ 1 ∷ 0 ∷ []) → ⊥)

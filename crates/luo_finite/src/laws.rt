@@ -1,5 +1,6 @@
 // Laws on the words of this crate. The bodies are empty: what counts are the clauses.
 ghost use Rattle.luo_finite.specs.Laws.{OneLength, CountOfBelow, SumsChangePlaces, SumOverKeys, SumOfProducts, OneTotal, OneAnswer, NeighboursDecide};
+ghost use Rattle.luo_finite.specs.Laws.{FirstCircleIsNamed};
 
 /// Two listings of what a test passes have equal lengths.
 pub fn one_length()
@@ -39,4 +40,9 @@ pub fn one_answer()
 /// For a transitive relation it is enough that neighbours are related.
 pub fn neighbours_decide()
     ensures { NeighboursDecide }
+{}
+
+/// Of two shortest circles the first in order is named.
+pub fn first_circle_is_named()
+    ensures { FirstCircleIsNamed }
 {}

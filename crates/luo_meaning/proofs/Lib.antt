@@ -37,3 +37,4 @@ pub mod ProceduresMade
 pub mod SourceMeanings
 pub mod OrderFacts
 pub mod BrokenFacts
+pub mod EntryOrderLemmas

@@ -126,6 +126,13 @@ module _ (source : Source) (c : Clean source) where
             λ h. wholes_charge (core source) f P t q e (kept.1 h),
           )
 
+      -- and on all structures of one size
+      pub total_kept : (P : Procedure) → slice_get (core source).procs f ≡ Some P → (n total : ℕ) → IsTotal (core source) P.site n total → IsTotalOf source (Named d.on) (ProcCharges source d.name.text) n total
+      total_kept P e n total h =
+          let p = core source in
+          totals_same (IsStructure p P.on.node n) (IsStructureOf source (Named d.on) n) (SiteCharges p P.site) (ProcCharges source d.name.text) total (structure_same P e n) (λ t q. (site_same P e t q).0)
+          (subst (λ x. Totals (IsStructure p x n) (SiteCharges p P.site) total) (whole_site p is f P e) h)
+
       pub row_kept : (row : Row) → IsRow (core source) f row ↔ IsRowOf source d row
       row_kept row =
           let p = core source in

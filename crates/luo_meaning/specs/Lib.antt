@@ -19,3 +19,4 @@ pub mod Broken
 pub mod Examples
 pub mod Facts
 pub mod Laws
+pub mod EntryOrder

@@ -2,6 +2,8 @@
 #![tactic(auto)]
 
 ghost use Rattle.luo_meaning.specs.Names.{NamesMeanFirstEntries};
+ghost use Rattle.luo_meaning.specs.EntryOrder.{LesserSizesComeFirst, CountsComeFirst};
+ghost use Rattle.luo_meaning.specs.EntryOrder.{CountsGoByRank, TotalsGoByRank, TotalsGoByLevel};
 ghost use Rattle.luo_meaning.specs.Facts.{BinaryTreesOfTwo, PathLengths, SpinesAreCharged, PermutationsOfTwo};
 ghost use Rattle.luo_meaning.specs.Facts.{FewCyclesOfTwo, CyclesAreCharged, ChoicesOfTwo, BothIsMade};
 ghost use Rattle.luo_meaning.specs.Facts.{PlacesOfBinaryTrees, RanksOfBinaryTrees, LevelsOfBinaryTrees};
@@ -165,4 +167,14 @@ pub fn order_of_binary_trees()
 /// Two names with one right side are two types, and a call on one of the wrong type breaks a rule.
 pub fn types_of_choices()
     ensures { TypesOfChoices }
+{}
+
+/// Counts and totals go by size, at one size counts before totals, counts by rank and as they are in the source,
+/// totals by rank, by level and as they are in the source.
+pub fn entries_are_ordered()
+    ensures sizes { LesserSizesComeFirst }
+    ensures counts { CountsComeFirst }
+    ensures constructs { CountsGoByRank }
+    ensures ranks { TotalsGoByRank }
+    ensures levels { TotalsGoByLevel }
 {}

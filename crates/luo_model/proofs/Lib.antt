@@ -21,3 +21,4 @@ pub mod TotalFacts
 pub mod OrderFacts
 pub mod Unlabelled
 pub mod WholeSites
+pub mod LevelFacts

@@ -23,3 +23,4 @@ pub mod Laws
 pub mod Founded
 pub mod Levels
 pub mod Lists
+pub mod FactsLevels

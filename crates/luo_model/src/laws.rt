@@ -2,6 +2,7 @@
 
 ghost use Rattle.luo_model.specs.FactsCharges.{CasesTakeTheirArm, CopiesAreChargedEach, EndlessCallsChargeNothing};
 ghost use Rattle.luo_model.specs.FactsCounts.{BinaryTreesAreCounted, BranchesAreCountedApart, EmptyFactorChangesNoCount, LabelledPointsAreCounted, LabelledProductsAreCounted, CopiesAreCounted, PartitionsAreCounted, BoundsAreCounted};
+ghost use Rattle.luo_model.specs.FactsLevels.{LevelsOfHierarchies};
 ghost use Rattle.luo_model.specs.FactsMembers.{OnlyMultisetsRepeat, MultisetsFall, PowersetsFall, CyclesBeginLeast, SetsRise, LeastLabelsCount, BoundsAreReached, NoLabelIsSkipped, OtherLabelsAreCarried, AtomsAreExact};
 ghost use Rattle.luo_model.specs.FactsOrder.{SizesAndLabelsDecide, FormsDecide, PermutationsInOrder, PartitionsInOrder};
 ghost use Rattle.luo_model.specs.FactsTotals.{RowsSumCharges, PathLengthsAreTotalled, ComponentsAreTotalled, LeavesAreTotalled, NodesAreTotalled, InnerSitesAreTotalled};
@@ -215,4 +216,9 @@ pub fn counts_are_single()
 /// A site has one total at a size.
 pub fn totals_are_single()
     ensures { TotalsAreSingle }
+{}
+
+/// The levels of the sites of a procedure that calls itself in a walk.
+pub fn levels_of_hierarchies()
+    ensures { LevelsOfHierarchies }
 {}

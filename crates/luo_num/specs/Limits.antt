@@ -1,7 +1,8 @@
 -- What is said where a limit is passed.
-use Rattle.std.specs.Prelude.{◌≡◌, ℕ, List, [], ◌∷◌, ◌++◌, codes, decimal}
+use Rattle.std.specs.Prelude.{◌≡◌, ℕ, ◌-◌, ◌^◌, List, [], ◌∷◌, ◌++◌, codes, decimal}
+use Rattle.luo_num.specs.declared.TheConstants.{MAX}
 use Rattle.luo_num.specs.declared.limits.TheConstants.{TEXT_LIMIT, TEXT_LIMIT_LINE, NAME_LIMIT, NAME_LIMIT_HEAD, NUMBER_LIMIT, NUMBER_LIMIT_HEAD, DEPTH_LIMIT, DEPTH_LIMIT_HEAD, DEFINITION_LIMIT, DEFINITION_LIMIT_LINE, NODE_LIMIT, NODE_LIMIT_LINE, PART_LIMIT, PART_LIMIT_LINE, BOUND_LIMIT, BOUND_LIMIT_LINE, MULTISET_LIMIT, MULTISET_LIMIT_LINE, PROCEDURE_LIMIT, PROCEDURE_LIMIT_LINE, STATEMENT_LIMIT, STATEMENT_LIMIT_LINE, ANALYSIS_LIMIT, ANALYSIS_LIMIT_LINE, WALK_LIMIT, WALK_LIMIT_LINE, SIZE_LIMIT, SIZE_LIMIT_LINE, STRUCTURE_TEXT_LIMIT, STRUCTURE_TEXT_LIMIT_LINE, NESTING_LIMIT, NESTING_LIMIT_HEAD}
-use Rattle.luo_num.specs.declared.limits.TheConstants.{LIST_SIZE_LIMIT, LIST_SIZE_LIMIT_LINE, COUNT_LIMIT, COUNT_LIMIT_LINE, WORKER_LIMIT, WORKER_LIMIT_LINE, WALKED_LIMIT, WALKED_LIMIT_LINE, SAMPLE_LIMIT, SAMPLE_LIMIT_LINE}
+use Rattle.luo_num.specs.declared.limits.TheConstants.{STRUCTURE_SIZE_LIMIT, LIST_SIZE_LIMIT, LIST_SIZE_LIMIT_LINE, COUNT_LIMIT, COUNT_LIMIT_LINE, WORKER_LIMIT, WORKER_LIMIT_LINE, WALKED_LIMIT, WALKED_LIMIT_LINE, SAMPLE_LIMIT, SAMPLE_LIMIT_LINE}
 
 -- the name of a limit and its number
 abbrev pub limit_message : List ℕ → ℕ → List ℕ
@@ -35,3 +36,18 @@ LinesSayLimits =
     × (WORKER_LIMIT_LINE.now ≡ limit_message (codes "workers") WORKER_LIMIT ++ 10 ∷ [])
     × (WALKED_LIMIT_LINE.now ≡ limit_message (codes "structures") WALKED_LIMIT ++ 10 ∷ [])
     × (SAMPLE_LIMIT_LINE.now ≡ limit_message (codes "number") SAMPLE_LIMIT ++ 10 ∷ [])
+
+-- the greatest number of a table, and the limits of a text and of what is counted in its source
+abbrev pub TextLimitsAre : Type 0
+TextLimitsAre =
+    (MAX ≡ 2 ^ 127 - 1) × (TEXT_LIMIT ≡ 65536) × (NAME_LIMIT ≡ 32) × (NUMBER_LIMIT ≡ 10 ^ 35)
+    × (DEPTH_LIMIT ≡ 32) × (DEFINITION_LIMIT ≡ 64) × (NODE_LIMIT ≡ 128) × (PART_LIMIT ≡ 64)
+    × (BOUND_LIMIT ≡ 100) × (MULTISET_LIMIT ≡ 32) × (PROCEDURE_LIMIT ≡ 64)
+    × (STATEMENT_LIMIT ≡ 1024) × (ANALYSIS_LIMIT ≡ 16) × (WALK_LIMIT ≡ 32)
+
+-- the limits of words
+abbrev pub WordLimitsAre : Type 0
+WordLimitsAre =
+    (SIZE_LIMIT ≡ 160) × (STRUCTURE_TEXT_LIMIT ≡ 65536) × (NESTING_LIMIT ≡ 1000)
+    × (STRUCTURE_SIZE_LIMIT ≡ 40) × (LIST_SIZE_LIMIT ≡ 40) × (COUNT_LIMIT ≡ 100000)
+    × (WORKER_LIMIT ≡ 16) × (WALKED_LIMIT ≡ 4000000) × (SAMPLE_LIMIT ≡ 2 ^ 64 - 1)

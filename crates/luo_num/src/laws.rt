@@ -1,6 +1,6 @@
 //! The laws of marks and of limits.
 ghost use Rattle.luo_num.specs.Laws.{CappedSum, CappedProduct, CappedSmall, CappedPast};
-ghost use Rattle.luo_num.specs.Limits.{HeadsSayLimits, LinesSayLimits};
+ghost use Rattle.luo_num.specs.Limits.{HeadsSayLimits, LinesSayLimits, TextLimitsAre, WordLimitsAre};
 
 /// Marking the terms first changes no marked sum.
 pub fn capped_sum()
@@ -22,4 +22,10 @@ pub fn capped_number()
 pub fn limit_lines()
     ensures heads { HeadsSayLimits }
     ensures lines { LinesSayLimits }
+{}
+
+/// The greatest number of a table, and each limit, by its numeral.
+pub fn limits_are()
+    ensures text { TextLimitsAre }
+    ensures words { WordLimitsAre }
 {}

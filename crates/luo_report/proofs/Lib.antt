@@ -1,2 +1,3 @@
 pub mod AverageLemmas
 pub mod Sections
+pub mod FactLemmas

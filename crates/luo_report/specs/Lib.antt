@@ -1,3 +1,4 @@
 pub mod Average
 pub mod Report
 pub mod Laws
+pub mod Facts

@@ -8,3 +8,4 @@ pub mod NeighbourLemmas
 pub mod MemberLemmas
 pub mod TextLemmas
 pub mod WholeLemmas
+pub mod FactLemmas

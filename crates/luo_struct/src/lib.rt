@@ -4,6 +4,7 @@
 mod comparing;
 mod labelling;
 mod labels;
+pub mod laws;
 mod members;
 mod structure;
 mod text;

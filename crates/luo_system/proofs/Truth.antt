@@ -30,7 +30,7 @@ use Rattle.luo_system.proofs.Right.{total_of, right_of, right_series, right_tau,
 use Rattle.luo_system.proofs.Charging.{charge_of, charge_is}
 use Rattle.luo_model.proofs.WholeSites.{whole_site}
 use Rattle.luo_system.proofs.Sites.{sites_apart}
-use Rattle.luo_system.specs.Truth.{RightTablesHold, RightTablesExist, HoldingTablesAreRight, SystemsDescribe, RightTablesHaveRows, SystemsHaveTables}
+use Rattle.luo_system.specs.Truth.{RightTablesHold, RightTablesExist, HoldingTablesAreRight, SystemsDescribe, RightTablesHaveRows, RightTablesStartWithZeros, SystemsHaveTables}
 use Rattle.luo_system.proofs.Exact.{part_exact, body_exact}
 
 -- ---- each equation is that of a definition or of a procedure
@@ -54,6 +54,16 @@ procs_back p (P ∷ Ps) k e (inr i) =
 option_or : {A : Type 0} (o : Option A) → ((a : A) × (o ≡ Some a)) ⊎ (o ≡ None)
 option_or (Some a) = inl (a, refl)
 option_or None = inr refl
+
+-- what has no structure of size 0 is counted by 0
+length_none : (l : List Tree) → ((s : Tree) → In s l → ⊥) → length l ≡ 0
+length_none [] h = refl
+length_none (s ∷ l) h = absurd (h s (inl refl))
+
+none_counted : (p : Program) (x c : ℕ) → IsCount p x 0 c → ((s : Tree) → IsStructure p x 0 s → ⊥) → c ≡ 0
+none_counted p x c counted none =
+    let l = counted.exists in
+    sym (counted.each l.0 l.1) ∙ length_none l.0 (λ s i. none s (l.1.sound s i))
 
 module _ (p : Program) (q : IsProgram p) (f : IsFounded p) where
   -- the numbers up to N are the counts and the totals
@@ -96,11 +106,7 @@ module _ (p : Program) (q : IsProgram p) (f : IsFounded p) where
 
   -- ---- and back
   no_structure : (x : ℕ) → ((s : Tree) → IsStructure p x 0 s → ⊥) → count_of p q f x 0 ≡ 0
-  no_structure x o = let c = count_is p q f x 0 in let l = c.exists in sym (c.each l.0 l.1) ∙ nothing l.0 (λ s i. o s (l.1.sound s i))
-    where
-      nothing : (l : List Tree) → ((s : Tree) → In s l → ⊥) → length l ≡ 0
-      nothing [] h = refl
-      nothing (s ∷ l) h = absurd (h s (inl refl))
+  no_structure x o = none_counted p x (count_of p q f x 0) (count_is p q f x 0) o
 
   right_is_true : (N : ℕ) (t : Table) → IsTrue N (right_of p q f t)
   right_is_true N t = record { counts = λ i d e n l. right_series p q f t i d e n; totals = λ g P e n l. right_tau p q f t g P e n }
@@ -158,6 +164,11 @@ systems-describe p q f es e = record {
   determine = λ N t h z. holding-tables_right p q f N t (λ g i n l. h g (subst (In g) (sym e) i) n l) z;
 }
 
+pub right-tables_start : RightTablesStartWithZeros
+right-tables_start p N t r i d e none =
+    let c = r.counts i d e 0 (omega arith) in
+    c.2 ∙ ap pos (none_counted p d.whole.node c.0 c.1 none)
+
 pub right-tables_rows : RightTablesHaveRows
 right-tables_rows p q N t r f row w l =
     let P = w.0 in
@@ -188,8 +199,9 @@ systems-tables p q f es e =
     let t = d.exist in (
       t.0,
       record {
+        right = t.1;
         holds = λ N. d.hold N t.0 (t.1 N);
-        rows = λ g row w. right-tables_rows p q row.n t.0 (t.1 row.n) g row w (omega arith);
+        starts = right-tables_start p 0 t.0 (t.1 0);
         only = λ N v h z. right-tables_agree p q N v t.0 (d.determine N v h z) (t.1 N);
       },
     )

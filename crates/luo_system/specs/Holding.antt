@@ -77,10 +77,11 @@ pub record Agree (p : Program) (N : ℕ) (t v : Table) : Type 0 where
   pub totals : (f : ℕ) (P : Procedure) → slice_get p.procs f ≡ Some P → (n : ℕ) → n ≤ N
       → t.y f n ≡ v.y f n
 
--- the one table of these equations: they hold of it at every size, it has all rows of all
--- procedures, and a table of integers of which the sides agree, and which starts with zeros, agrees
--- with it
+-- the one table of these equations: its numbers are the counts of all definitions and the totals of
+-- all procedures, at every size, and the equations hold of them; it starts with zeros, and a table of
+-- integers of which the sides agree, and which starts with zeros, agrees with it
 pub record IsTableOf (p : Program) (es : List Equation) (t : Table) : Type 0 where
+  pub right : (N : ℕ) → IsRight p N t
   pub holds : (N : ℕ) → Holds p.universe es N t
-  pub rows : (f : ℕ) (row : Row) → IsRow p f row → HasRow p t f row
+  pub starts : HasZeroStart p t
   pub only : (N : ℕ) (v : Table) → SidesAgree p.universe es N v → HasZeroStart p v → Agree p N v t

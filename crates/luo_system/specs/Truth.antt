@@ -9,7 +9,7 @@ use Rattle.luo_model.specs.Founded.{IsFounded}
 use Rattle.luo_equation.specs.Expr.{Table}
 use Rattle.luo_equation.specs.Equation.{Equation}
 use Rattle.luo_system.specs.System.{system}
-use Rattle.luo_system.specs.Holding.{IsRight, AreTrue, Determine, HasTable, Describe, HasRow, IsTableOf}
+use Rattle.luo_system.specs.Holding.{IsRight, HasZeroStart, AreTrue, Determine, HasTable, Describe, HasRow, IsTableOf}
 
 -- the equations hold of a right table, and no quotient leaves a remainder
 abbrev pub RightTablesHold : Type 0
@@ -34,7 +34,11 @@ RightTablesHaveRows =
     (p : Program) → IsProgram p → (N : ℕ) (t : Table) → IsRight p N t → (f : ℕ) (row : Row)
     → IsRow p f row → row.n ≤ N → HasRow p t f row
 
--- there is one table of the equations, and it has all rows
+-- a right table starts with zeros
+abbrev pub RightTablesStartWithZeros : Type 0
+RightTablesStartWithZeros = (p : Program) (N : ℕ) (t : Table) → IsRight p N t → HasZeroStart p t
+
+-- there is one table of the equations: its numbers are the counts and the totals
 abbrev pub SystemsHaveTables : Type 0
 SystemsHaveTables =
     (p : Program) → IsProgram p → IsFounded p → (es : List Equation) → es ≡ system p

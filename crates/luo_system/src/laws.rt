@@ -3,6 +3,7 @@ ghost use Rattle.luo_system.specs.Laws.{SumsKeepCoefficients, ProductsKeepCoeffi
 ghost use Rattle.luo_system.specs.Laws.{WalksKeepCoefficients, QuotientsRoundDown};
 ghost use Rattle.luo_system.specs.Truth.{RightTablesHold, RightTablesExist, HoldingTablesAreRight};
 ghost use Rattle.luo_system.specs.Truth.{SystemsDescribe, RightTablesHaveRows, SystemsHaveTables};
+ghost use Rattle.luo_system.specs.Truth.{RightTablesStartWithZeros};
 ghost use Rattle.luo_system.specs.Facts.{SystemOfTrees, SystemOfRooted};
 ghost use Rattle.luo_system.specs.FactsCases.{SystemOfCases};
 ghost use Rattle.luo_system.specs.Evaluated.{SystemOfCollections, PermutationsGive, PartitionsGive};
@@ -56,8 +57,14 @@ pub fn right_tables_have_rows()
     ensures { RightTablesHaveRows }
 {}
 
-/// The equations of a founded program have one table: they hold of it at every size, it has all rows
-/// of all procedures, and each table of integers that satisfies them and starts with zeros is it.
+/// A right table has 0 at size 0 wherever a definition has no structure of that size.
+pub fn right_tables_start_with_zeros()
+    ensures { RightTablesStartWithZeros }
+{}
+
+/// The equations of a founded program have one table: its numbers are the counts of all definitions and
+/// the totals of all procedures, the equations hold of it at every size, it starts with zeros, and each
+/// table of integers that satisfies them and starts with zeros is it.
 pub fn systems_have_tables()
     ensures { SystemsHaveTables }
 {}

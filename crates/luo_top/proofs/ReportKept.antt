@@ -1,7 +1,9 @@
 -- The report by the core form of a source is that of the source as it is written.
-use Rattle.std.proofs.Common.{◌≡◌, ◌↔◌, ℕ, ◌+◌, List, [], ◌∷◌, ◌++◌, map, Some, slice_get, refl, sym, ap, ◌∙◌}
+use Rattle.std.proofs.Common.{◌≡◌, ◌↔◌, ℕ, ◌+◌, List, [], ◌∷◌, ◌++◌, map, Some, slice_get, refl, sym, ap, ◌∙◌, arith}
 use Rattle.std.specs.Prelude.{codes, flat_map, slice_index_or}
+use Rattle.luo_equation.specs.Expr as series
 use Rattle.luo_equation.specs.Text.{no_procedure}
+use Rattle.luo_system.specs.Holding.{IsRight}
 use Rattle.luo_report.specs.declared.table.Table.{Table}
 use Rattle.luo_report.specs.Report.{line, row_text, name_of, heading, section, universe_text}
 use Rattle.luo_model.specs.declared.program.Def.{Def}
@@ -13,21 +15,22 @@ use Rattle.luo_source.specs.Plain.Source.{ProcDef, Source}
 use Rattle.luo_rules.specs.declared.names.Meaning.TheVariants as mean
 use Rattle.luo_rules.specs.Meanings.{meaning, procedure_use, procedure_of}
 use Rattle.luo_rules.specs.Settings.{meant}
-use Rattle.luo_rules.specs.Definitions.{names_of, measures}
+use Rattle.luo_rules.specs.Definitions.{names_of, measures, definitions, first_node}
 use Rattle.luo_rules.specs.TypeBreaches.{measures_breaches}
 use Rattle.luo_rules.specs.Nodes.{setting_of}
 use Rattle.luo_rules.specs.Whole.{core, proc_core}
 use Rattle.luo_rules.proofs.Lists.{nil_left, nil_right, index_get}
 use Rattle.luo_rules.proofs.ValueFits.{procedure_meant}
 use Rattle.luo_rules.proofs.CleanSource.{Clean, proc_get}
+use Rattle.luo_rules.proofs.NodeLists.{def_at, def_get}
 use Rattle.luo_meaning.specs.Defined.{DefinesProcedure}
 use Rattle.luo_meaning.specs.Rows.{AreRowsOf}
 use Rattle.luo_meaning.proofs.Named.{procedure_named, named_procedure}
 use Rattle.luo_meaning.proofs.ProceduresKept.{procedure_number}
-use Rattle.luo_meaning.proofs.RowsKept.{row_kept}
+use Rattle.luo_meaning.proofs.RowsKept.{counts_same, definition_kept, row_kept, total_kept}
 use Rattle.luo_meaning.proofs.TablesKept.{heading_kept}
 use Rattle.luo_answer.specs.Report.{AreRowsFrom, AreTables, IsReport}
-use Rattle.luo_top.specs.AsWritten.Report.{equation_lines, heading_of, AreSections, IsReportOf}
+use Rattle.luo_top.specs.AsWritten.Report.{equation_lines, AreNumbersOf, heading_of, AreSections, IsReportOf}
 
 module _ (source : Source) (c : Clean source) (none : measures_breaches (names_of source) 0 (measures source) ≡ []) (is : IsProgram (core source)) where
   -- the heading of procedure f
@@ -110,14 +113,27 @@ module _ (source : Source) (c : Clean source) (none : measures_breaches (names_o
             h.7 ∙ (ap (λ x. x ++ flat_map row_text h.1 ++ h.2) (sym (heading_same f h.0 there)) ∙ ap (λ x. heading (core source) f ++ flat_map row_text h.1 ++ x) r.2),
           )
 
+  -- the numbers of a right table are those of the source
+  numbers_same : (t : series.Table) → ((n : ℕ) → IsRight (core source) n t) → AreNumbersOf source t
+  numbers_same t right = record {
+    counts = λ i d e n.
+        let there = def_get (names_of source) (definitions source) 0 (definitions source) i d e in
+        let k = (right n).counts i (def_at (names_of source) (definitions source) (0 + first_node (definitions source) i) d) there n (omega arith) in
+        (k.0, counts_same _ _ k.0 (λ s. let m = definition_kept source c i _ d.name there refl s in (λ h. (m.0 h.0, h.1, h.2), λ h. (m.1 h.0, h.1, h.2))) k.1, k.2);
+    totals = λ f d e n.
+        let g = proc_get (setting_of source) 0 source.procs f d e in
+        let k = (right n).totals f (proc_core (setting_of source) g.0 d) g.1 n (omega arith) in
+        (k.0, total_kept source c none is f d e (proc_core (setting_of source) g.0 d) g.1 n k.0 k.1, k.2);
+  }
+
   pub report_kept : (last : ℕ) (bytes : List ℕ) → IsReport (core source) last bytes ↔ IsReportOf source last bytes
   report_kept last bytes = (
     λ h.
         let (tables, right, e) = h.1 in
         let text = flat_map (section (core source)) tables in
-        (h.0, (text, (sections_same last source.analyses c.analyses text).0 (tables, right, refl), e)),
+        ((h.0.0, numbers_same h.0.0 h.0.1.right, h.0.1), (text, (sections_same last source.analyses c.analyses text).0 (tables, right, refl), e)),
     λ h.
         let (sections, right, e) = h.1 in
         let r = (sections_same last source.analyses c.analyses sections).1 right in
-        (h.0, (r.0, r.1, e ∙ ap (λ x. universe_text source.universe ++ equation_lines source ++ x) r.2)),
+        ((h.0.0, h.0.2), (r.0, r.1, e ∙ ap (λ x. universe_text source.universe ++ equation_lines source ++ x) r.2)),
   )
