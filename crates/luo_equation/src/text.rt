@@ -1,5 +1,5 @@
 // The texts of equations.
-ghost use Rattle.std.specs.Prelude.{◌≡◌, ◌++◌, codes, decimal, IfOk, OnOk};
+ghost use Rattle.std.specs.Prelude.{◌≡◌, ◌++◌, codes, IfOk, OnOk};
 ghost use Rattle.std.specs.List.{join_by};
 ghost use Rattle.luo_model.specs.View.{plain_of};
 ghost use Rattle.luo_equation.specs.View.{expr_of, equation_of};
@@ -8,9 +8,9 @@ ghost use Rattle.luo_equation.specs.Text.{kind_word, power_text, free_low, least
 ghost use Rattle.luo_equation.specs.Text.{opening, closing, coll_text, marked_text, expr_text, factor_text};
 
 use crate::{Equation, Expr, Left};
-use itoa::Buffer;
 use luo_model::{Kind, Program};
 use luo_num::NoMemory;
+use luo_num::text::put_number;
 use std::alloc::Global;
 
 // Which collections: their kind, and the bounds of the number of their components.
@@ -19,15 +19,6 @@ struct Frame {
     kind: Kind,
     low: u32,
     high: Option<u32>,
-}
-
-// Puts a number behind the text.
-fn put_number(text: &mut Vec<u8>, number: u128) -> Result<(), NoMemory>
-    ensures { OnOk result (text.new.items ≡ text.old.items ++ decimal number) }
-{
-    let mut buffer = Buffer::new();
-    text.extend_from_slice(buffer.format(number).as_bytes())?;
-    Ok(())
 }
 
 // Puts the name of a definition behind the text.

@@ -9,6 +9,7 @@ pub mod limits;
 mod marks;
 mod memory;
 mod shared;
+pub mod text;
 
 pub use divisors::gcd;
 pub use marks::{Over, marked_add, marked_mul};

@@ -1,8 +1,7 @@
 // Names, numbers and new lines.
-ghost use Rattle.std.specs.Prelude.{◌≡◌, ◌+◌, ◌++◌, codes, decimal, IfOk, OnOk};
+ghost use Rattle.std.specs.Prelude.{◌≡◌, ◌+◌, ◌++◌, codes, IfOk, OnOk};
 ghost use Rattle.luo_print.specs.Layout.{spaces, new_line, name_list};
 
-use itoa::Buffer;
 use luo_num::NoMemory;
 use luo_source::Name;
 
@@ -14,15 +13,6 @@ pub(crate) fn deeper(indent: usize) -> Result<usize, NoMemory>
         Some(inner) => Ok(inner),
         None => Err(NoMemory),
     }
-}
-
-// Puts a number behind the text.
-pub(crate) fn put_number(text: &mut Vec<u8>, number: u128) -> Result<(), NoMemory>
-    ensures { OnOk result (text.new.items ≡ text.old.items ++ decimal number) }
-{
-    let mut buffer = Buffer::new();
-    text.extend_from_slice(buffer.format(number).as_bytes())?;
-    Ok(())
 }
 
 // Puts spaces behind the text.

@@ -4,9 +4,10 @@ ghost use Rattle.luo_source.specs.View.{expr_of, expr_list, type_def_of};
 ghost use Rattle.luo_print.specs.Layout.{joined};
 ghost use Rattle.luo_print.specs.CanonicalTypes.{kind_text, range_text, bound_text, expr_text, expr_texts, type_def_line, measure_line};
 
-use crate::pieces::{put_names, put_number};
+use crate::pieces::put_names;
 use luo_model::Kind;
 use luo_num::NoMemory;
+use luo_num::text::put_number;
 use luo_source::{Bound, MeasureDef, Range, TypeDef, TypeExpr};
 
 fn word_of(kind: Kind) -> &'static [u8]

@@ -6,8 +6,9 @@ ghost use Rattle.luo_print.specs.CanonicalStatements.{pattern_text, case_of};
 ghost use Rattle.luo_print.specs.CanonicalValues.{charge_text, opening, closing, value_text, value_texts, value_arm_texts};
 
 use crate::patterns::{put_arm_head, put_call, put_case_head, put_name};
-use crate::pieces::{deeper, put_end, put_new_line, put_number};
+use crate::pieces::{deeper, put_end, put_new_line};
 use luo_num::NoMemory;
+use luo_num::text::put_number;
 use luo_source::{Name, SourceValue, SourceValueArm};
 
 // Puts an atom and its charge behind the text.

@@ -1,5 +1,5 @@
 // The text of a report.
-ghost use Rattle.std.specs.Prelude.{◌≡◌, ℕ, List, ◌++◌, ◌<◌, length, decimal, IfOk, OnOk, flat_map, map};
+ghost use Rattle.std.specs.Prelude.{◌≡◌, ℕ, List, ◌++◌, ◌<◌, length, IfOk, OnOk, flat_map, map};
 ghost use Rattle.luo_finite.specs.Listing.{In};
 ghost use Rattle.luo_model.specs.View.{plain_of};
 ghost use Rattle.luo_equation.specs.View.{equation_of};
@@ -7,21 +7,12 @@ ghost use Rattle.luo_report.specs.Average.{fraction_text, average_text};
 ghost use Rattle.luo_report.specs.Report.{row_text, equation_line, name_of, heading, section, universe_text, report_text};
 
 use crate::Table;
-use itoa::Buffer;
 use luo_equation::{Equation, write_equation};
 use luo_fraction::{Average, average};
 use luo_model::{Program, Row, Universe};
 use luo_num::NoMemory;
+use luo_num::text::put_number;
 use std::alloc::Global;
-
-// Puts a number behind the text.
-fn put_number(text: &mut Vec<u8>, number: u128) -> Result<(), NoMemory>
-    ensures { OnOk result (text.new.items ≡ text.old.items ++ decimal number) }
-{
-    let mut buffer = Buffer::new();
-    text.extend_from_slice(buffer.format(number).as_bytes())?;
-    Ok(())
-}
 
 // Puts a fraction behind the text.
 fn put_fraction(text: &mut Vec<u8>, average: Average) -> Result<(), NoMemory>

@@ -1,22 +1,13 @@
 // The texts of structures.
-ghost use Rattle.std.specs.Prelude.{◌≡◌, ◌++◌, codes, decimal, IfOk, OnOk};
+ghost use Rattle.std.specs.Prelude.{◌≡◌, ◌++◌, codes, IfOk, OnOk};
 ghost use Rattle.luo_model.specs.Tree.{Atom};
 ghost use Rattle.luo_struct.specs.Text.{structure_text, joined};
 ghost use Rattle.luo_struct.specs.View.{tree_of, tree_list};
 
 use crate::Structure;
-use itoa::Buffer;
 use luo_num::NoMemory;
+use luo_num::text::put_number;
 use std::alloc::Global;
-
-// Puts a number behind the text.
-fn put_number(text: &mut Vec<u8>, number: u32) -> Result<(), NoMemory>
-    ensures { OnOk result (text.new.items ≡ text.old.items ++ decimal number) }
-{
-    let mut buffer = Buffer::new();
-    text.extend_from_slice(buffer.format(number).as_bytes())?;
-    Ok(())
-}
 
 // Puts an atom behind the text.
 fn put_atom(text: &mut Vec<u8>, weight: u32, label: u32) -> Result<(), NoMemory>
@@ -24,10 +15,10 @@ fn put_atom(text: &mut Vec<u8>, weight: u32, label: u32) -> Result<(), NoMemory>
 {
     if label == 0 {
         text.push(b'a')?;
-        put_number(text, weight)?;
+        put_number(text, weight as u128)?;
     } else {
         text.push(b'#')?;
-        put_number(text, label)?;
+        put_number(text, label as u128)?;
     }
     Ok(())
 }
@@ -56,7 +47,7 @@ fn put_structure(text: &mut Vec<u8>, s: &Structure) -> Result<(), NoMemory>
     match s {
         Structure::Atom { weight, label } => put_atom(text, *weight, *label)?,
         Structure::Inj { branch, inner } => {
-            put_number(text, *branch)?;
+            put_number(text, *branch as u128)?;
             text.push(b':')?;
             put_structure(text, inner.get())?;
         }
