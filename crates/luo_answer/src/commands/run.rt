@@ -18,18 +18,12 @@ use luo_struct::{Structure, write_structure};
 use std::alloc::Global;
 
 // What a procedure charges on a structure.
-fn charge_of(
-    program: &Program,
-    ranks: &Ranks<'_>,
-    procedure: usize,
-    s: &Structure,
-) -> Result<u128, Refusal>
-    requires ranks { ranks.now ≡ program.now }
-    requires takes { Takes (plain_of program.now) procedure (tree_of s.now) }
-    ensures { Passes itself (steps.charge_of (plain_of program.now) procedure
+fn charge_of(ranks: &Ranks<'_>, procedure: usize, s: &Structure) -> Result<u128, Refusal>
+    requires takes { Takes (plain_of ranks.now) procedure (tree_of s.now) }
+    ensures { Passes itself (steps.charge_of (plain_of ranks.now) procedure
         (tree_of s.now)) result }
 {
-    match charge(program, ranks, procedure, s) {
+    match charge(ranks.program(), ranks, procedure, s) {
         Ok(charge) => Ok(charge),
         Err(_) => Err(Refusal::Overflow(Line::Fixed(b"overflow: charge\n"))),
     }
@@ -49,16 +43,15 @@ fn has_result(program: &Program, procedure: usize) -> bool
 fn put_made(
     alloc: Global,
     text: &mut Vec<u8>,
-    program: &Program,
     ranks: &Ranks<'_>,
     procedure: usize,
     s: &Structure,
 ) -> Result<(), NoMemory>
-    requires ranks { ranks.now ≡ program.now }
-    requires takes { Takes (plain_of program.now) procedure (tree_of s.now) }
-    ensures { OnOk result (AddsTail (plain_of program.now) procedure (tree_of s.now)
+    requires takes { Takes (plain_of ranks.now) procedure (tree_of s.now) }
+    ensures { OnOk result (AddsTail (plain_of ranks.now) procedure (tree_of s.now)
         text.old.items text.new.items) }
 {
+    let program = ranks.program();
     if !has_result(program, procedure) {
         return Ok(());
     }
@@ -72,60 +65,54 @@ fn put_made(
 // The charge in a line, and what is made of the structure in a second one.
 fn run_bytes(
     alloc: Global,
-    program: &Program,
     ranks: &Ranks<'_>,
     procedure: usize,
     s: &Structure,
     charge: u128,
 ) -> Result<Vec<u8>, NoMemory>
-    requires ranks { ranks.now ≡ program.now }
-    requires takes { Takes (plain_of program.now) procedure (tree_of s.now) }
-    ensures { IfOk result (λ text. steps.IsRunText (plain_of program.now) procedure
+    requires takes { Takes (plain_of ranks.now) procedure (tree_of s.now) }
+    ensures { IfOk result (λ text. steps.IsRunText (plain_of ranks.now) procedure
         (tree_of s.now) charge text.items) }
 {
     let mut buffer = Buffer::new();
     let mut text = Vec::from_slice(alloc, buffer.format(charge).as_bytes())?;
     text.push(b'\n')?;
-    put_made(alloc, &mut text, program, ranks, procedure, s)?;
+    put_made(alloc, &mut text, ranks, procedure, s)?;
     Ok(text)
 }
 
 // The text of a run.
 fn run_text(
     alloc: Global,
-    program: &Program,
     ranks: &Ranks<'_>,
     procedure: usize,
     s: &Structure,
     charge: u128,
 ) -> Result<Text, Refusal>
-    requires ranks { ranks.now ≡ program.now }
-    requires takes { Takes (plain_of program.now) procedure (tree_of s.now) }
-    ensures { Passes itself (steps.run_text (plain_of program.now) procedure
+    requires takes { Takes (plain_of ranks.now) procedure (tree_of s.now) }
+    ensures { Passes itself (steps.run_text (plain_of ranks.now) procedure
         (tree_of s.now) charge) result }
 {
-    let text = run_bytes(alloc, program, ranks, procedure, s, charge)?;
+    let text = run_bytes(alloc, ranks, procedure, s, charge)?;
     Ok(Items::from_vec(text))
 }
 
 // The run of a procedure that is there, on the structure of this text.
 fn run_on(
     alloc: Global,
-    program: &Program,
     ranks: &Ranks<'_>,
     procedure: usize,
     structure: &str,
 ) -> Result<Text, Refusal>
-    requires ranks { ranks.now ≡ program.now }
-    requires there { IsThere (plain_of program.now) procedure }
-    requires within { steps.parameter_node (plain_of program.now) procedure
-        < length program.now.nodes }
+    requires there { IsThere (plain_of ranks.now) procedure }
+    requires within { steps.parameter_node (plain_of ranks.now) procedure
+        < length ranks.now.nodes }
     ensures { Passes itself
-        (steps.run_on (plain_of program.now) structure.now procedure) result }
+        (steps.run_on (plain_of ranks.now) structure.now procedure) result }
 {
-    let s = structure_of(alloc, program, procedure, structure)?;
-    let charge = charge_of(program, ranks, procedure, &s)?;
-    run_text(alloc, program, ranks, procedure, &s, charge)
+    let s = structure_of(alloc, ranks.program(), procedure, structure)?;
+    let charge = charge_of(ranks, procedure, &s)?;
+    run_text(alloc, ranks, procedure, &s, charge)
 }
 
 /// What the procedure of this name charges on the structure of this text, and what it makes of it.
@@ -143,5 +130,5 @@ pub fn run_named(
 {
     let ranks = founded(alloc, program)?;
     let place = procedure_of(alloc, program, procedure)?;
-    run_on(alloc, program, &ranks, place, structure)
+    run_on(alloc, &ranks, place, structure)
 }
