@@ -68,8 +68,7 @@ pub fn descriptors(alloc: Global, program: &Program) -> Result<Vec<Equation>, No
         IsFounded (plain_of program.now)
         → (t : Table) × IsTableOf (plain_of program.now) (map equation_of es.items) t) }
 {
-    // A field that is read gives what holds of every program.
-    let _universe = program.universe;
+    program.known();
     let mut equations = Vec::new(alloc);
     put_definitions(alloc, program, &mut equations)?;
     put_procedures(alloc, program, &mut equations)?;

@@ -2,6 +2,7 @@
 ghost use Rattle.std.specs.Prelude.{◌≡◌, ◌<◌, length};
 ghost use Rattle.luo_num.specs.declared.limits.TheConstants.{SIZE_LIMIT};
 ghost use Rattle.luo_model.specs.View.{plain_of};
+ghost use Rattle.luo_model.specs.Invariant.{IsProgram};
 ghost use Rattle.luo_model.specs.Founded.{IsFounded};
 ghost use Rattle.luo_model.specs.Levels.{IsRank, IsLevel, IsLeastSizeUpTo};
 
@@ -36,12 +37,15 @@ impl<'a> Model for Ranks<'a> {
 }
 
 impl<'a> Ranks<'a> {
-    /// The program, which is well-founded.
+    /// The program, which is well-founded. So ranks alone tell of a well-founded program.
     pub fn program(&self) -> &'a Program
         ensures same { result.now ≡ self.now }
+        ensures proper { IsProgram (plain_of self.now) }
         ensures founded { IsFounded (plain_of self.now) }
     {
-        self.program
+        let program = self.program;
+        program.known();
+        program
     }
 
     /// The rank of a node: the number of same-size steps of the longest chain of them from it. A

@@ -1,1 +1,2 @@
+pub mod Finder
 pub mod Kept

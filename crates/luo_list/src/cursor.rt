@@ -6,6 +6,7 @@ ghost use Rattle.luo_model.specs.Structures.{IsStructure};
 ghost use Rattle.luo_model.specs.View.{plain_of};
 ghost use Rattle.luo_struct.specs.View.{tree_of};
 ghost use Rattle.luo_list.specs.Span.{Answers, HasPassed};
+ghost use Rattle.luo_list.specs.inner.Finder.{ranked_of};
 ghost use Rattle.luo_list.specs.inner.Kept.{IsKept};
 
 use luo_num::NoMemory;
@@ -15,11 +16,30 @@ use luo_struct::Structure;
 use std::alloc::Global;
 use std::marker::Model;
 
+// A ranker that a cursor owns, or one that it is lent.
+#[derive(Drop)]
+pub enum Finder<'p> {
+    Owned(Ranker<'p>),
+    Lent(&'p Ranker<'p>),
+}
+
+impl<'p> Finder<'p> {
+    // The ranker.
+    fn ranker(&self) -> &Ranker<'p>
+        ensures { result.now ≡ ranked_of self.now }
+    {
+        match self {
+            Finder::Owned(ranker) => ranker,
+            Finder::Lent(ranker) => ranker,
+        }
+    }
+}
+
 /// What is left of a walk over the structures of a node and a size, in their order. Contracts see the
 /// program, the node, the size, the next place and the end.
 #[derive(Drop)]
 pub struct Cursor<'p> {
-    ranker: Ranker<'p>,
+    finder: Finder<'p>,
     place: u128,
     end: u128,
     // The structure before the next place, where it was given back.
@@ -29,6 +49,7 @@ pub struct Cursor<'p> {
 impl<'p> Model for Cursor<'p> {
     ghost use Rattle.std.specs.Prelude.{◌≤◌};
     ghost use Rattle.luo_list.specs.Span.{Span};
+    ghost use Rattle.luo_list.specs.inner.Finder.{ranked_of};
     ghost use Rattle.luo_list.specs.inner.Kept.{IsKept};
     ghost use Rattle.luo_model.specs.contracts.body.Item as done;
     ghost use Rattle.luo_model.specs.contracts.value.Value as made;
@@ -39,15 +60,16 @@ impl<'p> Model for Cursor<'p> {
     ghost coded = { Prim.hlevel (codes, done.the_row.coded, made.the_row.coded) };
 
     ghost view = { λ c. record {
-      program = c.ranker.program;
-      node = c.ranker.node;
-      size = c.ranker.size;
+      program = (ranked_of c.finder).program;
+      node = (ranked_of c.finder).node;
+      size = (ranked_of c.finder).size;
       place = c.place;
       end = c.end;
     } };
 
-    ghost invariant = { λ c. (c.place ≤ c.end) × (c.end ≤ c.ranker.count)
-        × IsKept c.ranker.program c.ranker.node c.ranker.size c.place c.before };
+    ghost invariant = { λ c. (c.place ≤ c.end) × (c.end ≤ (ranked_of c.finder).count)
+        × IsKept (ranked_of c.finder).program (ranked_of c.finder).node (ranked_of c.finder).size
+        c.place c.before };
 }
 
 // The structure at a place, made of the one before it where that is there.
@@ -69,6 +91,26 @@ fn structure_here(
 }
 
 impl<'p> Cursor<'p> {
+    // A walk among the structures of this ranker.
+    fn over(finder: Finder<'p>, start: u128, end: u128) -> Cursor<'p>
+        requires order { start ≤ end }
+        requires there { end ≤ (ranked_of finder).count }
+        ensures { result ≡ record {
+          program = (ranked_of finder.entry).program;
+          node = (ranked_of finder.entry).node;
+          size = (ranked_of finder.entry).size;
+          place = start;
+          end = end;
+        } }
+    {
+        Cursor {
+            finder,
+            place: start,
+            end,
+            before: None,
+        }
+    }
+
     /// A walk from the place `start` to before the place `end`, among the structures that the ranker
     /// finds; places count from 0. It takes no memory.
     pub fn new(ranker: Ranker<'p>, start: u128, end: u128) -> Cursor<'p>
@@ -82,12 +124,22 @@ impl<'p> Cursor<'p> {
           end = end;
         } }
     {
-        Cursor {
-            ranker,
-            place: start,
-            end,
-            before: None,
-        }
+        Cursor::over(Finder::Owned(ranker), start, end)
+    }
+
+    /// The same walk with a ranker that is lent, so that several walks share it.
+    pub fn lent(ranker: &'p Ranker<'p>, start: u128, end: u128) -> Cursor<'p>
+        requires order { start ≤ end }
+        requires there { end ≤ ranker.now.count }
+        ensures { result ≡ record {
+          program = ranker.now.program;
+          node = ranker.now.node;
+          size = ranker.now.size;
+          place = start;
+          end = end;
+        } }
+    {
+        Cursor::over(Finder::Lent(ranker), start, end)
     }
 
     /// The structure at the next place. `None` comes exactly where the end is reached.
@@ -106,7 +158,7 @@ impl<'p> Cursor<'p> {
             return Ok(None);
         }
         let before = self.before.take();
-        let structure = structure_here(alloc, &self.ranker, self.place, before)?;
+        let structure = structure_here(alloc, self.finder.ranker(), self.place, before)?;
         self.place += 1;
         Ok(Some(structure))
     }

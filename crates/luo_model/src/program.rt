@@ -1,4 +1,7 @@
 // The checked program.
+ghost use Rattle.luo_model.specs.View.{plain_of};
+ghost use Rattle.luo_model.specs.Invariant.{IsProgram};
+
 use crate::{Body, Made};
 use luo_num::{Items, Text};
 use std::marker::Model;
@@ -125,4 +128,13 @@ impl Model for Program {
           sites = p.sites;
           analyses = p.analyses;
         })) };
+}
+
+impl Program {
+    /// What holds of every program. It is called for this clause alone.
+    pub fn known(&self)
+        ensures { IsProgram (plain_of self.now) }
+    {
+        let _universe = self.universe;
+    }
 }
