@@ -16,7 +16,7 @@ pub(crate) fn deeper(indent: usize) -> Result<usize, NoMemory>
     }
 }
 
-// Puts a number behind the text.
+// Appends a number to the text.
 pub(crate) fn put_number(text: &mut Vec<u8>, number: u128) -> Result<(), NoMemory>
     ensures { OnOk result (text.new.items ≡ text.old.items ++ decimal number) }
 {
@@ -25,7 +25,7 @@ pub(crate) fn put_number(text: &mut Vec<u8>, number: u128) -> Result<(), NoMemor
     Ok(())
 }
 
-// Puts spaces behind the text.
+// Appends spaces to the text.
 fn put_spaces(text: &mut Vec<u8>, count: usize) -> Result<(), NoMemory>
     ensures { OnOk result (text.new.items ≡ text.old.items ++ spaces count) }
 {
@@ -35,7 +35,7 @@ fn put_spaces(text: &mut Vec<u8>, count: usize) -> Result<(), NoMemory>
     Ok(())
 }
 
-// Puts a line feed and an indentation behind the text.
+// Appends a line feed and an indentation to the text.
 pub(crate) fn put_new_line(text: &mut Vec<u8>, indent: usize) -> Result<(), NoMemory>
     ensures { OnOk result (text.new.items ≡ text.old.items ++ new_line indent) }
 {
@@ -44,7 +44,7 @@ pub(crate) fn put_new_line(text: &mut Vec<u8>, indent: usize) -> Result<(), NoMe
     Ok(())
 }
 
-// Puts the `end` of a block or a case behind the text, on a new line of this indentation.
+// Appends the `end` of a block or a case to the text, on a new line of this indentation.
 pub(crate) fn put_end(text: &mut Vec<u8>, indent: usize) -> Result<(), NoMemory>
     ensures { OnOk result (text.new.items ≡ text.old.items ++ new_line indent ++ codes "end") }
 {
@@ -53,7 +53,7 @@ pub(crate) fn put_end(text: &mut Vec<u8>, indent: usize) -> Result<(), NoMemory>
     Ok(())
 }
 
-// Puts names behind the text.
+// Appends names to the text.
 pub(crate) fn put_names(text: &mut Vec<u8>, names: &[Name]) -> Result<(), NoMemory>
     ensures { OnOk result (text.new.items ≡ text.old.items ++ name_list names.now) }
 {
