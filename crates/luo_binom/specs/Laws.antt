@@ -5,7 +5,7 @@ use Rattle.luo_finite.specs.Listing.{Pairwise, Counts}
 use Rattle.luo_finite.specs.Binomial.{choose}
 use Rattle.luo_finite.specs.Places.{IsPlace, IsChoice, Lexical}
 
--- each number is below those behind it
+-- each number is below those after it
 abbrev pub Rises : List ℕ → Type 0
 Rises labels = Pairwise (λ x y. x < y) labels
 

@@ -68,7 +68,7 @@ impl Pascal {
     }
 }
 
-// Row n behind those before it.
+// Row n after those before it.
 fn push_row(cells: &mut Vec<u128>, n: usize) -> Result<(), NoMemory>
     requires cells { AreCells cells.old.items }
     requires long { length cells.old.items ≡ WIDE * n }
@@ -82,7 +82,7 @@ fn push_row(cells: &mut Vec<u128>, n: usize) -> Result<(), NoMemory>
     Ok(())
 }
 
-// The cell behind those before it: the sum of the two above it, the one above and the one on its left.
+// The cell after those before it: the sum of the two above it, the one above and the one on its left.
 fn next_cell(cells: &[u128], n: usize, k: usize) -> u128
     requires cells { AreCells cells.now }
     requires at { length cells.now ≡ WIDE * n + k }

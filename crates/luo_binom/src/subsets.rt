@@ -38,7 +38,7 @@ impl Pascal {
     }
 }
 
-// Writes the choice at place `rank` behind the first `at` of `out`: those with the least label come first.
+// Writes the choice at place `rank` after the first `at` of `out`: those with the least label come first.
 fn subset_from(pascal: &Pascal, labels: &[u32], rank: u128, at: usize, out: &mut [u32])
     requires labels { Rises labels.now }
     requires few { length labels.now ≤ FEW }

@@ -107,7 +107,7 @@ pub(crate) fn part_of(alloc: Global, program: &Program, part: &Part) -> Result<E
     inside(alloc, program, program.nodes.as_slice().len(), part)
 }
 
-/// Puts parts behind the factors of a product.
+/// Puts parts after the factors of a product.
 pub(crate) fn add_parts(
     alloc: Global,
     program: &Program,
@@ -123,7 +123,7 @@ pub(crate) fn add_parts(
     Ok(())
 }
 
-/// Puts all parts but one behind the factors of a product.
+/// Puts all parts but one after the factors of a product.
 pub(crate) fn add_others(
     alloc: Global,
     program: &Program,

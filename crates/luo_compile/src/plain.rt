@@ -9,7 +9,7 @@ use luo_model::Kind;
 use luo_num::{Boxed, Items, NoMemory};
 use std::alloc::Global;
 
-// Puts one expression behind a list.
+// Puts one expression after a list.
 fn push(list: &mut Items<Expr>, e: Expr) -> Result<(), NoMemory>
     ensures { OnOk result
         (expr_list list.new ≡ join_exprs (expr_list list.old) (expr (expr_of e) no_exprs)) }
@@ -18,7 +18,7 @@ fn push(list: &mut Items<Expr>, e: Expr) -> Result<(), NoMemory>
     Ok(())
 }
 
-// Puts the expressions of another list behind a list.
+// Puts the expressions of another list after a list.
 fn append(list: &mut Items<Expr>, more: Items<Expr>) -> Result<(), NoMemory>
     ensures { OnOk result
         (expr_list list.new ≡ join_exprs (expr_list list.old) (expr_list more)) }
@@ -27,7 +27,7 @@ fn append(list: &mut Items<Expr>, more: Items<Expr>) -> Result<(), NoMemory>
     Ok(())
 }
 
-// Puts a term behind those of a sum: a sum is opened, and 0 is left out.
+// Puts a term after those of a sum: a sum is opened, and 0 is left out.
 pub(crate) fn add_term(terms: &mut Items<Expr>, e: Expr) -> Result<(), NoMemory>
     ensures { OnOk result
         (expr_list terms.new ≡ join_exprs (expr_list terms.old) (terms_of (expr_of e))) }
@@ -77,7 +77,7 @@ pub(crate) fn add_term(terms: &mut Items<Expr>, e: Expr) -> Result<(), NoMemory>
     Ok(())
 }
 
-// Puts a factor behind those of a product: a product is opened, and 1 is left out.
+// Puts a factor after those of a product: a product is opened, and 1 is left out.
 pub(crate) fn add_factor(factors: &mut Items<Expr>, e: Expr) -> Result<(), NoMemory>
     ensures { OnOk result
         (expr_list factors.new ≡ join_exprs (expr_list factors.old) (factors_of (expr_of e))) }

@@ -14,7 +14,7 @@ use luo_model::Program;
 use luo_num::NoMemory;
 use std::alloc::Global;
 
-// Puts the equations of the definitions behind these.
+// Puts the equations of the definitions after these.
 fn put_definitions(
     alloc: Global,
     program: &Program,
@@ -33,7 +33,7 @@ fn put_definitions(
     Ok(())
 }
 
-// Puts the equations of the procedures behind these.
+// Puts the equations of the procedures after these.
 fn put_procedures(
     alloc: Global,
     program: &Program,

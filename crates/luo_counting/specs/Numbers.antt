@@ -31,7 +31,7 @@ set_totals a b (suc k) (suc n) =
     shares Labelled (λ i. b (suc i)) (sets a k) n
     + shares Labelled (λ i. a (suc i)) (set_totals a b k) n
 
--- cycles of k items: the same, with a row behind the first
+-- cycles of k items: the same, with a row after the first
 abbrev pub cycles : (ℕ → ℕ) → ℕ → ℕ → ℕ
 cycles a zero n = 0
 cycles a (suc k) zero = 0

@@ -19,7 +19,7 @@ pub fn sets_are_binomial()
     ensures { SetsAreBinomial }
 {}
 
-/// Labelled cycles, which begin with the item of the least label: as sets, with a row behind the first.
+/// Labelled cycles, which begin with the item of the least label: as sets, with a row after the first.
 pub fn cycles_are_binomial()
     ensures { CyclesAreBinomial }
 {}

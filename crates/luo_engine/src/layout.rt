@@ -31,7 +31,7 @@ pub struct Layout {
     pub factors: Items<Option<usize>>,
 }
 
-// The rows of a product behind those that stand: its factors, and the end.
+// The rows of a product after those that stand: its factors, and the end.
 fn push_rows(factors: &mut Items<Option<usize>>, parts: &[Part]) -> Result<(), NoMemory>
     ensures { OnOk result (factors.new ≡ factors.old ++ rows_of_parts parts.now) }
 {

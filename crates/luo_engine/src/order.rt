@@ -34,7 +34,7 @@ pub fn order_of(alloc: Global, ranks: &[u32]) -> Result<Items<usize>, NoMemory>
     Ok(order)
 }
 
-// The sites of rank r and level l go behind those listed.
+// The sites of rank r and level l go after those listed.
 fn list_sites(
     ranks: &[u32],
     levels: &[u32],

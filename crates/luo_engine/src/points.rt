@@ -14,7 +14,7 @@ use luo_binom::Pascal;
 use luo_model::Universe;
 use luo_num::{Items, marked_add};
 
-// A factor of a product that a case goes into: its node, the row of the factors behind it, and the sites on it.
+// A factor of a product that a case goes into: its node, the row of the factors after it, and the sites on it.
 #[derive(Drop)]
 pub struct Link {
     pub node: usize,

@@ -124,7 +124,7 @@ fn push_factors(
     Ok(())
 }
 
-// The scope of a body on structures of node y, where so much of them is bound; its rows go behind the others.
+// The scope of a body on structures of node y, where so much of them is bound; its rows go after the others.
 fn push_scope(
     alloc: Global,
     program: &Program,

@@ -22,7 +22,7 @@ pub struct Laid {
     pub links: Items<Option<Link>>,
 }
 
-// A site that is made of scopes comes behind the others.
+// A site that is made of scopes comes after the others.
 fn lay_scopes(laid: &mut Laid, scopes: Items<Scope>) -> Result<(), NoMemory>
     ensures tasks { OnOk result (laid.new.tasks ≡ laid.old.tasks ++ Scopes scopes ∷ []) }
     ensures links { OnOk result (laid.new.links ≡ laid.old.links) }
@@ -31,7 +31,7 @@ fn lay_scopes(laid: &mut Laid, scopes: Items<Scope>) -> Result<(), NoMemory>
     Ok(())
 }
 
-// The site of a procedure's whole, or of a walk's body, comes behind the others.
+// The site of a procedure's whole, or of a walk's body, comes after the others.
 fn lay_body(
     alloc: Global,
     program: &Program,
@@ -57,7 +57,7 @@ fn lay_body(
     lay_scopes(laid, scopes)
 }
 
-// The site of a case comes behind the others.
+// The site of a case comes after the others.
 fn lay_case(
     alloc: Global,
     program: &Program,
@@ -87,7 +87,7 @@ fn whole_of(alloc: Global, program: &Program, callee: usize) -> Result<Items<usi
     Ok(sites)
 }
 
-// The site of a call comes behind the others.
+// The site of a call comes after the others.
 fn lay_call(
     alloc: Global,
     program: &Program,
@@ -114,7 +114,7 @@ fn lay_call(
     lay_scopes(laid, scopes)
 }
 
-// The site of a walk comes behind the others.
+// The site of a walk comes after the others.
 fn lay_walk(
     program: &Program,
     laid: &mut Laid,
@@ -134,7 +134,7 @@ fn lay_walk(
     Ok(())
 }
 
-// The sites of these arms come behind the others.
+// The sites of these arms come after the others.
 #[cycle(laying)]
 fn lay_arms(
     alloc: Global,
@@ -153,7 +153,7 @@ fn lay_arms(
     Ok(())
 }
 
-// The sites of this item come behind the others, its own last.
+// The sites of this item come after the others, its own last.
 #[cycle(laying)]
 fn lay_item(
     alloc: Global,
@@ -191,7 +191,7 @@ fn lay_item(
     }
 }
 
-// The sites of these items come behind the others.
+// The sites of these items come after the others.
 #[cycle(laying)]
 fn lay_items(
     alloc: Global,

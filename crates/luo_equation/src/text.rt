@@ -21,7 +21,7 @@ struct Frame {
     high: Option<u32>,
 }
 
-// Puts the name of a definition behind the text.
+// Appends the name of a definition to the text.
 fn put_definition(text: &mut Vec<u8>, program: &Program, i: usize) -> Result<(), NoMemory>
     ensures { OnOk result
         (text.new.items ≡ text.old.items ++ definition_name (plain_of program.now) i) }
@@ -32,7 +32,7 @@ fn put_definition(text: &mut Vec<u8>, program: &Program, i: usize) -> Result<(),
     Ok(())
 }
 
-// Puts the name of a procedure behind the text.
+// Appends the name of a procedure to the text.
 fn put_procedure(text: &mut Vec<u8>, program: &Program, f: usize) -> Result<(), NoMemory>
     ensures { OnOk result
         (text.new.items ≡ text.old.items ++ procedure_name (plain_of program.now) f) }
@@ -43,7 +43,7 @@ fn put_procedure(text: &mut Vec<u8>, program: &Program, f: usize) -> Result<(), 
     Ok(())
 }
 
-// Puts the series of a definition behind the text.
+// Appends the series of a definition to the text.
 fn put_series(text: &mut Vec<u8>, program: &Program, i: usize) -> Result<(), NoMemory>
     ensures { OnOk result
         (text.new.items ≡ text.old.items ++ series_text (plain_of program.now) i) }
@@ -53,7 +53,7 @@ fn put_series(text: &mut Vec<u8>, program: &Program, i: usize) -> Result<(), NoM
     Ok(())
 }
 
-// Puts the descriptor of a procedure behind the text.
+// Appends the descriptor of a procedure to the text.
 fn put_tau(text: &mut Vec<u8>, program: &Program, f: usize) -> Result<(), NoMemory>
     ensures { OnOk result
         (text.new.items ≡ text.old.items ++ tau_text (plain_of program.now) f) }
@@ -64,7 +64,7 @@ fn put_tau(text: &mut Vec<u8>, program: &Program, f: usize) -> Result<(), NoMemo
     Ok(())
 }
 
-// Puts a power of z behind the text.
+// Appends a power of z to the text.
 fn put_power(text: &mut Vec<u8>, weight: u32) -> Result<(), NoMemory>
     ensures { OnOk result (text.new.items ≡ text.old.items ++ power_text weight) }
 {
@@ -102,7 +102,7 @@ fn open_bracket(e: &Expr) -> &'static [u8]
     }
 }
 
-// What stands behind a factor.
+// What comes after a factor.
 fn close_bracket(e: &Expr) -> &'static [u8]
     ensures { result.now ≡ closing (expr_of e.now) }
 {
@@ -112,7 +112,7 @@ fn close_bracket(e: &Expr) -> &'static [u8]
     }
 }
 
-// Puts a least and a greatest number of components behind the text.
+// Appends a least and a greatest number of components to the text.
 fn put_between(text: &mut Vec<u8>, low: u32, high: u32) -> Result<(), NoMemory>
     ensures { OnOk result (text.new.items ≡ text.old.items ++ between_text low high) }
 {
@@ -130,7 +130,7 @@ fn put_between(text: &mut Vec<u8>, low: u32, high: u32) -> Result<(), NoMemory>
     }
 }
 
-// Puts a least number of components behind the text, where it isn't that of collections without bounds.
+// Appends a least number of components to the text, where it isn't that of collections without bounds.
 fn put_least(text: &mut Vec<u8>, frame: Frame) -> Result<(), NoMemory>
     ensures { OnOk result
         (text.new.items ≡ text.old.items ++ least_text frame.kind frame.low) }
@@ -143,7 +143,7 @@ fn put_least(text: &mut Vec<u8>, frame: Frame) -> Result<(), NoMemory>
     Ok(())
 }
 
-// Puts the bounds of collections behind the text.
+// Appends the bounds of collections to the text.
 fn put_bounds(text: &mut Vec<u8>, frame: Frame) -> Result<(), NoMemory>
     ensures { OnOk result
         (text.new.items ≡ text.old.items ++ bounds_text frame.kind frame.low frame.high) }
@@ -154,7 +154,7 @@ fn put_bounds(text: &mut Vec<u8>, frame: Frame) -> Result<(), NoMemory>
     }
 }
 
-// Puts an expression behind the text.
+// Appends an expression to the text.
 #[cycle(exprs)]
 fn put_expr(text: &mut Vec<u8>, program: &Program, e: &Expr) -> Result<(), NoMemory>
     ensures { OnOk result
@@ -200,7 +200,7 @@ fn put_expr(text: &mut Vec<u8>, program: &Program, e: &Expr) -> Result<(), NoMem
     Ok(())
 }
 
-// Puts collections behind the text.
+// Appends collections to the text.
 #[cycle(exprs)]
 fn put_collection(
     text: &mut Vec<u8>,
@@ -220,7 +220,7 @@ fn put_collection(
     Ok(())
 }
 
-// Puts the body of a walk behind the text.
+// Appends the body of a walk to the text.
 #[cycle(exprs)]
 fn put_marked(text: &mut Vec<u8>, program: &Program, body: &Expr) -> Result<(), NoMemory>
     ensures { OnOk result (text.new.items ≡ text.old.items
@@ -232,7 +232,7 @@ fn put_marked(text: &mut Vec<u8>, program: &Program, body: &Expr) -> Result<(), 
     Ok(())
 }
 
-// Puts terms behind the text, with plus signs between them.
+// Appends terms to the text, with plus signs between them.
 #[cycle(exprs)]
 fn put_terms(text: &mut Vec<u8>, program: &Program, terms: &[Expr]) -> Result<(), NoMemory>
     ensures { OnOk result (text.new.items ≡ text.old.items
@@ -249,7 +249,7 @@ fn put_terms(text: &mut Vec<u8>, program: &Program, terms: &[Expr]) -> Result<()
     Ok(())
 }
 
-// Puts factors behind the text, with stars between them.
+// Appends factors to the text, with stars between them.
 #[cycle(exprs)]
 fn put_factors(text: &mut Vec<u8>, program: &Program, factors: &[Expr]) -> Result<(), NoMemory>
     ensures { OnOk result (text.new.items ≡ text.old.items
@@ -266,7 +266,7 @@ fn put_factors(text: &mut Vec<u8>, program: &Program, factors: &[Expr]) -> Resul
     Ok(())
 }
 
-// Puts a factor behind the text, a sum in round brackets.
+// Appends a factor to the text, a sum in round brackets.
 #[cycle(exprs)]
 fn put_factor(text: &mut Vec<u8>, program: &Program, e: &Expr) -> Result<(), NoMemory>
     ensures { OnOk result
@@ -278,7 +278,7 @@ fn put_factor(text: &mut Vec<u8>, program: &Program, e: &Expr) -> Result<(), NoM
     Ok(())
 }
 
-// Puts what an equation defines behind the text.
+// Appends what an equation defines to the text.
 fn put_left(text: &mut Vec<u8>, program: &Program, left: Left) -> Result<(), NoMemory>
     ensures { OnOk result
         (text.new.items ≡ text.old.items ++ left_text (plain_of program.now) left) }

@@ -12,7 +12,7 @@ abbrev pub NoDouble : {A : Type 0} → List A → Type 0
 NoDouble [] = Unit {0}
 NoDouble (x ∷ xs) = (In x xs → ⊥) × NoDouble xs
 
--- each element is so related to all behind it
+-- each element is so related to all after it
 abbrev pub Pairwise : {A : Type 0} → (A → A → Type 0) → List A → Type 0
 Pairwise R [] = Unit {0}
 Pairwise {A} R (x ∷ xs) = ((y : A) → In y xs → R x y) × Pairwise R xs

@@ -12,7 +12,7 @@ use luo_model::{Arm, Body, Item, Program};
 use luo_num::{Items, NoMemory};
 use std::alloc::{AllocError, Global};
 
-// Puts the levels of the sites of these arms behind those before them.
+// Puts the levels of the sites of these arms after those before them.
 #[cycle(levels)]
 fn push_arms(arms: &[Arm], wholes: &[u32], levels: &mut Items<u32>) -> Result<(), AllocError>
     requires { AreUpTo 1000000 wholes.now }
@@ -25,7 +25,7 @@ fn push_arms(arms: &[Arm], wholes: &[u32], levels: &mut Items<u32>) -> Result<()
     Ok(())
 }
 
-// Puts the levels of the sites of this body behind those before them, and its own.
+// Puts the levels of the sites of this body after those before them, and its own.
 #[cycle(levels)]
 fn push_body(body: &Body, wholes: &[u32], levels: &mut Items<u32>) -> Result<(), AllocError>
     requires { AreUpTo 1000000 wholes.now }
@@ -37,7 +37,7 @@ fn push_body(body: &Body, wholes: &[u32], levels: &mut Items<u32>) -> Result<(),
     Ok(())
 }
 
-// Puts the levels of the sites of this item behind those before them.
+// Puts the levels of the sites of this item after those before them.
 #[cycle(levels)]
 fn push_item(item: &Item, wholes: &[u32], levels: &mut Items<u32>) -> Result<(), AllocError>
     requires { AreUpTo 1000000 wholes.now }
@@ -62,7 +62,7 @@ fn push_item(item: &Item, wholes: &[u32], levels: &mut Items<u32>) -> Result<(),
     }
 }
 
-// Puts the levels of the sites of these items behind those before them.
+// Puts the levels of the sites of these items after those before them.
 #[cycle(levels)]
 fn push_items(items: &[Item], wholes: &[u32], levels: &mut Items<u32>) -> Result<(), AllocError>
     requires { AreUpTo 1000000 wholes.now }

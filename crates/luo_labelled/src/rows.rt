@@ -10,7 +10,7 @@ use crate::sums::{count_entry, rest_of, total_entry};
 use luo_binom::Pascal;
 use luo_model::Kind;
 
-// Writes the numbers of size m at the steps below the last. The kind is one that stands behind a first component.
+// Writes the numbers of size m at the steps below the last. The kind is one that comes after a first component.
 fn settle_counts(
     steps: Steps,
     pascal: &Pascal,

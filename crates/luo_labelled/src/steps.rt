@@ -1,5 +1,5 @@
 // Collections within bounds, step by step: at step i stand those of at most i components, or of any number where the bounds have
-// no greatest number, and of so many fewer at least than at the last step as there are steps between. Behind the first component
+// no greatest number, and of so many fewer at least than at the last step as there are steps between. After the first component
 // of a collection stands one of the step before.
 ghost use Rattle.std.specs.Prelude.{◌≡◌, ◌≤◌, ◌+◌, ◌-◌, ◌*◌, MatchOption};
 ghost use Rattle.luo_num.specs.declared.limits.TheConstants.{BOUND_LIMIT, SIZE_LIMIT};

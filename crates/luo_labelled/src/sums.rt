@@ -10,7 +10,7 @@ use luo_binom::Pascal;
 use luo_model::Kind;
 use luo_num::{marked_add, marked_mul};
 
-// What stands behind the first component.
+// What comes after the first component.
 pub fn rest_of(kind: Kind) -> Kind
     ensures { result ≡ rest_of kind }
 {

@@ -25,7 +25,7 @@ StandsAt c r t = IsPlace (IsStructure (plain_of c.program) c.node c.size) IsBefo
 abbrev pub HasPassed : Span → Tree → Type 0
 HasPassed c t = (r : ℕ) × (r + 1 ≡ c.place) × StandsAt c r t
 
--- what a cursor answers, and what it is behind it: nothing at the end, else the structure at the
+-- what a cursor answers, and what it is after it: nothing at the end, else the structure at the
 -- next place
 abbrev pub Answers : Span → Option Structure → Span → Type 0
 Answers c None d = (c.place ≡ c.end) × (d ≡ c)

@@ -27,7 +27,7 @@ fn inserted(
     Ok(longer)
 }
 
-// The numbers with one more at each place, put behind others.
+// The numbers with one more at each place, put after others.
 fn put_inserted(
     alloc: Global,
     lists: &mut Vec<Items<u32>>,
@@ -114,7 +114,7 @@ fn all_labelled(
     Ok(all)
 }
 
-// The structures of the node that have one of these forms and these labels, put behind others.
+// The structures of the node that have one of these forms and these labels, put after others.
 fn put_labelled(
     alloc: Global,
     structures: &mut Vec<Structure>,

@@ -56,14 +56,14 @@ pub fn of_node(found: &[Vec<Structure>], node: usize) -> &[Structure] {
     }
 }
 
-// The first parts of a structure, and the size that is left for those behind them.
+// The first parts of a structure, and the size that is left for those after them.
 #[derive(Drop)]
 struct Row {
     parts: Items<Structure>,
     left: usize,
 }
 
-// The row with each of these structures behind it.
+// The row with each of these structures after it.
 fn put_longer(
     alloc: Global,
     longer: &mut Vec<Row>,
@@ -91,7 +91,7 @@ fn copies(alloc: Global, structures: &[Structure]) -> Result<Vec<Structure>, NoM
     Ok(copies)
 }
 
-// The row with each structure of the node behind it that has room.
+// The row with each structure of the node after it that has room.
 fn put_all_longer(
     alloc: Global,
     longer: &mut Vec<Row>,
@@ -107,7 +107,7 @@ fn put_all_longer(
     Ok(())
 }
 
-// Each row with each structure of the node behind it.
+// Each row with each structure of the node after it.
 fn longer_rows(
     alloc: Global,
     rows: &[Row],
@@ -151,7 +151,7 @@ fn tuples(
     Ok(tuples)
 }
 
-// The collections of the parts of these rows that leave nothing, put behind others.
+// The collections of the parts of these rows that leave nothing, put after others.
 fn put_collections(
     alloc: Global,
     collections: &mut Vec<Structure>,
@@ -187,7 +187,7 @@ fn collections(
     Ok(collections)
 }
 
-// Structures of one branch, put behind those of others.
+// Structures of one branch, put after those of others.
 fn put_branch(
     alloc: Global,
     branches: &mut Vec<Structure>,
@@ -312,7 +312,7 @@ fn put_round(
     Ok(many)
 }
 
-/// Puts what there is of size n behind what there is of the smaller sizes: again and again, since it may be made of what is of its own size,
+/// Puts what there is of size n after what there is of the smaller sizes: again and again, since it may be made of what is of its own size,
 /// until there is no more. In a well-founded program no chain of that is longer than there are nodes.
 pub fn put_size(
     alloc: Global,

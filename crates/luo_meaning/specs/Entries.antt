@@ -16,7 +16,7 @@ use Rattle.luo_meaning.specs.Sites.{sites_in, SomeSiteOf}
 
 -- ---- what has a count, and what has a total
 
--- type expressions at these places, one behind the other
+-- type expressions at these places, one after the other
 abbrev pub placed : List ℕ → ℕ → List TypeExpr → List Placed
 placed text place [] = []
 placed text place (e ∷ es) =

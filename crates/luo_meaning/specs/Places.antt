@@ -37,7 +37,7 @@ of_name name = record { name = []; place = 0; form = Named name }
 abbrev pub right_of : Definition → Placed
 right_of d = record { name = d.name.text; place = 0; form = d.right }
 
--- type expressions in their places, the first behind so many constructs
+-- type expressions in their places, the first after so many constructs
 abbrev pub parts_from : List ℕ → ℕ → TypeExprs → List Placed
 parts_from text place no_exprs = []
 parts_from text place (an_expr e rest) =

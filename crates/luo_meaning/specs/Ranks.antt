@@ -26,7 +26,7 @@ pub data KeepsSize (source : Source) (e f : TypeExpr) : Type 0 where
   by_component : {kind : Kind} {bound : Option Bound} {at : ℕ}
       → LeadsTo source (Coll kind f bound at) e → AllowsCount kind bound 1 → KeepsSize source e f
 
--- so many such steps, one behind the other, begin at e
+-- so many such steps, one after the other, begin at e
 abbrev pub HasChain : Source → ℕ → TypeExpr → Type 0
 HasChain source zero e = Unit {0}
 HasChain source (suc k) e = (f : TypeExpr) × KeepsSize source e f × HasChain source k f

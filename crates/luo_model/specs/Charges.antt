@@ -71,7 +71,7 @@ pub data Work : Type 0 where
   of_case : Arms → Work
   of_walk : Body → Work
 
--- the sites with what is done there: each item behind all that stands inside it, and a walk's body
+-- the sites with what is done there: each item after all that stands inside it, and a walk's body
 -- directly before the walk
 abbrev mutual
   pub works_of_body : Body → List (ℕ × Work)

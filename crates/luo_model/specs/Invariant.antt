@@ -42,7 +42,7 @@ IsNamed p part = IsPart p part × (part.name ≡ None → ⊥)
 abbrev pub bare : ℕ → Part
 bare x = record { node = x; name = None }
 
--- a node of a definition stands behind one of the same definition, and of the next place, or is the
+-- a node of a definition comes after one of the same definition, and of the next place, or is the
 -- first of a later one
 abbrev pub Follows : Node → Node → Type 0
 Follows a b =
@@ -56,7 +56,7 @@ IsFirstPlace (node ∷ nodes) = node.place ≡ 0
 abbrev pub IsOf : Program → ℕ → ℕ → Type 0
 IsOf p i x = (node : Node) × (slice_get p.nodes x ≡ Some node) × (node.owner ≡ i)
 
--- y is the part of node x by itself: it stands behind x, in the same definition
+-- y is the part of node x by itself: it comes after x, in the same definition
 pub record Holds (p : Program) (x y : ℕ) : Type 0 where
   pub node : Node
   pub inner : Node
@@ -179,6 +179,6 @@ pub record IsProgram (p : Program) : Type 0 where
   pub few_walks : sum_by (λ P. body_walks p (P.on ∷ []) P.body) p.procs ≤ WALK_LIMIT
   -- each procedure stands on a type and fits it
   pub procedures : (f : ℕ) (P : Procedure) → slice_get p.procs f ≡ Some P → IsProcedure p P
-  -- the sites are numbered by procedure, each item behind all that stands inside it, and each has
+  -- the sites are numbered by procedure, each item after all that stands inside it, and each has
   -- its node
   pub sites : sites_from p 0 p.procs ≡ numbered_from 0 p.sites

@@ -8,7 +8,7 @@ use Rattle.luo_model.specs.Order.{IsBefore}
 use Rattle.luo_model.specs.Program.{Program}
 use Rattle.luo_model.specs.Member.{Member}
 
--- each number is below those behind it
+-- each number is below those after it
 abbrev pub Rising : List ℕ → Type 0
 Rising numbers = Pairwise (λ x y. x < y) numbers
 
@@ -40,6 +40,6 @@ IsStructure p x n s = IsStructureOn p x (labels_from 1 n) n s
 abbrev pub IsListing : Program → ℕ → ℕ → List Tree → Type 0
 IsListing p x n l = Lists (IsStructure p x n) l
 
--- a listing in which each structure comes before all behind it
+-- a listing in which each structure comes before all after it
 abbrev pub IsOrderedListing : Program → ℕ → ℕ → List Tree → Type 0
 IsOrderedListing p x n l = IsListing p x n l × Pairwise IsBefore l

@@ -1,6 +1,6 @@
 //! The limits of a text, of its source, of a table and of a structure, each with what is said where it is passed.
 //!
-//! Where a place is named behind a limit, its constant ends in `HEAD` and has no line feed; a `LINE` is whole.
+//! Where a place is named after a limit, its constant ends in `HEAD` and has no line feed; a `LINE` is whole.
 
 /// The most bytes of a text.
 pub const TEXT_LIMIT: usize = 65536;

@@ -15,7 +15,7 @@ pub enum Components {
     Atom,
     /// One of each size from 1 on.
     EachSize,
-    /// Cycles of labelled atoms: those of size n are 1 for n = 1, and n - 1 times those of size n - 1 behind that.
+    /// Cycles of labelled atoms: those of size n are 1 for n = 1, and n - 1 times those of size n - 1 after that.
     Cycles,
     /// Trees, a root with a collection of trees: as many of size n as there are collections of size n - 1.
     Trees,

@@ -58,7 +58,7 @@ fn next_total(
     walk.total_at(parts, &comp[..n], &comp[..n], here)
 }
 
-// A table that has answered for all its sizes, or up to the first number past `MAX`; its answers come behind `numbers`.
+// A table that has answered for all its sizes, or up to the first number past `MAX`; its answers come after `numbers`.
 fn filled(alloc: Global, plan: Plan, numbers: &mut Vec<Option<u128>>) -> Result<Parts, Failure>
     requires parts { IsOfParts plan.kind }
     requires bounds { AreBounds plan.low plan.high plan.last }

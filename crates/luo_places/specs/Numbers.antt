@@ -40,7 +40,7 @@ ListBefore R [] (y ∷ ys) = Unit {0}
 ListBefore R (x ∷ xs) [] = ⊥
 ListBefore R (x ∷ xs) (y ∷ ys) = R x y ⊎ ((x ≡ y) × ListBefore R xs ys)
 
--- what the bounds leave behind one component
+-- what the bounds leave after one component
 abbrev pub one_less : Option ℕ → Option ℕ
 one_less (Some high) = Some (high - 1)
 one_less None = None

@@ -1,5 +1,5 @@
 -- What is left to choose of a structure: the factors of a product from one on, or the components of
--- a collection behind some.
+-- a collection after some.
 use Rattle.std.specs.Prelude.{◌≡◌, ℕ, zero, suc, ◌-◌, ◌≤◌, ◌<◌, List, [], ◌∷◌, Option, map}
 use Rattle.luo_finite.specs.Listing.{In}
 use Rattle.luo_finite.specs.Places.{IsPlace, IsChoice, Lexical}
@@ -33,18 +33,18 @@ tail_of (shape.Product parts) = factors parts
 tail_of (shape.Coll kind part low high) = items kind part.node low high
 tail_of _ = factors []
 
--- behind the first of a cycle stands a sequence
+-- after the first of a cycle stands a sequence
 abbrev pub kind_behind : Kind → Kind
 kind_behind Cycle = Sequence
 kind_behind kind = kind
 
--- what is left behind the first
+-- what is left after the first
 abbrev pub behind_first : Tail → Tail
 behind_first (factors []) = factors []
 behind_first (factors (part ∷ parts)) = factors parts
 behind_first (items kind y low high) = items (kind_behind kind) y (low - 1) (one_less high)
 
--- what is left behind so many
+-- what is left after so many
 abbrev pub behind_some : Tail → ℕ → Tail
 behind_some tail zero = tail
 behind_some tail (suc f) = behind_first (behind_some tail f)

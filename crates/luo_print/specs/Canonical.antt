@@ -13,7 +13,7 @@ abbrev pub universe_line : Universe → List ℕ
 universe_line Labelled = codes "labelled;\n"
 universe_line Unlabelled = codes "unlabelled;\n"
 
--- what stands behind the `)` of a procedure: the rest of that line, and its block or value
+-- what comes after the `)` of a procedure: the rest of that line, and its block or value
 abbrev pub body_text : ProcBody → List ℕ
 body_text (Statements stmts) = codes ";\n" ++ block_of 0 (stmt_texts 2 stmts)
 body_text (Value colon result value) =

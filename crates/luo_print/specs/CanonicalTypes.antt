@@ -22,7 +22,7 @@ range_text (AtMost n) = codes "<= " ++ decimal n
 range_text (AtLeast n) = codes ">= " ++ decimal n
 range_text (Between low high) = codes "in " ++ decimal low ++ codes ".." ++ decimal high
 
--- a bound behind the component of a collection
+-- a bound after the component of a collection
 abbrev pub bound_text : Option Bound → List ℕ
 bound_text None = []
 bound_text (Some bound) = codes ", card " ++ range_text bound.range

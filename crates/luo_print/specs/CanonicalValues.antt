@@ -15,7 +15,7 @@ abbrev pub opening : SourceValue → List ℕ
 opening (Branch number at inner) = codes "("
 opening other = []
 
--- what stands behind a value directly inside a branch
+-- what comes after a value directly inside a branch
 abbrev pub closing : SourceValue → List ℕ
 closing (Branch number at inner) = codes ")"
 closing other = []

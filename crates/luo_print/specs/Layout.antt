@@ -19,6 +19,6 @@ name_list names = join_by (λ n. n.text) (codes ", ") names
 abbrev pub joined : List ℕ → List (List ℕ) → List ℕ
 joined between texts = join_by (λ t. t) between texts
 
--- texts on new lines of this indentation, with `;` behind each but the last
+-- texts on new lines of this indentation, with `;` after each but the last
 abbrev pub lines : ℕ → List (List ℕ) → List ℕ
 lines n texts = join_by (λ t. new_line n ++ t) (codes ";") texts

@@ -7,7 +7,7 @@ use crate::pieces::put_names;
 use luo_num::NoMemory;
 use luo_source::{Name, Pattern};
 
-// Puts a name behind the text.
+// Appends a name to the text.
 pub(crate) fn put_name(text: &mut Vec<u8>, name: &Name) -> Result<(), NoMemory>
     ensures { OnOk result (text.new.items ≡ text.old.items ++ name.now.text) }
 {
@@ -15,7 +15,7 @@ pub(crate) fn put_name(text: &mut Vec<u8>, name: &Name) -> Result<(), NoMemory>
     Ok(())
 }
 
-// Puts a call behind the text.
+// Appends a call to the text.
 pub(crate) fn put_call(text: &mut Vec<u8>, callee: &Name, arg: &Name) -> Result<(), NoMemory>
     ensures { OnOk result (text.new.items ≡ text.old.items ++ call_text callee.now arg.now) }
 {
@@ -26,7 +26,7 @@ pub(crate) fn put_call(text: &mut Vec<u8>, callee: &Name, arg: &Name) -> Result<
     Ok(())
 }
 
-// Puts names in round brackets behind the text.
+// Appends names in round brackets to the text.
 fn put_bracketed(text: &mut Vec<u8>, names: &[Name]) -> Result<(), NoMemory>
     ensures { OnOk result (text.new.items ≡ text.old.items ++ codes "(" ++ name_list names.now
         ++ codes ")") }
@@ -37,7 +37,7 @@ fn put_bracketed(text: &mut Vec<u8>, names: &[Name]) -> Result<(), NoMemory>
     Ok(())
 }
 
-// Puts a pattern behind the text.
+// Appends a pattern to the text.
 fn put_pattern(text: &mut Vec<u8>, pattern: &Pattern) -> Result<(), NoMemory>
     ensures { OnOk result (text.new.items ≡ text.old.items ++ pattern_text pattern.now) }
 {
@@ -62,7 +62,7 @@ fn put_pattern(text: &mut Vec<u8>, pattern: &Pattern) -> Result<(), NoMemory>
     Ok(())
 }
 
-// Puts the pattern of an arm behind the text, and the colon behind it.
+// Appends the pattern of an arm to the text, and the colon after it.
 pub(crate) fn put_arm_head(text: &mut Vec<u8>, pattern: &Pattern) -> Result<(), NoMemory>
     ensures { OnOk result (text.new.items ≡ text.old.items ++ pattern_text pattern.now
         ++ codes " : ") }
@@ -72,7 +72,7 @@ pub(crate) fn put_arm_head(text: &mut Vec<u8>, pattern: &Pattern) -> Result<(), 
     Ok(())
 }
 
-// Puts the head of a case behind the text.
+// Appends the head of a case to the text.
 pub(crate) fn put_case_head(text: &mut Vec<u8>, var: &Name) -> Result<(), NoMemory>
     ensures { OnOk result (text.new.items ≡ text.old.items ++ codes "case " ++ var.now.text
         ++ codes " of") }

@@ -15,7 +15,7 @@ pub(crate) fn deeper(indent: usize) -> Result<usize, NoMemory>
     }
 }
 
-// Puts spaces behind the text.
+// Appends spaces to the text.
 fn put_spaces(text: &mut Vec<u8>, count: usize) -> Result<(), NoMemory>
     ensures { OnOk result (text.new.items ≡ text.old.items ++ spaces count) }
 {
@@ -25,7 +25,7 @@ fn put_spaces(text: &mut Vec<u8>, count: usize) -> Result<(), NoMemory>
     Ok(())
 }
 
-// Puts a line feed and an indentation behind the text.
+// Appends a line feed and an indentation to the text.
 pub(crate) fn put_new_line(text: &mut Vec<u8>, indent: usize) -> Result<(), NoMemory>
     ensures { OnOk result (text.new.items ≡ text.old.items ++ new_line indent) }
 {
@@ -34,7 +34,7 @@ pub(crate) fn put_new_line(text: &mut Vec<u8>, indent: usize) -> Result<(), NoMe
     Ok(())
 }
 
-// Puts the `end` of a block or a case behind the text, on a new line of this indentation.
+// Appends the `end` of a block or a case to the text, on a new line of this indentation.
 pub(crate) fn put_end(text: &mut Vec<u8>, indent: usize) -> Result<(), NoMemory>
     ensures { OnOk result (text.new.items ≡ text.old.items ++ new_line indent ++ codes "end") }
 {
@@ -43,7 +43,7 @@ pub(crate) fn put_end(text: &mut Vec<u8>, indent: usize) -> Result<(), NoMemory>
     Ok(())
 }
 
-// Puts names behind the text.
+// Appends names to the text.
 pub(crate) fn put_names(text: &mut Vec<u8>, names: &[Name]) -> Result<(), NoMemory>
     ensures { OnOk result (text.new.items ≡ text.old.items ++ name_list names.now) }
 {

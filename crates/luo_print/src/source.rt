@@ -23,7 +23,7 @@ fn first_line(universe: Universe) -> &'static [u8]
     }
 }
 
-// Puts the lines of definitions behind the text.
+// Appends the lines of definitions to the text.
 fn put_type_defs(text: &mut Vec<u8>, defs: &[TypeDef]) -> Result<(), NoMemory>
     ensures { OnOk result (text.new.items ≡ text.old.items ++ flat_map type_def_line
         (map type_def_of defs.now)) }
@@ -34,7 +34,7 @@ fn put_type_defs(text: &mut Vec<u8>, defs: &[TypeDef]) -> Result<(), NoMemory>
     Ok(())
 }
 
-// Puts the lines of measures behind the text.
+// Appends the lines of measures to the text.
 fn put_measures(text: &mut Vec<u8>, defs: &[MeasureDef]) -> Result<(), NoMemory>
     ensures { OnOk result (text.new.items ≡ text.old.items ++ flat_map measure_line defs.now) }
 {
@@ -44,7 +44,7 @@ fn put_measures(text: &mut Vec<u8>, defs: &[MeasureDef]) -> Result<(), NoMemory>
     Ok(())
 }
 
-// Puts the block of a procedure behind the text.
+// Appends the block of a procedure to the text.
 fn put_statements(text: &mut Vec<u8>, stmts: &[Stmt]) -> Result<(), NoMemory>
     ensures { OnOk result (text.new.items ≡ text.old.items ++ block_of 0
         (stmt_texts 2 (stmt_list stmts.now))) }
@@ -53,7 +53,7 @@ fn put_statements(text: &mut Vec<u8>, stmts: &[Stmt]) -> Result<(), NoMemory>
     Ok(())
 }
 
-// Puts what stands behind the `)` of a procedure behind the text.
+// Appends what comes after the `)` of a procedure to the text.
 fn put_body(text: &mut Vec<u8>, body: &ProcBody) -> Result<(), NoMemory>
     ensures { OnOk result (text.new.items ≡ text.old.items ++ body_text (proc_body_of body.now)) }
 {
@@ -72,7 +72,7 @@ fn put_body(text: &mut Vec<u8>, body: &ProcBody) -> Result<(), NoMemory>
     Ok(())
 }
 
-// Puts a procedure behind the text.
+// Appends a procedure to the text.
 fn put_proc(text: &mut Vec<u8>, def: &ProcDef) -> Result<(), NoMemory>
     ensures { OnOk result (text.new.items ≡ text.old.items ++ proc_text (proc_def_of def.now)) }
 {
@@ -88,7 +88,7 @@ fn put_proc(text: &mut Vec<u8>, def: &ProcDef) -> Result<(), NoMemory>
     Ok(())
 }
 
-// Puts procedures behind the text.
+// Appends procedures to the text.
 fn put_procs(text: &mut Vec<u8>, defs: &[ProcDef]) -> Result<(), NoMemory>
     ensures { OnOk result (text.new.items ≡ text.old.items ++ flat_map proc_text
         (map proc_def_of defs.now)) }
@@ -99,7 +99,7 @@ fn put_procs(text: &mut Vec<u8>, defs: &[ProcDef]) -> Result<(), NoMemory>
     Ok(())
 }
 
-// Puts an analyze line behind the text.
+// Appends an analyze line to the text.
 fn put_analysis(text: &mut Vec<u8>, name: &Name) -> Result<(), NoMemory>
     ensures { OnOk result (text.new.items ≡ text.old.items ++ analyze_line name.now) }
 {
@@ -109,7 +109,7 @@ fn put_analysis(text: &mut Vec<u8>, name: &Name) -> Result<(), NoMemory>
     Ok(())
 }
 
-// Puts analyze lines behind the text.
+// Appends analyze lines to the text.
 fn put_analyses(text: &mut Vec<u8>, names: &[Name]) -> Result<(), NoMemory>
     ensures { OnOk result (text.new.items ≡ text.old.items ++ flat_map analyze_line names.now) }
 {

@@ -9,7 +9,7 @@ use crate::pieces::{deeper, put_end, put_new_line};
 use luo_num::NoMemory;
 use luo_source::{Name, SourceArm, Stmt};
 
-// Puts a statement behind the text, in a line of this indentation.
+// Appends a statement to the text, in a line of this indentation.
 #[cycle(statements)]
 fn put_stmt(text: &mut Vec<u8>, indent: usize, stmt: &Stmt) -> Result<(), NoMemory>
     ensures { OnOk result (text.new.items ≡ text.old.items ++ stmt_text indent (stmt_of stmt.now)) }
@@ -25,7 +25,7 @@ fn put_stmt(text: &mut Vec<u8>, indent: usize, stmt: &Stmt) -> Result<(), NoMemo
     Ok(())
 }
 
-// Puts the head of a forall behind the text.
+// Appends the head of a forall to the text.
 fn put_forall_head(text: &mut Vec<u8>, var: &Name, source: &Name) -> Result<(), NoMemory>
     ensures { OnOk result (text.new.items ≡ text.old.items ++ codes "forall " ++ var.now.text
         ++ codes " in " ++ source.now.text ++ codes " do ") }
@@ -38,7 +38,7 @@ fn put_forall_head(text: &mut Vec<u8>, var: &Name, source: &Name) -> Result<(), 
     Ok(())
 }
 
-// Puts a forall behind the text, in a line of this indentation.
+// Appends a forall to the text, in a line of this indentation.
 #[cycle(statements)]
 fn put_forall(
     text: &mut Vec<u8>,
@@ -56,7 +56,7 @@ fn put_forall(
     Ok(())
 }
 
-// Puts a block behind the text, in a line of this indentation.
+// Appends a block to the text, in a line of this indentation.
 #[cycle(statements)]
 pub(crate) fn put_block(text: &mut Vec<u8>, indent: usize, stmts: &[Stmt]) -> Result<(), NoMemory>
     ensures { OnOk result (text.new.items ≡ text.old.items ++ block_of indent
@@ -69,7 +69,7 @@ pub(crate) fn put_block(text: &mut Vec<u8>, indent: usize, stmts: &[Stmt]) -> Re
     Ok(())
 }
 
-// Puts a case behind the text, in a line of this indentation.
+// Appends a case to the text, in a line of this indentation.
 #[cycle(statements)]
 fn put_case(
     text: &mut Vec<u8>,
@@ -87,7 +87,7 @@ fn put_case(
     Ok(())
 }
 
-// Puts statements behind the text, each on a new line of this indentation.
+// Appends statements to the text, each on a new line of this indentation.
 #[cycle(statements)]
 fn put_stmts(text: &mut Vec<u8>, indent: usize, stmts: &[Stmt]) -> Result<(), NoMemory>
     ensures { OnOk result (text.new.items ≡ text.old.items ++ lines indent
@@ -104,7 +104,7 @@ fn put_stmts(text: &mut Vec<u8>, indent: usize, stmts: &[Stmt]) -> Result<(), No
     Ok(())
 }
 
-// Puts a statement behind the text, on a new line of this indentation.
+// Appends a statement to the text, on a new line of this indentation.
 #[cycle(statements)]
 fn put_line(text: &mut Vec<u8>, indent: usize, stmt: &Stmt) -> Result<(), NoMemory>
     ensures { OnOk result (text.new.items ≡ text.old.items ++ (new_line indent
@@ -115,7 +115,7 @@ fn put_line(text: &mut Vec<u8>, indent: usize, stmt: &Stmt) -> Result<(), NoMemo
     Ok(())
 }
 
-// Puts arms behind the text, each on a new line of this indentation.
+// Appends arms to the text, each on a new line of this indentation.
 #[cycle(statements)]
 fn put_arms(text: &mut Vec<u8>, indent: usize, arms: &[SourceArm]) -> Result<(), NoMemory>
     ensures { OnOk result (text.new.items ≡ text.old.items ++ lines indent
@@ -132,7 +132,7 @@ fn put_arms(text: &mut Vec<u8>, indent: usize, arms: &[SourceArm]) -> Result<(),
     Ok(())
 }
 
-// Puts an arm behind the text, on a new line of this indentation.
+// Appends an arm to the text, on a new line of this indentation.
 #[cycle(statements)]
 fn put_arm(text: &mut Vec<u8>, indent: usize, arm: &SourceArm) -> Result<(), NoMemory>
     ensures { OnOk result (text.new.items ≡ text.old.items ++ (new_line indent

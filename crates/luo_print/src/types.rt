@@ -22,7 +22,7 @@ fn word_of(kind: Kind) -> &'static [u8]
     }
 }
 
-// Puts a range behind the text.
+// Appends a range to the text.
 fn put_range(text: &mut Vec<u8>, range: Range) -> Result<(), NoMemory>
     ensures { OnOk result (text.new.items ≡ text.old.items ++ range_text range) }
 {
@@ -48,7 +48,7 @@ fn put_range(text: &mut Vec<u8>, range: Range) -> Result<(), NoMemory>
     }
 }
 
-// Puts the bound of a collection behind the text.
+// Appends the bound of a collection to the text.
 fn put_bound(text: &mut Vec<u8>, bound: Option<Bound>) -> Result<(), NoMemory>
     ensures { OnOk result (text.new.items ≡ text.old.items ++ bound_text bound) }
 {
@@ -59,7 +59,7 @@ fn put_bound(text: &mut Vec<u8>, bound: Option<Bound>) -> Result<(), NoMemory>
     put_range(text, bound.range)
 }
 
-// Puts an atom behind the text.
+// Appends an atom to the text.
 fn put_atom(text: &mut Vec<u8>, weight: u128) -> Result<(), NoMemory>
     ensures { OnOk result (text.new.items ≡ text.old.items ++ codes "atom(" ++ decimal weight
         ++ codes ")") }
@@ -70,7 +70,7 @@ fn put_atom(text: &mut Vec<u8>, weight: u128) -> Result<(), NoMemory>
     Ok(())
 }
 
-// Puts a type expression behind the text.
+// Appends a type expression to the text.
 #[cycle(types)]
 fn put_expr(text: &mut Vec<u8>, expr: &TypeExpr) -> Result<(), NoMemory>
     ensures { OnOk result (text.new.items ≡ text.old.items ++ expr_text (expr_of expr.now)) }
@@ -95,7 +95,7 @@ fn put_expr(text: &mut Vec<u8>, expr: &TypeExpr) -> Result<(), NoMemory>
     Ok(())
 }
 
-// Puts a product behind the text.
+// Appends a product to the text.
 #[cycle(types)]
 fn put_product(text: &mut Vec<u8>, parts: &[TypeExpr]) -> Result<(), NoMemory>
     ensures { OnOk result (text.new.items ≡ text.old.items
@@ -108,7 +108,7 @@ fn put_product(text: &mut Vec<u8>, parts: &[TypeExpr]) -> Result<(), NoMemory>
     Ok(())
 }
 
-// Puts a collection behind the text.
+// Appends a collection to the text.
 #[cycle(types)]
 fn put_collection(
     text: &mut Vec<u8>,
@@ -128,7 +128,7 @@ fn put_collection(
     Ok(())
 }
 
-// Puts type expressions behind the text, with these bytes between them.
+// Appends type expressions to the text, with these bytes between them.
 #[cycle(types)]
 fn put_exprs(text: &mut Vec<u8>, between: &[u8], exprs: &[TypeExpr]) -> Result<(), NoMemory>
     ensures { OnOk result (text.new.items ≡ text.old.items
@@ -145,7 +145,7 @@ fn put_exprs(text: &mut Vec<u8>, between: &[u8], exprs: &[TypeExpr]) -> Result<(
     Ok(())
 }
 
-// Puts the line of a definition behind the text.
+// Appends the line of a definition to the text.
 pub(crate) fn put_type_def(text: &mut Vec<u8>, def: &TypeDef) -> Result<(), NoMemory>
     ensures { OnOk result (text.new.items ≡ text.old.items ++ type_def_line
         (type_def_of def.now)) }
@@ -158,7 +158,7 @@ pub(crate) fn put_type_def(text: &mut Vec<u8>, def: &TypeDef) -> Result<(), NoMe
     Ok(())
 }
 
-// Puts the line of measures behind the text.
+// Appends the line of measures to the text.
 pub(crate) fn put_measure(text: &mut Vec<u8>, def: &MeasureDef) -> Result<(), NoMemory>
     ensures { OnOk result (text.new.items ≡ text.old.items ++ measure_line def.now) }
 {

@@ -11,7 +11,7 @@ use luo_num::NoMemory;
 use luo_num::text::put_number;
 use luo_source::{Name, SourceValue, SourceValueArm};
 
-// Puts an atom and its charge behind the text.
+// Appends an atom and its charge to the text.
 fn put_atom(text: &mut Vec<u8>, charge: &Option<Name>) -> Result<(), NoMemory>
     ensures { OnOk result (text.new.items ≡ text.old.items ++ charge_text charge.now
         ++ codes "atom") }
@@ -35,7 +35,7 @@ fn open_bracket(value: &SourceValue) -> &'static [u8]
     }
 }
 
-// What stands behind a value directly inside a branch.
+// What comes after a value directly inside a branch.
 fn close_bracket(value: &SourceValue) -> &'static [u8]
     ensures { result.now ≡ closing (source_value_of value.now) }
 {
@@ -45,7 +45,7 @@ fn close_bracket(value: &SourceValue) -> &'static [u8]
     }
 }
 
-// Puts a value behind the text, in a line of this indentation.
+// Appends a value to the text, in a line of this indentation.
 #[cycle(values)]
 pub(crate) fn put_value(
     text: &mut Vec<u8>,
@@ -68,7 +68,7 @@ pub(crate) fn put_value(
     Ok(())
 }
 
-// Puts a tuple behind the text.
+// Appends a tuple to the text.
 #[cycle(values)]
 fn put_tuple(text: &mut Vec<u8>, indent: usize, parts: &[SourceValue]) -> Result<(), NoMemory>
     ensures { OnOk result (text.new.items ≡ text.old.items
@@ -81,7 +81,7 @@ fn put_tuple(text: &mut Vec<u8>, indent: usize, parts: &[SourceValue]) -> Result
     Ok(())
 }
 
-// Puts values behind the text, with commas between them.
+// Appends values to the text, with commas between them.
 #[cycle(values)]
 fn put_parts(text: &mut Vec<u8>, indent: usize, parts: &[SourceValue]) -> Result<(), NoMemory>
     ensures { OnOk result (text.new.items ≡ text.old.items ++ joined (codes ", ")
@@ -98,7 +98,7 @@ fn put_parts(text: &mut Vec<u8>, indent: usize, parts: &[SourceValue]) -> Result
     Ok(())
 }
 
-// Puts a branch behind the text.
+// Appends a branch to the text.
 #[cycle(values)]
 fn put_branch(
     text: &mut Vec<u8>,
@@ -118,7 +118,7 @@ fn put_branch(
     Ok(())
 }
 
-// Puts a case behind the text, in a line of this indentation.
+// Appends a case to the text, in a line of this indentation.
 #[cycle(values)]
 fn put_value_case(
     text: &mut Vec<u8>,
@@ -136,7 +136,7 @@ fn put_value_case(
     Ok(())
 }
 
-// Puts arms behind the text, each on a new line of this indentation.
+// Appends arms to the text, each on a new line of this indentation.
 #[cycle(values)]
 fn put_value_arms(
     text: &mut Vec<u8>,
@@ -157,7 +157,7 @@ fn put_value_arms(
     Ok(())
 }
 
-// Puts an arm behind the text, on a new line of this indentation.
+// Appends an arm to the text, on a new line of this indentation.
 #[cycle(values)]
 fn put_value_arm(text: &mut Vec<u8>, indent: usize, arm: &SourceValueArm) -> Result<(), NoMemory>
     ensures { OnOk result (text.new.items ≡ text.old.items ++ (new_line indent

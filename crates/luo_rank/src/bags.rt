@@ -46,7 +46,7 @@ fn below(tables: &Tables<'_>, x: usize, f: usize, n: usize, d: usize, i: u128) -
     }
 }
 
-// The greatest number of components that is left behind f of them, of size n.
+// The greatest number of components that is left after f of them, of size n.
 fn most_left(high: Option<u32>, f: usize, n: usize) -> usize
     ensures { result ≡ most_of (less_by f high) n }
 {

@@ -21,7 +21,7 @@ pub struct First {
     pub back: u128,
 }
 
-// The first of what is left behind f parts at a place.
+// The first of what is left after f parts at a place.
 pub fn first_of(tables: &Tables<'_>, x: usize, f: usize, n: usize, rank: u128) -> First
     requires tables { IsLooked tables.now }
     requires node { x < length tables.now.program.nodes }

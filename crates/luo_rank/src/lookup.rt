@@ -63,8 +63,8 @@ pub fn structure_at(
     }
 }
 
-/// Puts what stands at a place of what is left behind `f` parts of a structure of node `x`, of size `n`
-/// together, behind the structures in `out`.
+/// Puts what stands at a place of what is left after `f` parts of a structure of node `x`, of size `n`
+/// together, after the structures in `out`.
 ///
 /// # Errors
 ///

@@ -23,7 +23,7 @@ pub struct Parted {
     pub rest: Items<u32>,
 }
 
-// Puts the chosen labels behind `first`, and the others behind `rest`.
+// Puts the chosen labels after `first`, and the others after `rest`.
 fn part_from(
     labels: &[u32],
     chosen: &[u32],
@@ -54,7 +54,7 @@ fn part_from(
     Ok(())
 }
 
-// The choice of so many labels at a place, behind those that are first, and the others.
+// The choice of so many labels at a place, after those that are first, and the others.
 fn choose_labels(
     alloc: Global,
     pascal: &Pascal,

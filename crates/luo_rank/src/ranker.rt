@@ -91,7 +91,7 @@ impl<'p> Ranker<'p> {
     /// Prepares to find the structures of a node of size `n`, at most `LIST_SIZE_LIMIT`, of a
     /// well-founded program whose counts are known up to this size.
     ///
-    /// The tables hold, for each product, sequence, set and cycle, in how many ways what stands behind its
+    /// The tables hold, for each product, sequence, set and cycle, in how many ways what comes after its
     /// first parts can be chosen, and for each multiset and powerset how many there are of components up to
     /// each size (Flajolet, Zimmermann and Van Cutsem 1994).
     ///

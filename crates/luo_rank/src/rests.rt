@@ -1,4 +1,4 @@
-// How many there are of what is left behind some parts, row by row.
+// How many there are of what is left after some parts, row by row.
 ghost use Rattle.std.specs.Prelude.{◌≡◌, ◌+◌, ◌-◌, ◌<◌, ◌≤◌, ℕ, suc, [], length, slice_index_or, IsTrue, IfOk};
 ghost use Rattle.luo_num.specs.Mark.{capped};
 ghost use Rattle.luo_model.specs.Program.{shape_of};
@@ -12,7 +12,7 @@ use luo_model::Shape;
 use luo_num::{Items, NoMemory};
 use std::alloc::Global;
 
-// How many there are where nothing is left behind f parts.
+// How many there are where nothing is left after f parts.
 fn ended(tables: &Tables<'_>, x: usize, f: usize, n: usize) -> u128
     requires tables { IsCounted tables.now }
     requires node { x < length tables.now.program.nodes }
@@ -26,7 +26,7 @@ fn ended(tables: &Tables<'_>, x: usize, f: usize, n: usize) -> u128
     }
 }
 
-// Whether the bounds allow a part more behind f parts.
+// Whether the bounds allow a part more after f parts.
 fn allows(tables: &Tables<'_>, x: usize, f: usize, n: usize) -> bool
     requires tables { IsCounted tables.now }
     requires node { x < length tables.now.program.nodes }
@@ -45,7 +45,7 @@ fn allows(tables: &Tables<'_>, x: usize, f: usize, n: usize) -> bool
     }
 }
 
-// How many there are of what is left behind f parts, of size n, marked: `behind` has how many there are behind one part more.
+// How many there are of what is left after f parts, of size n, marked: `behind` has how many there are after one part more.
 fn left(tables: &Tables<'_>, x: usize, f: usize, behind: &[u128], n: usize) -> u128
     requires tables { IsCounted tables.now }
     requires node { x < length tables.now.program.nodes }
@@ -64,7 +64,7 @@ fn left(tables: &Tables<'_>, x: usize, f: usize, behind: &[u128], n: usize) -> u
     }
 }
 
-// How many sizes stand behind f parts.
+// How many sizes come after f parts.
 fn width(tables: &Tables<'_>, x: usize, f: usize) -> usize
     requires tables { IsCounted tables.now }
     requires node { x < length tables.now.program.nodes }
@@ -82,7 +82,7 @@ fn width(tables: &Tables<'_>, x: usize, f: usize) -> usize
     }
 }
 
-// The row behind f parts.
+// The row after f parts.
 fn row_of(
     alloc: Global,
     tables: &Tables<'_>,

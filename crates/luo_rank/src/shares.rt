@@ -13,7 +13,7 @@ use crate::firsts::First;
 use crate::tables::Tables;
 use luo_num::{marked_add, marked_mul};
 
-// How many have a first of size k, marked: `behind` has how many there are behind one part more.
+// How many have a first of size k, marked: `behind` has how many there are after one part more.
 fn term(tables: &Tables<'_>, x: usize, f: usize, behind: &[u128], n: usize, k: usize) -> u128
     requires tables { IsCounted tables.now }
     requires node { x < length tables.now.program.nodes }

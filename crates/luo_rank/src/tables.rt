@@ -28,7 +28,7 @@ pub struct Tables<'p> {
     pub ranks: Items<u32>,
     /// For each node its counts.
     pub counts: Items<Items<u128>>,
-    /// For each node the counts of what is left behind its parts, from the last part down.
+    /// For each node the counts of what is left after its parts, from the last part down.
     pub rests: Items<Items<Items<u128>>>,
     /// For each node of multisets or powersets the planes of its components.
     pub planes: Items<Items<Items<Items<u128>>>>,
@@ -99,7 +99,7 @@ impl<'p> Tables<'p> {
         }
     }
 
-    /// Whether something is left behind f parts, of size n.
+    /// Whether something is left after f parts, of size n.
     pub fn goes_on(&self, x: usize, f: usize, n: usize) -> bool
         requires node { x < length self.now.program.nodes }
         requires stands { Stands (shape_of (plain_of self.now.program) x) self.now.last f n }
@@ -112,7 +112,7 @@ impl<'p> Tables<'p> {
         }
     }
 
-    /// The node of the first that is left behind f parts.
+    /// The node of the first that is left after f parts.
     pub fn first_node(&self, x: usize, f: usize, n: usize) -> usize
         requires node { x < length self.now.program.nodes }
         requires tables { IsCounted self.now }
@@ -143,7 +143,7 @@ impl<'p> Tables<'p> {
         &self.pascal
     }
 
-    /// Whether the first that is left behind f parts has the least label.
+    /// Whether the first that is left after f parts has the least label.
     pub fn is_led(&self, x: usize, f: usize) -> bool
         requires { x < length self.now.program.nodes }
         ensures { IsTrue result ↔ IsLedTail (tail_at (plain_of self.now.program) x f) }
@@ -173,7 +173,7 @@ impl<'p> Tables<'p> {
         program.nodes.len()
     }
 
-    /// The most parts behind which something may be left.
+    /// The most parts after which something may be left.
     pub fn top(&self, x: usize) -> usize
         requires { x < length self.now.program.nodes }
         ensures { result ≡ top_of (shape_of (plain_of self.now.program) x) self.now.last }
@@ -193,7 +193,7 @@ impl<'p> Tables<'p> {
         self.counts.as_slice()[node].as_slice()
     }
 
-    // How many there are of what is left behind parts of a node, from the last part down.
+    // How many there are of what is left after parts of a node, from the last part down.
     fn rows(&self, x: usize) -> &[Items<u128>]
         requires tables { IsLooked self.now }
         requires node { x < length self.now.program.nodes }
@@ -202,7 +202,7 @@ impl<'p> Tables<'p> {
         self.rests.as_slice()[x].as_slice()
     }
 
-    /// How many there are of what is left behind f parts, marked.
+    /// How many there are of what is left after f parts, marked.
     pub fn rest(&self, x: usize, f: usize) -> &[u128]
         requires tables { IsLooked self.now }
         requires node { x < length self.now.program.nodes }

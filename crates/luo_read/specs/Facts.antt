@@ -11,7 +11,7 @@ TextsStop =
     × IsUnreadable (codes "0:a1") 0
     × IsUnreadable (codes "a1234567") 7 × IsUnreadable (codes "(a1,") 4 × IsUnreadable (codes "") 0
 
--- a whole text, a branch in a tuple in a collection, and a collection behind two parts of a tuple
+-- a whole text, a branch in a tuple in a collection, and a collection after two parts of a tuple
 abbrev pub TextsNest : Type 0
 TextsNest =
     IsStructureText (codes "1:(a2,#3)") × OpensAt 3 (codes "[(a1,2:") × OpensAt 2 (codes "(a1,[],[")

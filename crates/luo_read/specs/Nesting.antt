@@ -11,7 +11,7 @@ pub data Open : Type 0 where
   Branch : ℕ → Open
   Tuple Collection : List Tree → Open
 
--- the texts of parts, with a comma behind each
+-- the texts of parts, with a comma after each
 abbrev pub ended : List Tree → List ℕ
 ended [] = []
 ended (t ∷ ts) = structure_text t ++ (codes "," ++ ended ts)

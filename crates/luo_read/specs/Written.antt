@@ -20,7 +20,7 @@ abbrev mutual
 abbrev pub IsStructureText : List ℕ → Type 0
 IsStructureText text = (t : Tree) × IsWritten t × (structure_text t ≡ text)
 
--- something behind the text makes it a text of a structure
+-- something after the text makes it a text of a structure
 abbrev pub Begins : List ℕ → Type 0
 Begins text = (rest : List ℕ) × IsStructureText (text ++ rest)
 

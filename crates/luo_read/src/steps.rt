@@ -15,7 +15,7 @@ use luo_num::{Boxed, Items};
 use luo_struct::Structure;
 use std::alloc::Global;
 
-// The number with a digit more behind it, where it has no leading zero and is within six digits.
+// The number with a digit more after it, where it has no leading zero and is within six digits.
 fn longer_number(number: Option<u32>, byte: u8) -> Option<u32>
     ensures { result ≡ longer_number number byte }
 {
@@ -49,7 +49,7 @@ fn longer_count(number: Option<u32>, byte: u8) -> Option<u32>
     }
 }
 
-// A reader behind a structure, which ends the branches that it is inside of.
+// A reader after a structure, which ends the branches that it is inside of.
 fn behind(alloc: Global, frames: Items<Frame>, s: Structure) -> Result<Reader, Stop>
     ensures ok { IfOk result (λ r. (state_of r ≡ closed (opens_of frames) (tree_of s))
         × (length r.frames ≤ length frames)) }
@@ -134,7 +134,7 @@ fn begun(alloc: Global, frames: Items<Frame>, byte: u8) -> Result<Reader, Stop>
     }
 }
 
-// The byte behind a part of a tuple, with the parts before it.
+// The byte after a part of a tuple, with the parts before it.
 fn tuple_passed(
     alloc: Global,
     mut frames: Items<Frame>,
@@ -165,7 +165,7 @@ fn tuple_passed(
     }
 }
 
-// The byte behind a component of a collection, with the components before it.
+// The byte after a component of a collection, with the components before it.
 fn collection_passed(
     alloc: Global,
     mut frames: Items<Frame>,
@@ -194,7 +194,7 @@ fn collection_passed(
     }
 }
 
-// The byte behind a structure.
+// The byte after a structure.
 fn passed(alloc: Global, mut frames: Items<Frame>, s: Structure, byte: u8) -> Result<Reader, Stop>
     requires few { length frames ≤ NESTING_LIMIT }
     ensures { Goes (passed (opens_of frames) (tree_of s) byte) result }
@@ -209,7 +209,7 @@ fn passed(alloc: Global, mut frames: Items<Frame>, s: Structure, byte: u8) -> Re
     }
 }
 
-// The byte behind an atom whose number is read.
+// The byte after an atom whose number is read.
 fn atom_passed(
     alloc: Global,
     frames: Items<Frame>,
@@ -245,7 +245,7 @@ fn first(alloc: Global, mut frames: Items<Frame>, byte: u8) -> Result<Reader, St
     }
 }
 
-// The byte inside a weight or behind it.
+// The byte inside a weight or after it.
 fn weighed(
     alloc: Global,
     frames: Items<Frame>,
@@ -269,7 +269,7 @@ fn weighed(
     }
 }
 
-// The byte inside a label or behind it.
+// The byte inside a label or after it.
 fn labelled(
     alloc: Global,
     frames: Items<Frame>,
@@ -293,7 +293,7 @@ fn labelled(
     }
 }
 
-// The byte inside the number of a branch or behind it.
+// The byte inside the number of a branch or after it.
 fn numbered(frames: Items<Frame>, number: u32, byte: u8) -> Result<Reader, Stop>
     requires few { length frames ≤ NESTING_LIMIT }
     ensures { Goes (step (state (opens_of frames) (Number number)) byte) result }
@@ -326,7 +326,7 @@ pub(crate) fn step(alloc: Global, reader: Reader, byte: u8) -> Result<Reader, St
     }
 }
 
-// A reader behind the atom whose number is read, where there is one.
+// A reader after the atom whose number is read, where there is one.
 fn settled(alloc: Global, reader: Reader) -> Result<Reader, Stop>
     ensures ok { IfOk result (λ r. state_of r ≡ settled (state_of reader)) }
     ensures err { IfErr result (λ e. e ≡ NoMemory) }

@@ -19,7 +19,7 @@ pub record AreRanks (p : Program) (ranks : List ℕ) : Type 0 where
   pub wide : length ranks ≡ length p.nodes
   pub ranked : (x : ℕ) → x < length p.nodes → IsRank p x (rank_of ranks x)
 
--- the list holds each number below `size` once, and each comes before all behind it
+-- the list holds each number below `size` once, and each comes before all after it
 pub record IsOrderOf (size : ℕ) (Before : ℕ → ℕ → Type 0) (order : List ℕ) : Type 0 where
   pub there : (j x : ℕ) → slice_get order j ≡ Some x → x < size
   pub complete : (x : ℕ) → x < size → (j : ℕ) × (slice_get order j ≡ Some x)
@@ -76,7 +76,7 @@ CountsTo p x n value = NumbersTo (IsCount p) x n value
 abbrev pub IsFirstPast : Program → List ℕ → ℕ → ℕ → Type 0
 IsFirstPast p ranks n x = IsFirstPastOf (IsCount p) (length p.nodes) (IsBefore ranks) n x
 
--- the rows of each product's factors stand one behind the other, from `starts` on
+-- the rows of each product's factors stand one after the other, from `starts` on
 pub record IsLaid (p : Program) (starts : List ℕ) (factors : List (Option ℕ)) : Type 0 where
   pub links : AreLinks factors (length p.nodes)
   pub wide : length starts ≡ length p.nodes

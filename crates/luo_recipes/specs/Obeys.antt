@@ -19,7 +19,7 @@ atom_count weight n = if n == weight then 1 else 0
 abbrev pub Falls : Program → ℕ → ℕ → Type 0
 Falls p x y = (r s : ℕ) → IsRank p x r → IsRank p y s → s < r
 
--- some other factor, before or behind, has nothing of size 0
+-- some other factor, before or after, has nothing of size 0
 abbrev pub OtherHasNone : (ℕ → ℕ → ℕ) → List Part → List Part → Type 0
 OtherHasNone counts before after =
     (other : Part) × In other (before ++ after) × (counts other.node 0 ≡ 0)

@@ -5,7 +5,7 @@ use Rattle.luo_model.specs.declared.program.Universe.{Universe}
 use Rattle.luo_recipes.specs.Shares.{tail_of, open_of}
 use Rattle.luo_recipes.specs.Grid.{Reaches, entry_of}
 
--- each factor has a row of counts, and a row of partial products behind it
+-- each factor has a row of counts, and a row of partial products after it
 abbrev pub AreLinks : List (Option ℕ) → ℕ → Type 0
 AreLinks factors nodes =
     (r y : ℕ) → slice_get factors r ≡ Some (Some y) → (y < nodes) × (r + 1 < length factors)

@@ -15,7 +15,7 @@ pub record Planned : Type 0 where
   pub order : List ℕ
   -- of each product the row of its first factor
   pub starts : List ℕ
-  -- the rows of partial products: each product's factors in turn, with `None` behind the last
+  -- the rows of partial products: each product's factors in turn, with `None` after the last
   pub factors : List (Option ℕ)
   -- the last row of binomials
   pub reach : ℕ

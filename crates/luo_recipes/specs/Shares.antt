@@ -21,7 +21,7 @@ paired u a b n k = ways u n k * (a k * b (n - k))
 unfoldable pub inner : Universe → (ℕ → ℕ) → (ℕ → ℕ) → ℕ → ℕ
 inner u a b n = sum_below (λ k. paired u a b n (suc k)) (n - 1)
 
--- a row of partial products: a factor shared with the row behind it, or the end of a product
+-- a row of partial products: a factor shared with the row after it, or the end of a product
 abbrev pub tail_of : Universe → (ℕ → ℕ → ℕ) → List (Option ℕ) → ℕ → ℕ
 tail_of u counts [] n = unit n
 tail_of u counts (None ∷ rest) n = unit n

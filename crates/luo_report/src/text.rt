@@ -14,7 +14,7 @@ use luo_num::NoMemory;
 use luo_num::text::put_number;
 use std::alloc::Global;
 
-// Puts a fraction behind the text.
+// Appends a fraction to the text.
 fn put_fraction(text: &mut Vec<u8>, average: Average) -> Result<(), NoMemory>
     ensures { OnOk result (text.new.items ≡ text.old.items ++ fraction_text average) }
 {
@@ -31,7 +31,7 @@ fn put_fraction(text: &mut Vec<u8>, average: Average) -> Result<(), NoMemory>
     Ok(())
 }
 
-// Puts an average behind the text.
+// Appends an average to the text.
 fn put_average(text: &mut Vec<u8>, total: u128, count: u128) -> Result<(), NoMemory>
     ensures { OnOk result (text.new.items ≡ text.old.items ++ average_text total count) }
 {
@@ -39,7 +39,7 @@ fn put_average(text: &mut Vec<u8>, total: u128, count: u128) -> Result<(), NoMem
     Ok(())
 }
 
-/// Puts the line of a row behind the text: the size, the count, the total, and the average in lowest terms.
+/// Appends the line of a row to the text: the size, the count, the total, and the average in lowest terms.
 pub fn put_row(text: &mut Vec<u8>, row: &Row) -> Result<(), NoMemory>
     ensures { OnOk result (text.new.items ≡ text.old.items ++ row_text row.now) }
 {
@@ -54,7 +54,7 @@ pub fn put_row(text: &mut Vec<u8>, row: &Row) -> Result<(), NoMemory>
     Ok(())
 }
 
-// Puts rows behind the text.
+// Appends rows to the text.
 fn put_rows(text: &mut Vec<u8>, rows: &[Row]) -> Result<(), NoMemory>
     ensures { OnOk result (text.new.items ≡ text.old.items ++ flat_map row_text rows.now) }
 {
@@ -64,7 +64,7 @@ fn put_rows(text: &mut Vec<u8>, rows: &[Row]) -> Result<(), NoMemory>
     Ok(())
 }
 
-// Puts the name of a definition behind the text.
+// Appends the name of a definition to the text.
 fn put_name(text: &mut Vec<u8>, program: &Program, name: Option<usize>) -> Result<(), NoMemory>
     ensures { OnOk result (text.new.items ≡ text.old.items ++ name_of (plain_of program.now) name) }
 {
@@ -77,7 +77,7 @@ fn put_name(text: &mut Vec<u8>, program: &Program, name: Option<usize>) -> Resul
     Ok(())
 }
 
-// Puts the heading of a procedure behind the text.
+// Appends the heading of a procedure to the text.
 fn put_heading(text: &mut Vec<u8>, program: &Program, callee: usize) -> Result<(), NoMemory>
     requires { callee < length program.now.procs }
     ensures { OnOk result
@@ -92,7 +92,7 @@ fn put_heading(text: &mut Vec<u8>, program: &Program, callee: usize) -> Result<(
     Ok(())
 }
 
-// Puts the lines of equations behind the text.
+// Appends the lines of equations to the text.
 fn put_equations(
     alloc: Global,
     text: &mut Vec<u8>,
@@ -110,7 +110,7 @@ fn put_equations(
     Ok(())
 }
 
-// Puts the headings and rows of tables behind the text.
+// Appends the headings and rows of tables to the text.
 fn put_tables(text: &mut Vec<u8>, program: &Program, tables: &[Table]) -> Result<(), NoMemory>
     requires named { (t : _) → In t tables.now → t.callee < length program.now.procs }
     ensures { OnOk result (text.new.items ≡ text.old.items
@@ -133,7 +133,7 @@ pub fn universe_line(universe: Universe) -> &'static [u8]
     }
 }
 
-// Puts the report of a program behind the text.
+// Appends the report of a program to the text.
 fn put_report(
     alloc: Global,
     text: &mut Vec<u8>,

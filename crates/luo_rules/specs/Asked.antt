@@ -51,7 +51,7 @@ pub data Asked : Type 0 where
   walks : List Variable → Name → Asked
   gives : List Variable → Option ℕ → Name → Asked
   -- the pattern of an arm that stands for this, in a case on this variable; a name of a pattern
-  -- behind these
+  -- after these
   matches : Stand → Name → Pattern → Asked
   repeats : List Name → Name → Asked
   -- a callee whose result is of the node that is expected; a construct at this token, of this text,

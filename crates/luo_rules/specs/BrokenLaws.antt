@@ -13,7 +13,7 @@ use Rattle.luo_rules.specs.Broken.{IsBroken}
 abbrev pub ListedIsBroken : Type 0
 ListedIsBroken = (source : Source) (b : Breach) → In b (breaches source) → IsBroken source b
 
--- whatever is broken is listed, or stands behind something that is
+-- whatever is broken is listed, or comes after something that is
 abbrev pub BrokenIsListed : Type 0
 BrokenIsListed =
     (source : Source) (b : Breach) → IsSource source → IsBroken source b

@@ -27,7 +27,7 @@ values m = map (λ name. (name, m.value)) m.names
 abbrev pub measures : Source → List (Name × ℕ)
 measures source = flat_map values source.measures
 
--- names with their meanings, behind others
+-- names with their meanings, after others
 abbrev pub with_definitions : List (List ℕ × Meaning) → ℕ → List Definition
     → List (List ℕ × Meaning)
 with_definitions names i [] = names

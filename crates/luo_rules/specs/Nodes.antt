@@ -38,7 +38,7 @@ module _ (names : List (List ℕ × Meaning)) (defs : List Definition) where
   part_at at (Named name) = named_part (definition_meant (meaning names name.text))
   part_at at _ = bare at.node
 
-  -- the parts that stand for type expressions, one behind the other
+  -- the parts that stand for type expressions, one after the other
   abbrev pub parts_at : Spot → TypeExprs → List Part
   parts_at at no_exprs = []
   parts_at at (an_expr e rest) = part_at at e ∷ parts_at (behind at (own_nodes e)) rest

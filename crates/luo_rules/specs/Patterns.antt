@@ -77,7 +77,7 @@ abbrev pub is_among : List ℕ → List Name → Bool
 is_among text [] = false
 is_among text (name ∷ names) = if bytes_eq name.text text then true else is_among text names
 
--- names that stand a second time, behind these
+-- names that stand a second time, after these
 abbrev pub repeated : List Name → List Name → List Breach
 repeated earlier [] = []
 repeated earlier (name ∷ names) =

@@ -46,7 +46,7 @@ variable scope name = place_of (found scope name)
 
 abbrev mutual
   -- the calls, cases and walks of a statement in a scope, blocks opened up, with sites from this
-  -- number on: each behind all that stands inside it
+  -- number on: each after all that stands inside it
   pub stmt_items : Setting → List Variable → ℕ → Stmt → plain.Items
   stmt_items s scope first (Call callee arg) =
       plain.item (plain.Call (variable scope arg)

@@ -52,7 +52,7 @@ pub fn listed_is_broken()
     ensures { ListedIsBroken }
 {}
 
-/// Whatever breaks a rule is in the list of breaches, or stands behind something in it.
+/// Whatever breaks a rule is in the list of breaches, or comes after something in it.
 pub fn broken_is_listed()
     ensures { BrokenIsListed }
 {}

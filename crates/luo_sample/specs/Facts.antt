@@ -60,7 +60,7 @@ FirstLines =
     ++ codes "type t1 = z | product(z, t9, t10) | product(z, set(t12));\n")
     (Sample 0)
 
--- how that of 1 goes on behind its definitions
+-- how that of 1 goes on after its definitions
 abbrev pub MiddleLines : Type 0
 MiddleLines =
     Begins

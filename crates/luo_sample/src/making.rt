@@ -12,7 +12,7 @@ use rand_core::utils::NextWord;
 use rand_pcg::Pcg32;
 use std::alloc::Global;
 
-// Puts the 20 definitions behind the text, by the generator's words from here on.
+// Appends the 20 definitions to the text, by the generator's words from here on.
 fn put_types(text: &mut Vec<u8>, universe: Universe, words: &mut Pcg32) -> Result<(), NoMemory>
     ensures { OnOk result (text.new.items ≡ text.old.items
         ++ numbered (λ i. type_line universe i (choice_at words.old i)) 0 20) }
@@ -24,7 +24,7 @@ fn put_types(text: &mut Vec<u8>, universe: Universe, words: &mut Pcg32) -> Resul
     Ok(())
 }
 
-// Puts their procedures behind the text, by the same words.
+// Appends their procedures to the text, by the same words.
 fn put_procs(text: &mut Vec<u8>, words: &mut Pcg32) -> Result<(), NoMemory>
     ensures { OnOk result (text.new.items ≡ text.old.items
         ++ numbered (λ i. proc_lines i (choice_at words.old i)) 0 20) }
@@ -36,7 +36,7 @@ fn put_procs(text: &mut Vec<u8>, words: &mut Pcg32) -> Result<(), NoMemory>
     Ok(())
 }
 
-// Puts the analyze lines of the first eight procedures behind the text.
+// Appends the analyze lines of the first eight procedures to the text.
 fn put_analyses(text: &mut Vec<u8>) -> Result<(), NoMemory>
     ensures { OnOk result (text.new.items ≡ text.old.items ++ numbered analyze_line 0 8) }
 {
@@ -46,7 +46,7 @@ fn put_analyses(text: &mut Vec<u8>) -> Result<(), NoMemory>
     Ok(())
 }
 
-// The universe that the first word of a number chooses, and the generator behind that word.
+// The universe that the first word of a number chooses, and the generator after that word.
 fn begin(number: u64) -> (Universe, Pcg32)
     ensures universe { result.0 ≡ universe_of (word (seeded number)) }
     ensures words { result.1 ≡ behind (seeded number) }

@@ -37,7 +37,7 @@ fn kind_word(universe: Universe, kind: u32) -> &'static [u8]
     }
 }
 
-// Puts a number behind the text.
+// Appends a number to the text.
 fn put_number(text: &mut Vec<u8>, number: u32) -> Result<(), NoMemory>
     ensures { OnOk result (text.new.items ≡ text.old.items ++ decimal number) }
 {
@@ -46,7 +46,7 @@ fn put_number(text: &mut Vec<u8>, number: u32) -> Result<(), NoMemory>
     Ok(())
 }
 
-// Puts the name of definition i behind the text.
+// Appends the name of definition i to the text.
 fn put_type(text: &mut Vec<u8>, i: u32) -> Result<(), NoMemory>
     ensures { OnOk result (text.new.items ≡ text.old.items ++ type_name i) }
 {
@@ -54,7 +54,7 @@ fn put_type(text: &mut Vec<u8>, i: u32) -> Result<(), NoMemory>
     put_number(text, i)
 }
 
-// Puts the name of procedure i behind the text.
+// Appends the name of procedure i to the text.
 fn put_proc(text: &mut Vec<u8>, i: u32) -> Result<(), NoMemory>
     ensures { OnOk result (text.new.items ≡ text.old.items ++ proc_name i) }
 {
@@ -62,7 +62,7 @@ fn put_proc(text: &mut Vec<u8>, i: u32) -> Result<(), NoMemory>
     put_number(text, i)
 }
 
-// Puts the line of definition i behind the text.
+// Appends the line of definition i to the text.
 pub(crate) fn put_type_line(
     text: &mut Vec<u8>,
     universe: Universe,
@@ -86,7 +86,7 @@ pub(crate) fn put_type_line(
     Ok(())
 }
 
-// Puts the lines of procedure i behind the text.
+// Appends the lines of procedure i to the text.
 pub(crate) fn put_proc_lines(text: &mut Vec<u8>, i: u32, choice: Choice) -> Result<(), NoMemory>
     ensures { OnOk result (text.new.items ≡ text.old.items ++ proc_lines i choice) }
 {
@@ -106,7 +106,7 @@ pub(crate) fn put_proc_lines(text: &mut Vec<u8>, i: u32, choice: Choice) -> Resu
     Ok(())
 }
 
-// Puts the analyze line of procedure i behind the text.
+// Appends the analyze line of procedure i to the text.
 pub(crate) fn put_analyze_line(text: &mut Vec<u8>, i: u32) -> Result<(), NoMemory>
     ensures { OnOk result (text.new.items ≡ text.old.items ++ analyze_line i) }
 {

@@ -44,7 +44,7 @@ sign Dots = codes ".."
 sign Colon = codes ":"
 sign Underscore = codes "_"
 
--- the number that decimal digits give, read behind a number
+-- the number that decimal digits give, read after a number
 abbrev pub value_after : ℕ → List ℕ → ℕ
 value_after n [] = n
 value_after n (d ∷ ds) = value_after (10 * n + (d - 48)) ds

@@ -92,7 +92,7 @@ fn number_piece(text: &[u8]) -> Piece
     }
 }
 
-/// The number that the digits give, and where it is larger than `NUMBER_LIMIT`, the next number behind that.
+/// The number that the digits give, and where it is larger than `NUMBER_LIMIT`, the next number after that.
 fn number_of(digits: &[u8]) -> u128
     requires { AllByRecursion IsDigit digits.now }
     ensures { result ≡ min (value_after 0 digits.now) (NUMBER_LIMIT + 1) }

@@ -17,7 +17,7 @@ use Rattle.luo_source.specs.declared.types.TypeExpr.TheVariants.{Named, Epsilon,
 use Rattle.luo_source.specs.declared.types.TypeDef.{TypeDef}
 use Rattle.luo_source.specs.declared.types.MeasureDef.{MeasureDef}
 
--- name {"," name}, and this mark behind them
+-- name {"," name}, and this mark after them
 pub data AreNames : Mark → List Lexeme → List Lexeme → List Name → Type 0 where
   last_name : {close : Mark} {to : List Lexeme} {text b : List ℕ} {at k : ℕ}
       → AreNames close (lexeme kind.Name text at ∷ lexeme (kind.Mark close) b k ∷ to) to

@@ -32,7 +32,7 @@ pub fn first_structure(
     structure_at(alloc, tables, node, labels, n, 0)
 }
 
-// Puts the first of what is left behind f parts behind those in `out`.
+// Puts the first of what is left after f parts after those in `out`.
 pub fn first_row(
     alloc: Global,
     tables: &Tables<'_>,

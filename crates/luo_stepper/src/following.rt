@@ -12,8 +12,8 @@ use luo_rank::Ranker;
 use luo_struct::Structure;
 use std::alloc::Global;
 
-/// The structure at the place behind `place`, where `s` stands, among those that the ranker finds. It is
-/// made of `s`: the last part that has a next one goes on, and the parts behind it begin again.
+/// The structure at the place after `place`, where `s` stands, among those that the ranker finds. It is
+/// made of `s`: the last part that has a next one goes on, and the parts after it begin again.
 ///
 /// # Errors
 ///

@@ -11,7 +11,7 @@ use luo_rank::parting::{Parted, part_labels};
 use luo_rank::tables::Tables;
 use std::alloc::Global;
 
-// Puts the labels of two, rising, behind those in `out`.
+// Puts the labels of two, rising, after those in `out`.
 pub fn merge(first: &[u32], rest: &[u32], out: &mut Items<u32>) -> Result<(), NoMemory>
     requires split { (L : List ℕ) × IsSplit L first.now rest.now }
     ensures { OnOk result ((L : List ℕ) → IsSplit L first.now rest.now → out.new ≡ out.old ++ L) }

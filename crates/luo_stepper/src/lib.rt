@@ -1,4 +1,4 @@
-//! The structure behind another in the order of structures, made of it.
+//! The structure after another in the order of structures, made of it.
 #![tactic(auto)]
 
 mod beginning;

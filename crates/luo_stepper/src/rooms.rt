@@ -23,7 +23,7 @@ pub struct Room {
     pub rest: Items<u32>,
 }
 
-// The size and labels behind these; `None` where they are the last.
+// The size and labels after these; `None` where they are the last.
 fn next_room(
     alloc: Global,
     tables: &Tables<'_>,
@@ -67,7 +67,7 @@ fn next_room(
     }))
 }
 
-// Puts the first structures of the next size and labels behind those in `items`; false where there are none.
+// Puts the first structures of the next size and labels after those in `items`; false where there are none.
 pub fn turn(
     alloc: Global,
     tables: &Tables<'_>,

@@ -1,4 +1,4 @@
-// The structure behind one.
+// The structure after one.
 ghost use Rattle.std.specs.Prelude.{◌≡◌, ◌+◌, ◌++◌, ◌<◌, ◌≤◌, ◌∷◌, length, [], IfOk};
 ghost use Rattle.luo_model.specs.View.{plain_of};
 ghost use Rattle.luo_places.specs.Tails.{IsSpread, first_node};
@@ -46,7 +46,7 @@ fn take_last(items: &mut Items<Structure>) -> Structure
     }
 }
 
-// The node of the first that is left behind f parts.
+// The node of the first that is left after f parts.
 fn first_of(tables: &Tables<'_>, x: usize, f: usize) -> usize
     requires node { x < length tables.now.program.nodes }
     requires tables { IsLooked tables.now }
@@ -87,7 +87,7 @@ fn next_branch(
     Ok(Step::Next(whole))
 }
 
-// The structure behind s among those of a node. Where s is the last, its labels are put into `labels`.
+// The structure after s among those of a node. Where s is the last, its labels are put into `labels`.
 #[cycle(stepping)]
 pub fn step_on(
     alloc: Global,

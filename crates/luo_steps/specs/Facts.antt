@@ -14,7 +14,7 @@ PermutationsGoOn = Steps (IsStructure permutations 2 3) IsBefore
     ∷ rows ((1 ∷ 3 ∷ []) ∷ (2 ∷ []) ∷ []) ∷ rows ((1 ∷ 2 ∷ 3 ∷ []) ∷ [])
     ∷ rows ((1 ∷ 3 ∷ 2 ∷ []) ∷ []) ∷ [])
 
--- the partitions of 3: first 1 + 1 + 1, behind it 2 + 1, and last 3
+-- the partitions of 3: first 1 + 1 + 1, after it 2 + 1, and last 3
 abbrev pub PartitionsGoOn : Type 0
 PartitionsGoOn =
     IsFirst (IsStructure partitions 2 3) IsBefore (rows ((0 ∷ []) ∷ (0 ∷ []) ∷ (0 ∷ []) ∷ []))

@@ -50,7 +50,7 @@ AreEmpty p parts L n which =
     (m : ℕ) (part : Part) → which m → slice_get parts m ≡ Some part → (t : Tree)
     → IsStructureOn p part.node L n t → ⊥
 
--- in a union the branch goes on, and behind its last structure comes the first of the next branch
+-- in a union the branch goes on, and after its last structure comes the first of the next branch
 -- that has any
 abbrev pub UnionsGoOn : Type 0
 UnionsGoOn = (p : Program) (x n : ℕ) (L : List ℕ) (parts : List Part) → IsRoom p.universe L n
@@ -106,7 +106,7 @@ pub record GoesOnBy (p : Program) (a : ℕ → ℕ → ℕ) (tail : Tail) (L : L
       → IsStructureOn p (first_node tail) C i t
       → IsNext (TailOn p (behind_first tail) T j) PartsBefore us ts
       → IsNext (TailOn p tail L n) PartsBefore (more t us) (more t ts)
-  -- behind the last rest the first goes on, and the rest begins again
+  -- after the last rest the first goes on, and the rest begins again
   pub first : (i j : ℕ) (C T : List ℕ) → i + j ≡ n → IsShare p.universe L i C T
       → IsLedBy tail p.universe L C
       → (s t : Tree) (us ts : Trees)
@@ -114,7 +114,7 @@ pub record GoesOnBy (p : Program) (a : ℕ → ℕ → ℕ) (tail : Tail) (L : L
       → IsLast (TailOn p (behind_first tail) T j) PartsBefore us
       → IsFirst (TailOn p (behind_first tail) T j) PartsBefore ts
       → IsNext (TailOn p tail L n) PartsBefore (more s us) (more t ts)
-  -- and behind the last first of these labels both begin again, in the next room
+  -- and after the last first of these labels both begin again, in the next room
   pub room : (i j k h : ℕ) (C T D U : List ℕ) → i + j ≡ n → IsShare p.universe L i C T → k + h ≡ n
       → IsShare p.universe L k D U → (s t : Tree) (us ts : Trees)
       → IsLast (IsStructureOn p (first_node tail) C i) IsBefore s
@@ -153,7 +153,7 @@ TailsPart =
     × IsStructureOn p (first_node tail) C (size_of t) t
     × TailOn p (behind_first tail) T (n - size_of t) us
 
--- behind one room comes that of the next labels, and behind the last labels the first of the next
+-- after one room comes that of the next labels, and after the last labels the first of the next
 -- size that has any
 abbrev pub RoomsGoOn : Type 0
 RoomsGoOn = (p : Program) (a : ℕ → ℕ → ℕ) (tail : Tail) (L : List ℕ) (n : ℕ)
@@ -206,8 +206,8 @@ TailsEnd =
     → TailOn p tail L n none
     → IsFirst (TailOn p tail L n) PartsBefore none × IsLast (TailOn p tail L n) PartsBefore none
 
--- how the components of a multiset or a powerset go on that may stand behind a bound; what may
--- stand behind the first is bounded by it
+-- how the components of a multiset or a powerset go on that may come after a bound; what may
+-- come after the first is bounded by it
 pub record BagGoesOnBy (p : Program) (kind : Kind) (y low : ℕ) (high : Option ℕ)
     (bound : Option Tree) (n : ℕ) : Type 0 where
   -- the rest goes on
@@ -215,13 +215,13 @@ pub record BagGoesOnBy (p : Program) (kind : Kind) (y low : ℕ) (high : Option 
       → (us ts : Trees)
       → IsNext (BagOn p kind y (low - 1) (one_less high) (Some x) m) PartsBefore us ts
       → IsNext (BagOn p kind y low high bound n) PartsBefore (more x us) (more x ts)
-  -- behind the last rest the first goes on to the next that has a rest, and the rest begins again
+  -- after the last rest the first goes on to the next that has a rest, and the rest begins again
   pub first : (x w : Tree) (m k : ℕ) → size_of x + m ≡ n → size_of w + k ≡ n → (us ts : Trees)
       → IsLast (BagOn p kind y (low - 1) (one_less high) (Some x) m) PartsBefore us
       → IsNext (HasRest p kind y low high bound n) IsBefore x w
       → IsFirst (BagOn p kind y (low - 1) (one_less high) (Some w) k) PartsBefore ts
       → IsNext (BagOn p kind y low high bound n) PartsBefore (more x us) (more w ts)
-  -- the next of the same size that may stand behind the bound has a rest
+  -- the next of the same size that may come after the bound has a rest
   pub same : (x w : Tree) → HasRest p kind y low high bound n x
       → IsNext (λ z. (Member p y z × MayStand kind bound z) × (size_of z ≡ size_of x)) IsBefore x w
       → IsNext (HasRest p kind y low high bound n) IsBefore x w
@@ -234,7 +234,7 @@ pub record BagGoesOnBy (p : Program) (kind : Kind) (y low : ℕ) (high : Option 
       → IsLast (BagOn p kind y (low - 1) (one_less high) (Some w) k) PartsBefore ts
       → IsLast (BagOn p kind y low high bound n) PartsBefore (more w ts)
 
--- the first may stand behind the bound, and the rest behind the first
+-- the first may come after the bound, and the rest after the first
 abbrev pub BagsPart : Type 0
 BagsPart =
     (p : Program) (kind : Kind) (y low : ℕ) (high : Option ℕ) (bound : Option Tree) (n : ℕ)
@@ -247,7 +247,7 @@ BagsPart =
     → BagOn p kind y (low - 1) (one_less high) (Some x) (n - size_of x) us
     → BagOn p kind y low high bound n (more x us))
 
--- the next of one size, behind one that is before a bound of this size, isn't above the bound, and
+-- the next of one size, after one that is before a bound of this size, isn't above the bound, and
 -- is below it unless it is the bound
 abbrev pub BoundsAreKept : Type 0
 BoundsAreKept = (p : Program) (y n : ℕ) (t w v : Tree) → Member p y t → size_of t ≡ n → IsBefore w t

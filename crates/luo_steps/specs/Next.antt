@@ -13,12 +13,12 @@ pub record IsFirst {A : Type 0} (P : A → Type 0) (Before : A → A → Type 0)
   pub there : P x
   pub before : (y : A) → P y → Before y x → ⊥
 
--- P holds of x, and of nothing behind it
+-- P holds of x, and of nothing after it
 pub record IsLast {A : Type 0} (P : A → Type 0) (Before : A → A → Type 0) (x : A) : Type 0 where
   pub there : P x
   pub after : (y : A) → P y → Before x y → ⊥
 
--- behind x each is the next of the one before it, to the last
+-- after x each is the next of the one before it, to the last
 abbrev pub StepsFrom : {A : Type 0} → (A → Type 0) → (A → A → Type 0) → A → List A → Type 0
 StepsFrom P Before x [] = IsLast P Before x
 StepsFrom P Before x (y ∷ l) = IsNext P Before x y × StepsFrom P Before y l

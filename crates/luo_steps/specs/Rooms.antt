@@ -1,4 +1,4 @@
--- What is chosen of a tail before its first: a size and labels; and what may stand behind the first
+-- What is chosen of a tail before its first: a size and labels; and what may come after the first
 -- of a multiset or a powerset.
 use Rattle.std.specs.Prelude.{◌≡◌, ◌+◌, ◌-◌, ◌≤◌, ◌<◌, ℕ, List, [], ◌∷◌, length, Option, Some, None}
 use Rattle.luo_finite.specs.Listing.{In}
@@ -56,23 +56,23 @@ HasLabels p tail L k C = IsFor p.universe L k C × IsLedBy tail p.universe L C
 abbrev pub HasRoom : Program → (ℕ → ℕ → ℕ) → Tail → List ℕ → ℕ → ℕ × List ℕ → Type 0
 HasRoom p a tail L n room = HasSize p a tail n room.0 × HasLabels p tail L room.0 room.1
 
--- y may stand behind x: in a multiset where it isn't above x, in a powerset where it is below x
+-- y may come after x: in a multiset where it isn't above x, in a powerset where it is below x
 abbrev pub MayFollow : Kind → Tree → Tree → Type 0
 MayFollow Multiset x y = IsBefore x y → ⊥
 MayFollow Powerset x y = IsBefore y x
 MayFollow kind x y = Unit {0}
 
--- behind nothing each may stand
+-- after nothing each may stand
 abbrev pub MayStand : Kind → Option Tree → Tree → Type 0
 MayStand kind None y = Unit {0}
 MayStand kind (Some x) y = MayFollow kind x y
 
--- the trees that can stand there, of size n together, each of which may stand behind the bound
+-- the trees that can stand there, of size n together, each of which may come after the bound
 abbrev pub BagOn : Program → Kind → ℕ → ℕ → Option ℕ → Option Tree → ℕ → Trees → Type 0
 BagOn p kind y low high bound n ts =
     TailOn p (items kind y low high) [] n ts × Each (MayStand kind bound) (to_list ts)
 
--- x may stand behind the bound, and something of size n together with x may stand behind x
+-- x may come after the bound, and something of size n together with x may come after x
 abbrev pub HasRest : Program → Kind → ℕ → ℕ → Option ℕ → Option Tree → ℕ → Tree → Type 0
 HasRest p kind y low high bound n x =
     (Member p y x × MayStand kind bound x)

@@ -76,7 +76,7 @@ pub fn bags_go_on()
     ensures { BagsGoOn }
 {}
 
-/// A multiset or a powerset is a first that may stand behind the bound, and a rest that the first bounds.
+/// A multiset or a powerset is a first that may come after the bound, and a rest that the first bounds.
 pub fn bags_part()
     ensures { BagsPart }
 {}

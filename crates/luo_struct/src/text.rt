@@ -9,7 +9,7 @@ use luo_num::NoMemory;
 use luo_num::text::put_number;
 use std::alloc::Global;
 
-// Puts an atom behind the text.
+// Appends an atom to the text.
 fn put_atom(text: &mut Vec<u8>, weight: u32, label: u32) -> Result<(), NoMemory>
     ensures { OnOk result (text.new.items ≡ text.old.items ++ structure_text (Atom weight label)) }
 {
@@ -23,7 +23,7 @@ fn put_atom(text: &mut Vec<u8>, weight: u32, label: u32) -> Result<(), NoMemory>
     Ok(())
 }
 
-// Puts the parts behind the text, with commas between them.
+// Appends the parts to the text, with commas between them.
 #[cycle(puts)]
 fn put_parts(text: &mut Vec<u8>, parts: &[Structure]) -> Result<(), NoMemory>
     ensures { OnOk result (text.new.items ≡ text.old.items ++ joined (tree_list parts.now)) }
@@ -39,7 +39,7 @@ fn put_parts(text: &mut Vec<u8>, parts: &[Structure]) -> Result<(), NoMemory>
     Ok(())
 }
 
-// Puts a structure behind the text.
+// Appends a structure to the text.
 #[cycle(puts)]
 fn put_structure(text: &mut Vec<u8>, s: &Structure) -> Result<(), NoMemory>
     ensures { OnOk result (text.new.items ≡ text.old.items ++ structure_text (tree_of s.now)) }

@@ -62,7 +62,7 @@ abbrev pub closed : List Lexeme → ℕ
 closed [] = 0
 closed (l ∷ ls) = closes l + closed ls
 
--- behind these lexemes more than the limit are open
+-- after these lexemes more than the limit are open
 abbrev pub IsDeep : List Lexeme → Type 0
 IsDeep prefix = closed prefix + DEPTH_LIMIT < opened prefix
 

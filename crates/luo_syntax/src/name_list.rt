@@ -14,7 +14,7 @@ use luo_source::Name;
 use std::alloc::Global;
 
 impl<'t> Cursor<'t> {
-    /// Reads names with commas between them, and this mark behind them.
+    /// Reads names with commas between them, and this mark after them.
     pub fn names(&mut self, close: Mark, alloc: Global) -> Result<Items<Name>, Fault>
         ensures reads { IfOk result (λ ns. AreNames close self.old self.new ns) }
         ensures stops { IfErr result (λ f. OnStop f (NamesStop close self.old self.new)) }

@@ -39,7 +39,7 @@ impl<'t> Cursor<'t> {
         Ok(stmts)
     }
 
-    /// Reads statements with semicolons between them, and the end behind them.
+    /// Reads statements with semicolons between them, and the end after them.
     #[cycle(blocks)]
     fn stmts(&mut self, alloc: Global) -> Result<Items<Stmt>, Fault>
         ensures reads { IfOk result (λ ss. AreStmts self.old self.new ss) }
@@ -89,7 +89,7 @@ impl<'t> Cursor<'t> {
         Ok(Stmt::Case { var, arms })
     }
 
-    /// Reads arms with semicolons between them, and the end behind them.
+    /// Reads arms with semicolons between them, and the end after them.
     #[cycle(blocks)]
     fn arms(&mut self, alloc: Global) -> Result<Items<SourceArm>, Fault>
         ensures reads { IfOk result (λ xs. AreArms self.old self.new xs) }
@@ -168,7 +168,7 @@ impl<'t> Cursor<'t> {
         Ok(Stmt::Call { callee: name, arg })
     }
 
-    /// Reads what a procedure is called on, and the mark behind it.
+    /// Reads what a procedure is called on, and the mark after it.
     fn call_arg(&mut self, alloc: Global) -> Result<Name, Fault>
         ensures reads { IfOk result (λ n. IsArg self.old self.new n) }
         ensures stops { IfErr result (λ f. OnStop f (ArgStops self.old self.new)) }

@@ -47,7 +47,7 @@ impl<'t> Cursor<'t> {
         Ok(limits)
     }
 
-    /// Reads a bound from its word on, and the bracket behind it.
+    /// Reads a bound from its word on, and the bracket after it.
     fn card(&mut self) -> Result<Bound, Fault>
         ensures reads { IfOk result (λ b. IsBound self.old self.new b) }
         ensures stops { IfErr result (λ f. OnStop f (BoundStops self.old self.new)) }
@@ -58,7 +58,7 @@ impl<'t> Cursor<'t> {
         Ok(Bound { range, at })
     }
 
-    /// Reads a bound, if there is one, and the bracket behind it.
+    /// Reads a bound, if there is one, and the bracket after it.
     pub fn bound(&mut self) -> Result<Option<Bound>, Fault>
         ensures reads { IfOk result (λ b. EndsCollection self.old self.new b) }
         ensures stops { IfErr result (λ f. OnStop f (EndStops self.old self.new)) }

@@ -31,7 +31,7 @@ impl<'t> Cursor<'t> {
         Ok(read)
     }
 
-    /// Reads a branch behind its number.
+    /// Reads a branch after its number.
     #[cycle(values)]
     fn numbered(&mut self, number: u128, at: usize, alloc: Global) -> Result<SourceValue, Fault>
         ensures reads { IfOk result (λ v. WholeNumbered number at self.old self.new v) }
@@ -92,7 +92,7 @@ impl<'t> Cursor<'t> {
         Ok(SourceValue::Given(name))
     }
 
-    /// Reads an argument and the bracket behind it.
+    /// Reads an argument and the bracket after it.
     fn argument(&mut self, alloc: Global) -> Result<Name, Fault>
         ensures reads { IfOk result (λ n. IsMade self.old self.new n) }
         ensures stops { IfErr result (λ f. OnStop f (MadeStops self.old self.new)) }
@@ -102,7 +102,7 @@ impl<'t> Cursor<'t> {
         Ok(name)
     }
 
-    /// Reads a branch and the bracket behind it.
+    /// Reads a branch and the bracket after it.
     #[cycle(values)]
     fn bracketed(&mut self, alloc: Global) -> Result<SourceValue, Fault>
         ensures reads { IfOk result (λ v. IsBracketed self.old self.new v) }
@@ -127,7 +127,7 @@ impl<'t> Cursor<'t> {
         Ok(parts)
     }
 
-    /// Reads the other parts of a tuple, and the bracket behind them.
+    /// Reads the other parts of a tuple, and the bracket after them.
     #[cycle(values)]
     fn parts(&mut self, first: SourceValue, alloc: Global) -> Result<Items<SourceValue>, Fault>
         ensures reads { IfOk result (λ vs. ReadsParts self.old self.new first vs) }
@@ -145,7 +145,7 @@ impl<'t> Cursor<'t> {
         }
     }
 
-    /// Reads a case behind its first word.
+    /// Reads a case after its first word.
     #[cycle(values)]
     fn value_case(&mut self, alloc: Global) -> Result<SourceValue, Fault>
         ensures reads { IfOk result (λ v. IsValueCase self.old self.new v) }
@@ -157,7 +157,7 @@ impl<'t> Cursor<'t> {
         Ok(SourceValue::Case { var, arms })
     }
 
-    /// Reads the arms of a case, and the word behind them.
+    /// Reads the arms of a case, and the word after them.
     #[cycle(values)]
     fn value_arms(&mut self, alloc: Global) -> Result<Items<SourceValueArm>, Fault>
         ensures reads { IfOk result (λ arms. AreValueArms self.old self.new arms) }

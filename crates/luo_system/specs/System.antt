@@ -45,7 +45,7 @@ abbrev pub inside_expr : Program → ℕ → Part → Expr
 inside_expr p depth part = named part.name (node_expr p depth part.node)
 
 -- a part as it is written in the source: a name where a name stands, else its construct. Parts by
--- themselves stand behind their node, so the number of nodes is depth enough
+-- themselves come after their node, so the number of nodes is depth enough
 abbrev pub part_expr : Program → Part → Expr
 part_expr p part = inside_expr p (length p.nodes) part
 

@@ -43,7 +43,7 @@ impl<'s> Model for Measured<'s> {
     ghost view = { λ m. (m.name.now, m.value) };
 }
 
-// Puts a definition for each name behind the others.
+// Puts a definition for each name after the others.
 fn put_copies<'s>(all: &mut Vec<Entry<'s>>, def: &'s TypeDef) -> Result<(), NoMemory>
     ensures { OnOk result (all.new.items ≡ all.old.items ++ copies_of def.now) }
 {
@@ -70,7 +70,7 @@ pub(crate) fn definitions<'s>(
     Ok(all)
 }
 
-// Puts a measure for each name behind the others.
+// Puts a measure for each name after the others.
 fn put_values<'s>(all: &mut Vec<Measured<'s>>, def: &'s MeasureDef) -> Result<(), NoMemory>
     ensures { OnOk result (all.new.items ≡ all.old.items ++ values def.now) }
 {

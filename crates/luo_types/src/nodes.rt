@@ -69,7 +69,7 @@ fn construct(expr: &TypeExpr, scheme: &Scheme, at: Spot) -> Result<Option<Shape>
     }
 }
 
-/// Puts the nodes of a type expression of a definition behind the others, the first at this spot.
+/// Puts the nodes of a type expression of a definition after the others, the first at this spot.
 #[cycle(nodes)]
 pub(crate) fn put(
     expr: &TypeExpr,
@@ -118,7 +118,7 @@ fn put_inside(
     }
 }
 
-// Puts the nodes of type expressions, one behind the other.
+// Puts the nodes of type expressions, one after the other.
 #[cycle(nodes)]
 fn put_all(
     exprs: &[TypeExpr],

@@ -12,7 +12,7 @@ use luo_num::Items;
 use luo_rules::Setting;
 use std::alloc::{AllocError, Global};
 
-// Puts the sites of a procedure behind those before it, each with its node.
+// Puts the sites of a procedure after those before it, each with its node.
 fn push_sites(sites: &mut Items<Site>, caller: usize, nodes: &[usize]) -> Result<(), AllocError>
     requires { length nodes.now ≤ 2 ^ 32 }
     ensures { OnOk result (sites.new ≡ sites.old ++ sites_at caller 0 nodes.now) }
@@ -27,7 +27,7 @@ fn push_sites(sites: &mut Items<Site>, caller: usize, nodes: &[usize]) -> Result
     Ok(())
 }
 
-// Puts the sites of a procedure behind those before it, and counts its walks.
+// Puts the sites of a procedure after those before it, and counts its walks.
 fn push_procedure(
     alloc: Global,
     setting: &Setting,

@@ -40,7 +40,7 @@ impl Model for Spot {
 }
 
 impl Spot {
-    /// So many nodes behind.
+    /// So many nodes further on.
     pub fn behind(self, count: usize) -> Spot
         requires { self.node + count ≤ NODE_LIMIT }
         ensures { result ≡ behind self count }
@@ -130,7 +130,7 @@ impl<'s> Scheme<'s> {
         }
     }
 
-    /// The parts that stand for type expressions, one behind the other.
+    /// The parts that stand for type expressions, one after the other.
     pub fn parts(&self, at: Spot, exprs: &[TypeExpr]) -> Result<Items<Part>, NoMemory>
         requires { at.node + sum_by nodes_in exprs.now ≤ NODE_LIMIT }
         ensures { IfOk result (λ parts. parts

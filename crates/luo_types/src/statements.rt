@@ -207,7 +207,7 @@ fn walk(
     Ok(())
 }
 
-/// Checks statements one behind the other, and adds what they do to the body, with the next sites.
+/// Checks statements one after the other, and adds what they do to the body, with the next sites.
 ///
 /// It stops at the first breach.
 #[cycle(statements)]

@@ -93,7 +93,7 @@ impl Line {
     }
 }
 
-// The number of sequences of the next size, marked, with what is kept for the sizes behind it.
+// The number of sequences of the next size, marked, with what is kept for the sizes after it.
 fn next_number(
     steps: Steps,
     kept: &mut [u128],

@@ -117,7 +117,7 @@ impl LineWalk {
     }
 }
 
-// The charges over the sequences of the next size, marked, with what is kept for the sizes behind it.
+// The charges over the sequences of the next size, marked, with what is kept for the sizes after it.
 fn next_total(
     steps: Steps,
     counts: &[u128],

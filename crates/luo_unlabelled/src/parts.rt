@@ -130,7 +130,7 @@ impl Parts {
     }
 }
 
-// The number of collections of the next size, marked, with what is kept for the sizes behind it.
+// The number of collections of the next size, marked, with what is kept for the sizes after it.
 fn next_number(
     frame: Frame,
     kept: &mut [u128],

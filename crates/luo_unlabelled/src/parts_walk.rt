@@ -119,7 +119,7 @@ impl PartsWalk {
     }
 }
 
-// The charges over the collections of the next size, marked, with what is kept for the sizes behind it.
+// The charges over the collections of the next size, marked, with what is kept for the sizes after it.
 fn next_total(
     frame: Frame,
     counts: &[u128],

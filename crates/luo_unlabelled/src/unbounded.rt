@@ -112,7 +112,7 @@ impl Unbounded {
     }
 }
 
-// The number of collections of the next size, marked, with what is kept for the sizes behind it.
+// The number of collections of the next size, marked, with what is kept for the sizes after it.
 fn next_number(
     kind: Kind,
     low: u32,

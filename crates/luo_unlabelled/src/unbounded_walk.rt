@@ -124,7 +124,7 @@ impl UnboundedWalk {
     }
 }
 
-// The charges over the collections of the next size, marked, with what is kept for the sizes behind it.
+// The charges over the collections of the next size, marked, with what is kept for the sizes after it.
 fn next_total(
     kind: Kind,
     counts: &[u128],

@@ -6,7 +6,7 @@ ghost use Rattle.luo_value_types.specs.inner.Items.{HasItem};
 use luo_model::{Body, Item};
 use std::alloc::AllocError;
 
-/// Puts an item behind those of a body.
+/// Puts an item after those of a body.
 pub fn push_item(body: &mut Body, item: Item) -> Result<(), AllocError>
     ensures { OnOk result (HasItem (item_of item) body.old body.new) }
 {

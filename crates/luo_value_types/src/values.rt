@@ -35,7 +35,7 @@ struct Subject<'s> {
 }
 
 /// Checks a value where a structure of this node is expected, and makes its core form. Its charges,
-/// calls and cases go behind those of the maker's body, with its next sites. It stops at its first
+/// calls and cases go after those of the maker's body, with its next sites. It stops at its first
 /// breach.
 #[cycle(values)]
 pub fn value(

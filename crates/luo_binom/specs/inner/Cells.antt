@@ -1,4 +1,4 @@
--- Binomials in a table, row behind row.
+-- Binomials in a table, row after row.
 use Rattle.std.specs.Prelude.{◌≡◌, ℕ, ◌+◌, ◌*◌, ◌<◌, ◌≤◌, List, length, slice_index}
 use Rattle.luo_num.specs.Mark.{capped}
 use Rattle.luo_finite.specs.Binomial.{choose}

@@ -32,8 +32,8 @@ pub record IsScopeThere (nodes sites : ℕ) (links : List (Option Link)) (Z : Sc
 abbrev pub factor_of : Link → plain.FactorSites
 factor_of l = record { node = l.node; sites = l.sites }
 
--- Z is the scope S, with the rows of its factors from `start` on, and behind each the factors
--- behind it
+-- Z is the scope S, with the rows of its factors from `start` on, and after each the factors
+-- after it
 pub record IsScope (factors : List (Option ℕ)) (links : List (Option Link)) (S : plain.Scope)
     (Z : Scope) : Type 0 where
   pub own : Z.own ≡ S.own
@@ -60,7 +60,7 @@ IsTask factors links (plain.of_each x body_site) (Walk collection body) =
     (collection ≡ x) × (body ≡ body_site)
 IsTask factors links _ _ = ⊥
 
--- what a link names is there, and a row stands behind it
+-- what a link names is there, and a row comes after it
 pub record IsLinked (nodes sites rows width : ℕ) (r : ℕ) (l : Link) : Type 0 where
   pub node : l.node < nodes
   pub behind : l.behind < rows

@@ -1,4 +1,4 @@
--- The recipes of a program's sites, and how they are laid out one behind the other.
+-- The recipes of a program's sites, and how they are laid out one after the other.
 use Rattle.std.specs.Prelude.{◌≡◌, ℕ, suc, List, [], ◌∷◌, ◌++◌, length, flat_map, slice_index, Option, Some, None}
 use Rattle.luo_model.specs.declared.program.Part.{Part}
 use Rattle.luo_model.specs.declared.program.Shape.{Shape}
@@ -54,7 +54,7 @@ abbrev pub rows_of_scopes : List ℕ → List plain.Scope → List (Option Link)
 rows_of_scopes starts [] = []
 rows_of_scopes starts (S ∷ Ss) = rows_of_scope starts S ++ rows_of_scopes starts Ss
 
--- a scope whose rows stand behind those that there are
+-- a scope whose rows come after those that there are
 abbrev pub placed_scope : ℕ → plain.Scope → Scope
 placed_scope width S =
     record { own = S.own; node = S.node; sites = S.sites; start = width; arity = length S.parts }
@@ -87,7 +87,7 @@ abbrev pub union_parts : Shape → List Part
 union_parts (shape.Union parts) = parts
 union_parts _ = []
 
--- the scope has been put behind the others
+-- the scope has been put after the others
 pub record IsPushed (starts : List ℕ) (old new : List (Option Link)) (Z : Scope)
     (S : plain.Scope) : Type 0 where
   pub is : Z ≡ placed_scope (length old) S

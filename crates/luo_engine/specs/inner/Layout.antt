@@ -13,7 +13,7 @@ use Rattle.luo_recipes.specs.Partial.{AreLinks}
 abbrev pub rows_of_parts : List Part → List (Option ℕ)
 rows_of_parts parts = map (λ part. Some part.node) parts ++ None ∷ []
 
--- one more node: the rows of a product stand behind all others
+-- one more node: the rows of a product come after all others
 abbrev pub laid_behind : Layout → Shape → Layout
 laid_behind l (Product parts) =
     record {

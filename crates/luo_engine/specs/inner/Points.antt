@@ -28,7 +28,7 @@ open_point u counts totals factors (Some l ∷ rest) n =
     sum_by (λ s. inner u (totals s) (tail_of u counts (drop l.behind factors)) n) l.sites
     + inner u (counts l.node) (point_of u counts totals factors rest) n
 
--- what a link names is there, and a row stands behind it
+-- what a link names is there, and a row comes after it
 pub record IsLink
     (counts totals : List (List ℕ)) (factors : List (Option ℕ)) (links : List (Option Link)) (r : ℕ)
     (l : Link) : Type 0 where

@@ -31,7 +31,7 @@ work_level wholes (of_walk body) = 0
 abbrev pub levels_of : List ℕ → List (ℕ × Work) → List ℕ
 levels_of wholes works = map (λ w. work_level wholes w.1) works
 
--- those of the sites of a body, and its own behind them
+-- those of the sites of a body, and its own after them
 abbrev pub levels_of_body : List ℕ → Body → List ℕ
 levels_of_body wholes body = levels_of wholes (works_of_body body) ++ body_level wholes body ∷ []
 

@@ -11,7 +11,7 @@ use Rattle.luo_counting.specs.Items.{Suits}
 use Rattle.luo_counting.specs.Numbers.{coll_count, coll_total}
 use Rattle.luo_labelled.specs.declared.steps.Steps.{Steps}
 
--- what stands behind the first component
+-- what comes after the first component
 abbrev pub rest_of : Kind → Kind
 rest_of Set = Set
 rest_of Sequence = Sequence
@@ -36,7 +36,7 @@ ways false n j = choose n j
 abbrev pub joined : Bool → (ℕ → ℕ) → (ℕ → ℕ) → ℕ → ℕ
 joined led a f n = sum_below (λ j. ways led n (suc j) * (a (suc j) * f (n - suc j))) n
 
--- the bounds behind one component, and whether they allow one
+-- the bounds after one component, and whether they allow one
 abbrev pub one_less : Option ℕ → Option ℕ
 one_less (Some high) = Some (high - 1)
 one_less None = None

@@ -31,16 +31,16 @@ use Rattle.luo_places.specs.Tails.{Tail, factors, items, tail_of, behind_some, b
 abbrev pub entry_of : List (List ℕ) → ℕ → ℕ → ℕ
 entry_of rows x n = slice_index (slice_index_or rows x []) n
 
--- what is left of a structure of node x behind its first f parts
+-- what is left of a structure of node x after its first f parts
 abbrev pub tail_at : Program → ℕ → ℕ → Tail
 tail_at p x f = behind_some (tail_of (shape_of p x)) f
 
--- trees behind others
+-- trees after others
 abbrev pub behind : Trees → Trees → Trees
 behind none us = us
 behind (more t ts) us = more t (behind ts us)
 
--- behind the trees of `old` stand those at place r of what is left behind f parts of a structure of
+-- after the trees of `old` stand those at place r of what is left after f parts of a structure of
 -- node x
 abbrev pub Tailed : Program → ℕ → ℕ → List ℕ → ℕ → ℕ → Trees → Trees → Type 0
 Tailed p x f L n r old new =
@@ -78,7 +78,7 @@ IsLeft (factors []) n = ⊥
 IsLeft (factors (part ∷ parts)) n = Unit {0}
 IsLeft (items kind y low high) n = 1 ≤ n
 
--- behind f parts of a structure of a product or a collection, size n is left
+-- after f parts of a structure of a product or a collection, size n is left
 abbrev pub Stands : Shape → ℕ → ℕ → ℕ → Type 0
 Stands (Product parts) last f n = f ≤ length parts
 Stands (Coll kind part low high) last f n = f + n ≤ last
@@ -108,13 +108,13 @@ abbrev pub left_count : Looked → ℕ → ℕ → ℕ → ℕ
 left_count t x f n =
     tail_count t.program.universe (entry_of t.counts) (tail_at (plain_of t.program) x f) n
 
--- the most parts behind which something may be left
+-- the most parts after which something may be left
 abbrev pub top_of : Shape → ℕ → ℕ
 top_of (Product parts) last = length parts
 top_of (Coll kind part low high) last = last
 top_of _ last = 0
 
--- how many there are of what is left behind f parts, marked, as far as it stands
+-- how many there are of what is left after f parts, marked, as far as it stands
 abbrev pub IsRow : Looked → ℕ → ℕ → List ℕ → Type 0
 IsRow t x f row =
     (n : ℕ) → Stands (shape_of (plain_of t.program) x) t.last f n → n ≤ t.last
@@ -219,13 +219,13 @@ IsLedTail (items Set y low high) = Unit {0}
 IsLedTail (items Cycle y low high) = Unit {0}
 IsLedTail _ = ⊥
 
--- the chosen labels stand behind those of `first`, and the others behind those of `rest`
+-- the chosen labels come after those of `first`, and the others after those of `rest`
 abbrev pub IsChosen : List ℕ → List ℕ → List ℕ → List ℕ → List ℕ → List ℕ → Type 0
 IsChosen labels chosen first first_new rest rest_new =
     (first_new ≡ first ++ chosen)
     × ((T : List ℕ) × In (chosen, T) (splits labels) × (rest_new ≡ rest ++ T))
 
--- the choice at a place stands behind the labels of `first`, and the others are the rest
+-- the choice at a place comes after the labels of `first`, and the others are the rest
 abbrev pub ArePlaced : List ℕ → ℕ → ℕ → List ℕ → List ℕ → List ℕ → Type 0
 ArePlaced labels size place first first_new rest =
     (C : List ℕ) × (first_new ≡ first ++ C) × In (C, rest) (splits labels)
@@ -263,7 +263,7 @@ abbrev pub AreWays : Kind → ℕ → ℕ → ℕ → List ℕ → Type 0
 AreWays kind c d n ways =
     (j : ℕ) → j * d ≤ n → (j < length ways) × (slice_index ways j ≡ capped (chosen kind c j))
 
--- what the bounds leave behind f components
+-- what the bounds leave after f components
 abbrev pub less_by : ℕ → Option ℕ → Option ℕ
 less_by f (Some high) = Some (high - f)
 less_by f None = None

@@ -18,7 +18,7 @@ pub data State : Type 0 where
 abbrev pub is_digit : ℕ → Bool
 is_digit b = if nat_le 48 b then nat_le b 57 else nat_le 1 0
 
--- a digit more behind a number, without a leading zero and within six digits
+-- a digit more after a number, without a leading zero and within six digits
 abbrev pub longer_number : Option ℕ → ℕ → Option ℕ
 longer_number None b = if is_digit b then Some (b - 48) else None
 longer_number (Some zero) b = None
@@ -60,7 +60,7 @@ abbrev pub tuple_closed : List Open → List Tree → Tree → Option State
 tuple_closed os [] t = None
 tuple_closed os (u ∷ us) t = Some (closed os (Tup (from_list ((u ∷ us) ++ t ∷ []))))
 
--- the byte behind a structure
+-- the byte after a structure
 abbrev pub passed : List Open → Tree → ℕ → Option State
 passed [] t b = None
 passed (Branch number ∷ os) t b = None
@@ -73,7 +73,7 @@ passed (Collection ts ∷ os) t b =
     (state (Collection (ts ++ t ∷ []) ∷ os) Begin) else (if nat_eq b 93 then Some
     (closed os (Coll (from_list (ts ++ t ∷ [])))) else None)
 
--- the same, of a state that stands behind a structure
+-- the same, of a state that comes after a structure
 abbrev pub passed_from : State → ℕ → Option State
 passed_from (state os (Behind t)) b = passed os t b
 passed_from _ b = None
@@ -117,7 +117,7 @@ run_from o (b ∷ bs) = run_from (option_and_then (λ s. step s b) o) bs
 abbrev pub run : State → List ℕ → Option State
 run s bs = run_from (Some s) bs
 
--- an atom whose number is read stands behind it
+-- an atom whose number is read comes after it
 abbrev pub settled : State → State
 settled (state os (Weight (Some weight))) = closed os (Atom weight 0)
 settled (state os (Label (Some label))) = closed os (Atom 1 label)

@@ -31,7 +31,7 @@ AreLabels Labelled L n = IsRoom Labelled L n
 abbrev pub Here : Looked → ℕ → List ℕ → ℕ → Tree → Type 0
 Here t x L n s = IsStructureOn (plain_of t.program) x L n s
 
--- what can be left behind f parts
+-- what can be left after f parts
 abbrev pub Left : Looked → ℕ → ℕ → List ℕ → ℕ → Trees → Type 0
 Left t x f L n ts = TailOn (plain_of t.program) (tail_at (plain_of t.program) x f) L n ts
 
@@ -41,7 +41,7 @@ pub record IsHere (t : Looked) (x : ℕ) (L : List ℕ) (n : ℕ) (s : Tree) : T
   pub within : n ≤ t.last
   pub is : Here t x L n s
 
--- these are left behind f parts
+-- these are left after f parts
 pub record AreHere (t : Looked) (x f : ℕ) (L : List ℕ) (n : ℕ) (ts : Trees) : Type 0 where
   pub labels : AreLabels t.program.universe L n
   pub within : n ≤ t.last
@@ -54,7 +54,7 @@ IsSome t x s = (L : List ℕ) × (n : ℕ) × IsHere t x L n s
 abbrev pub AreSome : Looked → ℕ → ℕ → Trees → Type 0
 AreSome t x f ts = (L : List ℕ) × (n : ℕ) × AreHere t x f L n ts
 
--- something is left behind f parts
+-- something is left after f parts
 abbrev pub HasPart : Looked → ℕ → ℕ → Type 0
 HasPart t x f =
     (n : ℕ) × Stands (shape_of (plain_of t.program) x) t.last f n
@@ -80,7 +80,7 @@ up_to zero xs = []
 up_to (suc k) [] = []
 up_to (suc k) (x ∷ xs) = x ∷ up_to k xs
 
--- behind those of `before` stand the next parts; or the parts were the last, and are taken off; or
+-- after those of `before` stand the next parts; or the parts were the last, and are taken off; or
 -- nothing is told
 abbrev pub Moved : Looked → ℕ → ℕ → List Structure → Trees → List Structure → List ℕ → Row → Type 0
 Moved t x f before ts new labels row.On = (L : List ℕ) (n : ℕ) → AreHere t x f L n ts
@@ -91,7 +91,7 @@ Moved t x f before ts new labels (row.Ended m) =
     → (m ≡ n) × (labels ≡ L) × IsLast (Left t x f L n) PartsBefore ts)
 Moved t x f before ts new labels row.Untold = Unit {0}
 
--- behind the trees of `old` stand the first of what is left
+-- after the trees of `old` stand the first of what is left
 abbrev pub Began : Looked → ℕ → ℕ → List ℕ → ℕ → Trees → Trees → Type 0
 Began t x f L n old new =
     (us : Trees) × IsFirst (Left t x f L n) PartsBefore us × (new ≡ behind old us)
@@ -126,7 +126,7 @@ pub record AreParts (t : Looked) (L : List ℕ) (n k : ℕ) (D U : List ℕ) : T
   pub first : AreLabels t.program.universe D k
   pub rest : AreLabels t.program.universe U (n - k)
 
--- they are the next, in size and labels, behind i and C
+-- they are the next, in size and labels, after i and C
 pub record IsNextRoom (t : Looked) (x f : ℕ) (L : List ℕ) (n i : ℕ) (C : List ℕ) (k : ℕ)
     (D U : List ℕ) : Type 0 where
   pub parts : AreParts t L n k D U
@@ -135,7 +135,7 @@ pub record IsNextRoom (t : Looked) (x f : ℕ) (L : List ℕ) (n i : ℕ) (C : L
 abbrev pub IsLastRoom : Looked → ℕ → ℕ → List ℕ → ℕ → ℕ → List ℕ → Type 0
 IsLastRoom t x f L n i C = IsLast (Rooms t x f L n) RoomBefore (i, C)
 
--- the first and the rest begin again in the next room, behind the trees of `old`; or there is none
+-- the first and the rest begin again in the next room, after the trees of `old`; or there is none
 abbrev pub Turned : Looked → ℕ → ℕ → List ℕ → ℕ → ℕ → List ℕ → List Structure → List Structure
     → Bool → Type 0
 Turned t x f L n i C old new false = IsLastRoom t x f L n i C × (new ≡ old)

@@ -5,7 +5,7 @@ use Rattle.luo_model.specs.declared.program.Kind.TheVariants.{Sequence, Set, Cyc
 use Rattle.luo_model.specs.Tree.{Tree, Trees, none, more, least_label}
 use Rattle.luo_model.specs.Order.{IsBefore, IsNotBefore}
 
--- a component and the one behind it, where a cycle's are looked at by themselves
+-- a component and the one after it, where a cycle's are looked at by themselves
 abbrev pub StandBeside : Kind → Tree → Tree → Type 0
 StandBeside Sequence s t = Unit {0}
 StandBeside Set s t = least_label s < least_label t

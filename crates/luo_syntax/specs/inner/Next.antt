@@ -8,17 +8,17 @@ use Rattle.luo_source.specs.declared.names.Name.{Name}
 use Rattle.luo_syntax.specs.declared.fault.Fault.{Fault}
 use Rattle.luo_syntax.specs.declared.fault.Fault.TheVariants.{Stops}
 
--- a lexeme of this kind comes next, and these are behind it
+-- a lexeme of this kind comes next, and these come after it
 pub data IsNext : TokenKind → List Lexeme → List Lexeme → Type 0 where
   next : {what : TokenKind} {bytes : List ℕ} {at : ℕ} {to : List Lexeme}
       → IsNext what (lexeme what bytes at ∷ to) to
 
--- a lexeme of this kind and this number comes next, and these are behind it
+-- a lexeme of this kind and this number comes next, and these come after it
 pub data IsNextAt : TokenKind → ℕ → List Lexeme → List Lexeme → Type 0 where
   next_at : {what : TokenKind} {bytes : List ℕ} {at : ℕ} {to : List Lexeme}
       → IsNextAt what at (lexeme what bytes at ∷ to) to
 
--- this name comes next, and these are behind it
+-- this name comes next, and these come after it
 pub data IsName : List Lexeme → List Lexeme → Name → Type 0 where
   next_name : {text : List ℕ} {at : ℕ} {to : List Lexeme}
       → IsName (lexeme kind.Name text at ∷ to) to (record { text = text; at = at })

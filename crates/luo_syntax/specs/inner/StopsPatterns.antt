@@ -11,7 +11,7 @@ use Rattle.luo_source.specs.Ends.{No, EndsPattern}
 use Rattle.luo_syntax.specs.inner.Next.{IsNext, IsNextAt, IsName, NoName, MissesName}
 use Rattle.luo_syntax.specs.inner.StopsNames.{NamesStop}
 
--- this name, and these lexemes behind it
+-- this name, and these lexemes after it
 abbrev pub behind_name : Name → List Lexeme → List Lexeme
 behind_name name ls = lexeme kind.Name name.text name.at ∷ ls
 

@@ -106,7 +106,7 @@ pub data AnalysesStop : List Lexeme → List Lexeme → Type 0 where
   past_analysis : {from mid at : List Lexeme} {name : Name} → IsAnalyze from mid name
       → (mid ≡ [] → ⊥) → AnalysesStop mid at → AnalysesStop from at
 
--- {proc} and all behind are being read from these lexemes, and can't go on at those
+-- {proc} and all after it are being read from these lexemes, and can't go on at those
 pub data FromProcsStop : List Lexeme → List Lexeme → Type 0 where
   in_proc : {from mid at : List Lexeme} → IsNext (kind.Word KwProcedure) from mid
       → ProcStops from at → FromProcsStop from at
@@ -115,7 +115,7 @@ pub data FromProcsStop : List Lexeme → List Lexeme → Type 0 where
   past_procs : {from at : List Lexeme} → No (kind.Word KwProcedure) from → AnalysesStop from at
       → FromProcsStop from at
 
--- {measure} and all behind are being read from these lexemes, and can't go on at those
+-- {measure} and all after it are being read from these lexemes, and can't go on at those
 pub data FromMeasuresStop : List Lexeme → List Lexeme → Type 0 where
   in_measure : {from mid at : List Lexeme} → IsNext (kind.Word KwMeasure) from mid
       → MeasureStops from at → FromMeasuresStop from at
@@ -124,7 +124,7 @@ pub data FromMeasuresStop : List Lexeme → List Lexeme → Type 0 where
   past_measures : {from at : List Lexeme} → No (kind.Word KwMeasure) from → FromProcsStop from at
       → FromMeasuresStop from at
 
--- {typedef} and all behind are being read from these lexemes, and can't go on at those
+-- {typedef} and all after it are being read from these lexemes, and can't go on at those
 pub data FromTypesStop : List Lexeme → List Lexeme → Type 0 where
   in_type : {from mid at : List Lexeme} → IsNext (kind.Word KwType) from mid → TypeDefStops from at
       → FromTypesStop from at

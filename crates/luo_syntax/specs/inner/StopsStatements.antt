@@ -33,7 +33,7 @@ pub data IsInside : List Lexeme → List Lexeme → List Stmt → Type 0 where
   stmts_inside : {from to : List Lexeme} {stmts : List Stmt} → AreStmts from to stmts
       → IsInside from to stmts
 
--- behind this word the rest of this statement is read
+-- after this word the rest of this statement is read
 abbrev pub IsBehind : Word → List Lexeme → List Lexeme → Stmt → Type 0
 IsBehind word from to stmt =
     (bytes : List ℕ) (at : ℕ) → IsStmt (lexeme (kind.Word word) bytes at ∷ from) to stmt

@@ -57,7 +57,7 @@ pub data WholeValue : List Lexeme → List Lexeme → SourceValue → Type 0 whe
   whole_inner : {from to : List Lexeme} {v : SourceValue} → IsInner from to v → InnerEnds v to
       → WholeValue from to v
 
--- behind the number of a branch the rest of it is read from these lexemes to those, and isn't gone
+-- after the number of a branch the rest of it is read from these lexemes to those, and isn't gone
 -- on with there
 pub data WholeNumbered (n k : ℕ) : List Lexeme → List Lexeme → SourceValue → Type 0 where
   whole_numbered : {from to : List Lexeme} {v : SourceValue} → IsNumbered from to v → InnerEnds v to
@@ -79,7 +79,7 @@ NoInner ls =
 abbrev pub ReadsParts : List Lexeme → List Lexeme → SourceValue → List SourceValue → Type 0
 ReadsParts from to first vs = (us : List SourceValue) × (vs ≡ first ∷ us) × AreParts from to us
 
--- what stands in round brackets behind a callee is being read from these lexemes, and can't go on
+-- what stands in round brackets after a callee is being read from these lexemes, and can't go on
 -- at those
 pub data MadeStops : List Lexeme → List Lexeme → Type 0 where
   made_name : {from at : List Lexeme} → MissesName from at → MadeStops from at
@@ -95,7 +95,7 @@ mutual
         → ValueStops from at
     in_inner : {from at : List Lexeme} → BegunStops from at → ValueStops from at
 
-  -- what stands behind a branch's number is being read from these lexemes, and can't go on at those
+  -- what comes after a branch's number is being read from these lexemes, and can't go on at those
   pub data NumberedStops : List Lexeme → List Lexeme → Type 0 where
     numbered_colon : {from at : List Lexeme} → Misses (kind.Mark Colon) from at
         → NumberedStops from at
@@ -119,7 +119,7 @@ mutual
     inner_made : {from mid next at : List Lexeme} {name : Name} → IsName from mid name
         → IsNext (kind.Mark LeftRound) mid next → MadeStops next at → BegunStops from at
 
-  -- a branch in round brackets is being read from these lexemes, behind the first bracket, and
+  -- a branch in round brackets is being read from these lexemes, after the first bracket, and
   -- can't go on at those
   pub data BracketedStops : List Lexeme → List Lexeme → Type 0 where
     bracketed_number : {from at : List Lexeme} → MissesNumber from at → BracketedStops from at
@@ -129,7 +129,7 @@ mutual
         → IsNextAt (kind.Number n) k from mid → IsNumbered mid next v → InnerEnds v next
         → Misses (kind.Mark RightRound) next at → BracketedStops from at
 
-  -- parts of a tuple are being read from these lexemes, behind the word, and can't go on at those
+  -- parts of a tuple are being read from these lexemes, after the word, and can't go on at those
   pub data TupleStops : List Lexeme → List Lexeme → Type 0 where
     tuple_left : {from at : List Lexeme} → Misses (kind.Mark LeftRound) from at → TupleStops from at
     tuple_first : {from mid at : List Lexeme} → IsNext (kind.Mark LeftRound) from mid
@@ -149,7 +149,7 @@ mutual
     past_parts : {from next mid at : List Lexeme} {v : SourceValue} → IsValue from next v
         → IsNext (kind.Mark Comma) next mid → PartsStop mid at → PartsStop from at
 
-  -- a case in a value is being read from these lexemes, behind the word, and can't go on at those
+  -- a case in a value is being read from these lexemes, after the word, and can't go on at those
   pub data ValueCaseStops : List Lexeme → List Lexeme → Type 0 where
     value_case_name : {from at : List Lexeme} → MissesName from at → ValueCaseStops from at
     value_case_of : {from mid at : List Lexeme} {name : Name} → IsName from mid name

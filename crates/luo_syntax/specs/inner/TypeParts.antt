@@ -20,7 +20,7 @@ abbrev pub MissesCollection : List Lexeme → List Lexeme → Type 0
 MissesCollection from at =
     (at ≡ from) × ((word : Word) (of : Kind) → IsCollection word of → No (kind.Word word) from)
 
--- the word of a collection of this kind, of this number, comes next, and these are behind it
+-- the word of a collection of this kind, of this number, comes next, and these come after it
 pub data IsCollectionNext : Kind → ℕ → List Lexeme → List Lexeme → Type 0 where
   collection_next : {word : Word} {of : Kind} {at : ℕ} {from to : List Lexeme}
       → IsCollection word of → IsNextAt (kind.Word word) at from to → IsCollectionNext of at from to
@@ -54,16 +54,16 @@ pub data AreParts : List Lexeme → List Lexeme → List TypeExpr → Type 0 whe
       → IsExpr from (lexeme (kind.Mark Comma) d l ∷ mid) t → AreFactors mid to ts
       → AreParts (lexeme (kind.Mark LeftRound) c k ∷ from) to (t ∷ ts)
 
--- "(" texpr ["," "card" bound] ")", behind the word of a collection of this kind, of this number
+-- "(" texpr ["," "card" bound] ")", after the word of a collection of this kind, of this number
 pub data IsInside : Kind → ℕ → List Lexeme → List Lexeme → TypeExpr → Type 0 where
   inside : {of : Kind} {at : ℕ} {from mid to : List Lexeme} {c : List ℕ} {k : ℕ} {t : TypeExpr}
       {b : Option Bound} → IsExpr from mid t → EndsCollection mid to b
       → IsInside of at (lexeme (kind.Mark LeftRound) c k ∷ from) to (Coll of t b at)
 
--- tterm {"|" tterm}, behind this one
+-- tterm {"|" tterm}, after this one
 abbrev pub ReadsTerms : List Lexeme → List Lexeme → TypeExpr → List TypeExpr → Type 0
 ReadsTerms from to first ts = (us : List TypeExpr) × (ts ≡ first ∷ us) × AreTerms from to us
 
--- texpr {"," texpr} ")", behind this one
+-- texpr {"," texpr} ")", after this one
 abbrev pub ReadsFactors : List Lexeme → List Lexeme → TypeExpr → List TypeExpr → Type 0
 ReadsFactors from to first ts = (us : List TypeExpr) × (ts ≡ first ∷ us) × AreFactors from to us

@@ -35,7 +35,7 @@ pub record FitsAt (universe : Universe) (names : List (List ℕ × Meaning)) (at
   pub clean : breaches_in universe names e ≡ []
   pub small : bound_in e ≤ BOUND_LIMIT
 
--- those of type expressions may, one behind the other
+-- those of type expressions may, one after the other
 pub record AllFitAt (universe : Universe) (names : List (List ℕ × Meaning)) (at : Spot)
     (es : List TypeExpr) : Type 0 where
   pub room : at.node + sum_by nodes_in es ≤ NODE_LIMIT
@@ -43,12 +43,12 @@ pub record AllFitAt (universe : Universe) (names : List (List ℕ × Meaning)) (
   pub small : greatest_by bound_in es ≤ BOUND_LIMIT
 
 module _ (names : List (List ℕ × Meaning)) (defs : List Definition) where
-  -- the parts that stand for type expressions, one behind the other
+  -- the parts that stand for type expressions, one after the other
   abbrev pub parts_of : Spot → List TypeExpr → List Part
   parts_of at [] = []
   parts_of at (e ∷ es) = part_at names defs at (expr_of e) ∷ parts_of (behind at (nodes_in e)) es
 
-  -- the nodes of type expressions of definition `owner`, one behind the other
+  -- the nodes of type expressions of definition `owner`, one after the other
   abbrev pub nodes_of : ℕ → Spot → List TypeExpr → List Node
   nodes_of owner at [] = []
   nodes_of owner at (e ∷ es) =

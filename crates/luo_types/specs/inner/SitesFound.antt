@@ -11,7 +11,7 @@ use Rattle.luo_types.specs.declared.sites.Found.{Found}
 abbrev pub nodes_of : List (ℕ × ℕ) → List ℕ
 nodes_of sites = map (λ site. site.1) sites
 
--- these nodes stand behind those found before, and so many walks were found
+-- these nodes come after those found before, and so many walks were found
 pub record IsFound (nodes : List ℕ) (walks : ℕ) (old new : Found) : Type 0 where
   pub nodes_are : new.nodes ≡ old.nodes ++ nodes
   pub walks_are : new.walks ≡ old.walks + walks

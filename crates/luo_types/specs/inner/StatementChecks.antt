@@ -26,7 +26,7 @@ ChecksCharge s measure result old new =
     Checks (measure_use (meant s measure) measure) result
     (λ u. new ≡ record { own = own; items = old.items })
 
--- the check of a statement, and of statements: what they do goes behind what the maker had
+-- the check of a statement, and of statements: what they do goes after what the maker had
 abbrev pub ChecksStmt : Setting → List Variable → Stmt
     → Result Unit Stop → Maker → Maker → Type 0
 ChecksStmt s scope stmt result old new =

@@ -21,7 +21,7 @@ use Rattle.luo_rules.specs.StatementBreaches.{walked, walk_breaches, stmt_breach
 use Rattle.luo_rules.specs.StatementCore.{stmt_sites, stmts_sites, arms_sites, arms_core}
 use Rattle.luo_rules.specs.inner.StatementLists.{stmt_does, stmts_does, one_arm_breaches, arm_sites}
 
--- nothing is broken; what is done stands behind the old body; and so many sites are the next ones
+-- nothing is broken; what is done comes after the old body; and so many sites are the next ones
 pub record IsAdded (breaches : List Breach) (does : plain.Body) (sites : ℕ) (old new : Body)
     (first next : ℕ) : Type 0 where
   pub unbroken : breaches ≡ []
@@ -34,7 +34,7 @@ IsStmtAdded s scope stmt old new first next =
     IsAdded (stmt_breaches s scope (stmt_of stmt)) (stmt_does s scope first (stmt_of stmt))
     (stmt_sites (stmt_of stmt)) old new first next
 
--- statements were checked and added, one behind the other
+-- statements were checked and added, one after the other
 abbrev pub AreStmtsAdded : Setting → List Variable → List Stmt → Body → Body → ℕ → ℕ → Type 0
 AreStmtsAdded s scope stmts old new first next =
     IsAdded (stmts_breaches s scope (stmt_list stmts)) (stmts_does s scope first (stmt_list stmts))

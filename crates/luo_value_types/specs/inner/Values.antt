@@ -26,7 +26,7 @@ use Rattle.luo_value_types.specs.declared.context.Maker.{Maker}
 abbrev pub HasRoomFor : ℕ → Maker → Type 0
 HasRoomFor statements m = HasRoom statements m.body.own m.next
 
--- the check of a value, of which this node is expected: it is made behind what the maker had
+-- the check of a value, of which this node is expected: it is made after what the maker had
 abbrev pub ChecksValue : Setting → List Variable → ℕ → SourceValue
     → Result Value Stop → Maker → Maker → Type 0
 ChecksValue s scope e v result old new =
