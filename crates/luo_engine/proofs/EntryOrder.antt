@@ -7,8 +7,8 @@ use Rattle.luo_model.specs.Program.{Program, site_node}
 use Rattle.luo_model.specs.Invariant.{IsProgram}
 use Rattle.luo_model.specs.Founded.{IsFounded}
 use Rattle.luo_engine.specs.Entries.{IsThere, LessOr, Precedes}
-use Rattle.luo_recipes.proofs.RankFacts.{rank_comes}
-use Rattle.luo_recipes.proofs.LevelFacts.{level_exists}
+use Rattle.luo_engine.proofs.inner.RankFacts.{rank_comes}
+use Rattle.luo_engine.proofs.inner.LevelFacts.{level_exists}
 
 neither : (a b : ℕ) → (a < b → ⊥) → (b < a → ⊥) → a ≡ b
 neither a b h k = grind arith

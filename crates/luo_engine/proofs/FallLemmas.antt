@@ -20,8 +20,8 @@ use Rattle.luo_model.specs.Founded.{IsFounded}
 use Rattle.luo_model.proofs.NodeLemmas.{node_at_place}
 use Rattle.luo_model.proofs.WorkLemmas.{sites_are_apart}
 use Rattle.luo_recipes.specs.Obeys.{Falls}
-use Rattle.luo_recipes.specs.Filled.{rank_of}
-use Rattle.luo_recipes.specs.Listed.{IsSiteBefore}
+use Rattle.luo_engine.specs.inner.Filled.{rank_of}
+use Rattle.luo_engine.specs.inner.Listed.{IsSiteBefore}
 use Rattle.luo_recipes.specs.Tasks.{Doing, does, calls, chooses, walks, work_of, Job, jobs_of_body, jobs_of_items, jobs_of_item, jobs_of_arms, jobs_of, FactorSites, Scope, var_in, site_in, sites_on, factors_from, scope_of, scopes_of, stand_nodes, whole_sites, of_scopes, of_each, recipe_of}
 use Rattle.luo_recipes.proofs.CountLemmas.{number, obeys}
 use Rattle.luo_recipes.proofs.JobLemmas.{job_is}

@@ -10,10 +10,10 @@ use Rattle.luo_model.specs.Invariant.{IsProgram}
 use Rattle.luo_model.specs.Tables.{IsCount, IsTotal}
 use Rattle.luo_model.specs.Levels.{IsRank, IsLevel}
 use Rattle.luo_engine.specs.Entries.{IsThere, Has, IsNumber, Precedes, IsEarlier, IsFirstOver, NoneOver}
-use Rattle.luo_recipes.specs.Filled.{rank_of, AreRanks, IsBefore, IsFirstPast, IsFirstPastOf}
-use Rattle.luo_recipes.specs.Listed.{IsSiteBefore}
-use Rattle.luo_recipes.proofs.RankFacts.{rank_one}
-use Rattle.luo_recipes.proofs.LevelLemmas.{level_one}
+use Rattle.luo_engine.specs.inner.Filled.{rank_of, AreRanks, IsBefore, IsFirstPast, IsFirstPastOf}
+use Rattle.luo_engine.specs.inner.Listed.{IsSiteBefore}
+use Rattle.luo_engine.proofs.inner.RankFacts.{rank_one}
+use Rattle.luo_engine.proofs.inner.LevelLemmas.{level_one}
 
 -- of two counts, which comes before the other
 pub count_before : (p : Program) (ranks : List ℕ) → AreRanks p ranks → (x y : ℕ) → x < length p.nodes → y < length p.nodes → Precedes p (Count x) (Count y) → IsBefore ranks x y

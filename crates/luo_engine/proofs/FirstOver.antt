@@ -11,9 +11,9 @@ use Rattle.luo_model.specs.Levels.{IsRank, IsLevel}
 use Rattle.luo_model.specs.Tables.{IsCount, IsTotal}
 use Rattle.luo_engine.specs.Entries.{IsThere, Has, IsNumber, LessOr, Precedes, IsEarlier, IsFirstOver, NoneOver}
 use Rattle.luo_engine.specs.FirstOver.{FirstOverIsOne, NoneOrFirst}
-use Rattle.luo_recipes.proofs.RankFacts.{not_less, rank_comes, rank_one}
-use Rattle.luo_recipes.proofs.LevelFacts.{level_exists}
-use Rattle.luo_recipes.proofs.LevelLemmas.{level_one}
+use Rattle.luo_engine.proofs.inner.RankFacts.{not_less, rank_comes, rank_one}
+use Rattle.luo_engine.proofs.inner.LevelFacts.{level_exists}
+use Rattle.luo_engine.proofs.inner.LevelLemmas.{level_one}
 use Rattle.luo_engine.proofs.EntryOrder.{equal_first, entries_equal, precedes_either, by_less, by_pairs, by_triples}
 
 past : (v : ℕ) → MAX < v → v ≤ MAX → ⊥

@@ -15,7 +15,7 @@ use Rattle.luo_model.specs.Scopes.Stands.{Stand, stand_part, stands, factors, co
 use Rattle.luo_model.specs.Scopes.Fits.{FitsBody, FitsItems, FitsItem, FitsArms}
 use Rattle.luo_model.specs.Invariant.{IsProgram}
 use Rattle.luo_model.proofs.NodeLemmas.{node_at_place}
-use Rattle.luo_recipes.specs.Filled.{IsLaid}
+use Rattle.luo_engine.specs.inner.Filled.{IsLaid}
 use Rattle.luo_engine.specs.inner.Laying.{recipes_of_body, recipes_of_items, recipes_of_item, recipes_of_arms, recipes_of_procedure, recipes_of}
 use Rattle.luo_recipes.specs.Tasks.{Doing, does, calls, chooses, walks, Job, jobs_of_body, jobs_of_items, jobs_of_item, jobs_of_arms, jobs_of_procedure, jobs_of, FactorSites, Scope, factors_from, scope_of, scopes_of, stand_nodes, Recipe, recipe_of}
 use Rattle.luo_recipes.proofs.JobLemmas.{job_is}

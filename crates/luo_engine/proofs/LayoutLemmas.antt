@@ -12,10 +12,10 @@ use Rattle.luo_model.specs.Levels.{IsRank}
 use Rattle.luo_model.specs.Invariant.{IsProgram, IsAllowed, inner_parts}
 use Rattle.luo_model.proofs.NodeLemmas.{node_at_place}
 use Rattle.luo_engine.specs.declared.layout.Layout.{Layout}
-use Rattle.luo_recipes.specs.Filled.{AreRanks, IsLaid}
+use Rattle.luo_engine.specs.inner.Filled.{AreRanks, IsLaid}
 use Rattle.luo_engine.specs.inner.Layout.{rows_of_parts, laid_behind, AreLaidBelow, AreRanksBelow}
-use Rattle.luo_recipes.proofs.RowLemmas.{room-there}
-use Rattle.luo_recipes.proofs.PlanLemmas.{parts_of_program}
+use Rattle.luo_engine.proofs.inner.RowLemmas.{room-there}
+use Rattle.luo_engine.proofs.inner.PlanLemmas.{parts_of_program}
 
 less_or_eq : (a b : ℕ) → a < b + 1 → (a < b) ⊎ (a ≡ b)
 less_or_eq a b h = grind arith

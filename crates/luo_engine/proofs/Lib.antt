@@ -15,3 +15,4 @@ pub mod TotalRuns
 pub mod EntryOrder
 pub mod FirstOver
 pub mod EntryOrderLemmas
+pub mod inner

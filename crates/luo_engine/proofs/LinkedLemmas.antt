@@ -10,16 +10,16 @@ use Rattle.luo_model.specs.Levels.{IsRank, IsLevel}
 use Rattle.luo_model.specs.View.{plain_of}
 use Rattle.luo_engine.specs.declared.points.Link.{Link}
 use Rattle.luo_engine.specs.declared.sites.Laid.{Laid}
-use Rattle.luo_recipes.specs.Filled.{rank_of, IsOrderOf}
-use Rattle.luo_recipes.specs.Listed.{IsSiteBefore}
+use Rattle.luo_engine.specs.inner.Filled.{rank_of, IsOrderOf}
+use Rattle.luo_engine.specs.inner.Listed.{IsSiteBefore}
 use Rattle.luo_engine.specs.inner.Laid.{IsLinked}
 use Rattle.luo_engine.specs.inner.Laying.{links_from, rows_of_scope, rows_of_scopes, lay_all, recipes_of}
-use Rattle.luo_recipes.specs.Plan.{Planned, IsPlan}
-use Rattle.luo_recipes.specs.Starts.{HaveRoom}
+use Rattle.luo_engine.specs.inner.Plan.{Planned, IsPlan}
+use Rattle.luo_engine.specs.inner.Starts.{HaveRoom}
 use Rattle.luo_recipes.specs.Tasks.{Job, jobs_of, FactorSites, Scope, Recipe, of_scopes, of_each, recipe_of}
 use Rattle.luo_engine.specs.inner.Totals.{ArePlanned}
 use Rattle.luo_recipes.proofs.CountLemmas.{number}
-use Rattle.luo_recipes.proofs.RowLemmas.{room-there}
+use Rattle.luo_engine.proofs.inner.RowLemmas.{room-there}
 use Rattle.luo_recipes.proofs.JobLemmas.{job_is, jobs_length}
 use Rattle.luo_engine.proofs.ScopeReads.{ScopeFalls}
 use Rattle.luo_engine.proofs.FallLemmas.{job_falls}

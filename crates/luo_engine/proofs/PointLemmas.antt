@@ -8,12 +8,12 @@ use Rattle.luo_model.specs.declared.program.Universe.{Universe}
 use Rattle.luo_counting.specs.Sharing.{shares}
 use Rattle.luo_engine.specs.declared.points.Link.{Link}
 use Rattle.luo_recipes.specs.Shares.{inner, tail_of}
-use Rattle.luo_recipes.specs.Grid.{row_of, entry_of}
-use Rattle.luo_recipes.specs.Partial.{closing}
+use Rattle.luo_engine.specs.inner.Grid.{row_of, entry_of}
+use Rattle.luo_engine.specs.inner.Partial.{closing}
 use Rattle.luo_engine.specs.inner.Points.{point_of, open_point, IsLink, ArePointsBelow}
 use Rattle.luo_recipes.proofs.ShareLemmas.{shares-first, shares-inner}
-use Rattle.luo_recipes.proofs.MarkLemmas.{capped-capped, alike-times, alike-plus, alike-inner}
-use Rattle.luo_recipes.proofs.RowLemmas.{drop-at}
+use Rattle.luo_engine.proofs.inner.MarkLemmas.{capped-capped, alike-times, alike-plus, alike-inner}
+use Rattle.luo_engine.proofs.inner.RowLemmas.{drop-at}
 
 pub alike-sum_by : {X : Type 0} (f g : X → ℕ) (xs : List X) → ((x : X) → In x xs → capped (f x) ≡ capped (g x)) → capped (sum_by f xs) ≡ capped (sum_by g xs)
 alike-sum_by f g [] h = refl

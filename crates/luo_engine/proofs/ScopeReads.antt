@@ -9,18 +9,18 @@ use Rattle.luo_model.specs.Tables.{IsTotal}
 use Rattle.luo_counting.specs.Sharing.{shares, products}
 use Rattle.luo_engine.specs.declared.points.Link.{Link}
 use Rattle.luo_engine.specs.declared.tasks.Scope.{Scope}
-use Rattle.luo_recipes.specs.Grid.{entry_of}
+use Rattle.luo_engine.specs.inner.Grid.{entry_of}
 use Rattle.luo_recipes.specs.Shares.{tail_of, point_all, HasNone, AreCharged}
 use Rattle.luo_engine.specs.inner.Points.{point_of}
-use Rattle.luo_recipes.specs.Filled.{IsOrderOf, AreFilled}
+use Rattle.luo_engine.specs.inner.Filled.{IsOrderOf, AreFilled}
 use Rattle.luo_engine.specs.inner.Laid.{laid_number, factor_of, IsScope, AreScopes}
 use Rattle.luo_recipes.specs.Tasks.{FactorSites, factor_counts, factor_totals, scope_number}
 use Rattle.luo_recipes.specs.Tasks as plain
 use Rattle.luo_recipes.proofs.ShareLemmas.{shares-same}
 use Rattle.luo_recipes.proofs.ReadLemmas.{reads-point, point_all-both}
-use Rattle.luo_recipes.proofs.RowLemmas.{tail-product}
-use Rattle.luo_recipes.proofs.EntryLemmas.{find_none, sum_by-same}
-use Rattle.luo_recipes.proofs.FillLemmas.{placed_before}
+use Rattle.luo_engine.proofs.inner.RowLemmas.{tail-product}
+use Rattle.luo_engine.proofs.inner.EntryLemmas.{find_none, sum_by-same}
+use Rattle.luo_engine.proofs.inner.FillLemmas.{placed_before}
 use Rattle.luo_recipes.proofs.PointSums.{shares-plus_left, shares-none_left}
 
 -- sharing a sum is the sum of sharings

@@ -8,12 +8,12 @@ use Rattle.luo_model.specs.Levels.{IsRank, IsLevel}
 use Rattle.luo_model.specs.Invariant.{IsProgram}
 use Rattle.luo_model.specs.View.{Held, plain_of}
 use Rattle.luo_engine.specs.declared.sites.Laid.{Laid}
-use Rattle.luo_recipes.specs.Filled.{IsOrderOf}
-use Rattle.luo_recipes.specs.Listed.{IsSiteBefore}
+use Rattle.luo_engine.specs.inner.Filled.{IsOrderOf}
+use Rattle.luo_engine.specs.inner.Listed.{IsSiteBefore}
 use Rattle.luo_engine.specs.inner.Laying.{lay_all, recipes_of}
-use Rattle.luo_recipes.specs.Plan.{Planned, IsPlan}
-use Rattle.luo_recipes.specs.SiteLists.{AreSiteRanks, AreSiteLevels}
-use Rattle.luo_recipes.specs.Starts.{HaveRoom}
+use Rattle.luo_engine.specs.inner.Plan.{Planned, IsPlan}
+use Rattle.luo_engine.specs.inner.SiteLists.{AreSiteRanks, AreSiteLevels}
+use Rattle.luo_engine.specs.inner.Starts.{HaveRoom}
 use Rattle.luo_recipes.specs.Tasks.{jobs_of}
 use Rattle.luo_engine.specs.inner.Totals.{ArePlanned}
 use Rattle.luo_recipes.proofs.JobLemmas.{job_is, job_site, jobs_length}

@@ -29,24 +29,24 @@ use Rattle.luo_engine.specs.declared.tasks.Scope.{Scope}
 use Rattle.luo_engine.specs.declared.tasks.Task.{Task}
 use Rattle.luo_engine.specs.declared.tasks.Task.TheVariants.{Scopes, Walk}
 use Rattle.luo_engine.specs.declared.tasks.Sites.{Sites}
-use Rattle.luo_recipes.specs.Grid.{entry_of, IsSet}
+use Rattle.luo_engine.specs.inner.Grid.{entry_of, IsSet}
 use Rattle.luo_recipes.specs.Shares.{inner, tail_of}
 use Rattle.luo_engine.specs.inner.Points.{point_of, open_point, ArePointsOpen}
-use Rattle.luo_recipes.specs.Filled.{rank_of, IsRightOf, AreCounted, NumbersTo, IsFirstPastOf}
-use Rattle.luo_recipes.specs.Listed.{IsSiteBefore}
+use Rattle.luo_engine.specs.inner.Filled.{rank_of, IsRightOf, AreCounted, NumbersTo, IsFirstPastOf}
+use Rattle.luo_engine.specs.inner.Listed.{IsSiteBefore}
 use Rattle.luo_engine.specs.inner.Laid.{laid_number, IsScopeThere, IsScope, AreScopes, IsTask, AreTotalled}
-use Rattle.luo_recipes.specs.Plan.{Planned}
-use Rattle.luo_recipes.specs.Asked.{AskedWalk}
-use Rattle.luo_recipes.specs.Walks.{IsWalk, walk_or, walk_at, IsAskedWalk, IsWalkAsked, AllowsOne, HasTotals}
+use Rattle.luo_engine.specs.inner.Plan.{Planned}
+use Rattle.luo_engine.specs.inner.Asked.{AskedWalk}
+use Rattle.luo_engine.specs.inner.Walks.{IsWalk, walk_or, walk_at, IsAskedWalk, IsWalkAsked, AllowsOne, HasTotals}
 use Rattle.luo_engine.specs.inner.Totals.{ArePlanned, AreWalked}
 use Rattle.luo_recipes.specs.Tasks.{Doing, does, calls, chooses, walks, work_of, Job, jobs_of_body, jobs_of, Recipe, of_scopes, of_each, recipe_of, recipe_number, scope_number}
 use Rattle.luo_recipes.specs.Tasks as plain
 use Rattle.luo_recipes.proofs.ShareLemmas.{shares-same, inner-same}
-use Rattle.luo_recipes.proofs.EntryLemmas.{sum_by-same}
-use Rattle.luo_recipes.proofs.RowLemmas.{end-there}
+use Rattle.luo_engine.proofs.inner.EntryLemmas.{sum_by-same}
+use Rattle.luo_engine.proofs.inner.RowLemmas.{end-there}
 use Rattle.luo_recipes.proofs.CountLemmas.{number, obeys}
 use Rattle.luo_recipes.proofs.TotalLemmas.{total, total_is}
-use Rattle.luo_recipes.proofs.FillLemmas.{one_way_nodes, filled_more, past_first, placed_before}
+use Rattle.luo_engine.proofs.inner.FillLemmas.{one_way_nodes, filled_more, past_first, placed_before}
 use Rattle.luo_recipes.proofs.JobLemmas.{job_is, job_site, jobs_length}
 use Rattle.luo_recipes.proofs.RecipeLemmas.{equation}
 use Rattle.luo_engine.proofs.ScopeReads.{ScopeFalls, scopes_read}

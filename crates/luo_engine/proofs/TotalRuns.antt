@@ -13,20 +13,20 @@ use Rattle.luo_model.proofs.WorkLemmas.{sites_are_apart}
 use Rattle.luo_counting.specs.Sharing.{shares}
 use Rattle.luo_engine.specs.declared.points.Link.{Link}
 use Rattle.luo_engine.specs.declared.tasks.Sites.{Sites}
-use Rattle.luo_recipes.specs.Grid.{entry_of, SameShape, SameOthers, IsTable, AreZero}
+use Rattle.luo_engine.specs.inner.Grid.{entry_of, SameShape, SameOthers, IsTable, AreZero}
 use Rattle.luo_recipes.specs.Shares.{tail_of}
-use Rattle.luo_recipes.specs.Partial.{AreClosedFrom}
+use Rattle.luo_engine.specs.inner.Partial.{AreClosedFrom}
 use Rattle.luo_engine.specs.inner.Points.{point_of, IsClosedPoint, ArePointsBelow, ArePointsClosed}
-use Rattle.luo_recipes.specs.Filled.{IsRightOf}
-use Rattle.luo_recipes.specs.Plan.{Planned}
-use Rattle.luo_recipes.specs.Asked.{AskedWalk}
+use Rattle.luo_engine.specs.inner.Filled.{IsRightOf}
+use Rattle.luo_engine.specs.inner.Plan.{Planned}
+use Rattle.luo_engine.specs.inner.Asked.{AskedWalk}
 use Rattle.luo_engine.specs.inner.Laid.{AreSites, AreTotalled}
 use Rattle.luo_engine.specs.inner.Totals.{AreWalked}
 use Rattle.luo_engine.specs.inner.Totalling.{IsTotalling}
 use Rattle.luo_recipes.proofs.ShareLemmas.{shares-same}
-use Rattle.luo_recipes.proofs.EntryLemmas.{sum_by-same}
-use Rattle.luo_recipes.proofs.FillLemmas.{tail-same}
-use Rattle.luo_recipes.proofs.RunLemmas.{reach_same, reach_less, reach_all}
+use Rattle.luo_engine.proofs.inner.EntryLemmas.{sum_by-same}
+use Rattle.luo_engine.proofs.inner.FillLemmas.{tail-same}
+use Rattle.luo_engine.proofs.inner.RunLemmas.{reach_same, reach_less, reach_all}
 
 less_or_eq : (a b : ℕ) → a < b + 1 → (a < b) ⊎ (a ≡ b)
 less_or_eq a b h = grind arith

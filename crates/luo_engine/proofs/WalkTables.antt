@@ -7,15 +7,15 @@ use Rattle.luo_model.specs.View.{plain_of}
 use Rattle.luo_engine.specs.declared.tasks.Task.{Task}
 use Rattle.luo_engine.specs.declared.tasks.Task.TheVariants.{Walk}
 use Rattle.luo_engine.specs.declared.tasks.Sites.{Sites}
-use Rattle.luo_recipes.specs.Plan.{Planned}
-use Rattle.luo_recipes.specs.Asked.{Asked, AskedWalk, unasked_walk}
-use Rattle.luo_recipes.specs.Collections.{table_at, HasTable, HasAsked, AreUnasked}
-use Rattle.luo_recipes.specs.Walks.{IsWalk}
+use Rattle.luo_engine.specs.inner.Plan.{Planned}
+use Rattle.luo_engine.specs.inner.Asked.{Asked, AskedWalk, unasked_walk}
+use Rattle.luo_engine.specs.inner.Collections.{table_at, HasTable, HasAsked, AreUnasked}
+use Rattle.luo_engine.specs.inner.Walks.{IsWalk}
 use Rattle.luo_engine.specs.inner.Totals.{ArePlanned, AreWalked}
 use Rattle.luo_engine.specs.inner.WalkTables.{AreMadeBelow}
-use Rattle.luo_recipes.proofs.CollectionLemmas.{collections_start}
-use Rattle.luo_recipes.proofs.WalkLemmas.{walk_start}
-use Rattle.luo_recipes.proofs.WalkingLemmas.{coll_there}
+use Rattle.luo_engine.proofs.inner.CollectionLemmas.{collections_start}
+use Rattle.luo_engine.proofs.inner.WalkLemmas.{walk_start}
+use Rattle.luo_engine.proofs.inner.WalkingLemmas.{coll_there}
 use Rattle.luo_engine.proofs.TotalPlan.{walk_is}
 
 less_or_eq : (a b : ℕ) → a < b + 1 → (a < b) ⊎ (a ≡ b)

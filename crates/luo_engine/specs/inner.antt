@@ -6,3 +6,15 @@ pub mod Totals
 pub mod Laying
 pub mod WalkTables
 pub mod Totalling
+pub mod Grid
+pub mod Partial
+pub mod Filled
+pub mod Listed
+pub mod Plan
+pub mod Running
+pub mod Asked
+pub mod Collections
+pub mod Walks
+pub mod Starts
+pub mod SiteLists
+pub mod Kept

@@ -6,10 +6,10 @@ ghost use Rattle.luo_num.specs.declared.limits.TheConstants.{SIZE_LIMIT};
 ghost use Rattle.luo_model.specs.Member.{IsWithin};
 ghost use Rattle.luo_model.specs.Program.{shape_of};
 ghost use Rattle.luo_model.specs.View.{plain_of};
-ghost use Rattle.luo_recipes.specs.Grid.{row_of, entry_of};
-ghost use Rattle.luo_recipes.specs.Filled.{AreCounted, CountsTo};
-ghost use Rattle.luo_recipes.specs.Asked.{GoesOnAs, number_asked, asked_more};
-ghost use Rattle.luo_recipes.specs.Collections.{table_at, HasTable, AreCollections, AreUnasked, IsCollection, IsUnasked};
+ghost use Rattle.luo_engine.specs.inner.Grid.{row_of, entry_of};
+ghost use Rattle.luo_engine.specs.inner.Filled.{AreCounted, CountsTo};
+ghost use Rattle.luo_engine.specs.inner.Asked.{GoesOnAs, number_asked, asked_more};
+ghost use Rattle.luo_engine.specs.inner.Collections.{table_at, HasTable, AreCollections, AreUnasked, IsCollection, IsUnasked};
 
 use crate::collections::Collection;
 use crate::plan::Plan;

@@ -5,7 +5,7 @@ ghost use Rattle.luo_num.specs.declared.TheConstants.{MAX};
 ghost use Rattle.luo_model.specs.declared.program.Universe.TheVariants.{Unlabelled};
 ghost use Rattle.luo_unlabelled.specs.Calls.{IsOfParts};
 ghost use Rattle.luo_unlabelled.specs.Calls as parts;
-ghost use Rattle.luo_recipes.specs.Asked.{AreBounds, GoesOnAs, parts_form, of_parts, of_unbounded, unasked, number_asked, asked_more};
+ghost use Rattle.luo_engine.specs.inner.Asked.{AreBounds, GoesOnAs, parts_form, of_parts, of_unbounded, unasked, number_asked, asked_more};
 ghost use Rattle.luo_engine.specs.inner.Forms.{asked_of};
 
 use luo_binom::Pascal;
@@ -37,7 +37,7 @@ pub struct Collection {
 }
 
 impl Model for Collection {
-    ghost use Rattle.luo_recipes.specs.Asked.{Asked};
+    ghost use Rattle.luo_engine.specs.inner.Asked.{Asked};
     ghost use Rattle.luo_engine.specs.inner.Forms.{asked_of};
 
     ghost Value = { Asked };

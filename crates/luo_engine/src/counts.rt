@@ -4,11 +4,11 @@ ghost use Rattle.luo_finite.specs.Listing.{In};
 ghost use Rattle.luo_num.specs.Mark.{capped};
 ghost use Rattle.luo_model.specs.declared.program.Part.{Part};
 ghost use Rattle.luo_model.specs.View.{plain_of};
-ghost use Rattle.luo_recipes.specs.Grid.{entry_of, Reaches, SameShape, SameOthers};
-ghost use Rattle.luo_recipes.specs.Partial.{AreOpenBefore};
+ghost use Rattle.luo_engine.specs.inner.Grid.{entry_of, Reaches, SameShape, SameOthers};
+ghost use Rattle.luo_engine.specs.inner.Partial.{AreOpenBefore};
 ghost use Rattle.luo_recipes.specs.Obeys.{atom_count};
-ghost use Rattle.luo_recipes.specs.Collections.{AreCollections};
-ghost use Rattle.luo_recipes.specs.Filled.{AreCounted, AreKept, CountsTo, IsFirstPast};
+ghost use Rattle.luo_engine.specs.inner.Collections.{AreCollections};
+ghost use Rattle.luo_engine.specs.inner.Filled.{AreCounted, AreKept, CountsTo, IsFirstPast};
 
 use crate::collecting::collection_at;
 use crate::collections::Collection;

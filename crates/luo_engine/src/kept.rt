@@ -1,7 +1,7 @@
 // The counts of the filled sizes, copied out of the tables.
 ghost use Rattle.std.specs.Prelude.{◌<◌, ◌≤◌, length, IfOk};
 ghost use Rattle.luo_model.specs.View.{plain_of};
-ghost use Rattle.luo_recipes.specs.Kept.{IsCountRow, AreCountRows};
+ghost use Rattle.luo_engine.specs.inner.Kept.{IsCountRow, AreCountRows};
 
 use crate::Engine;
 use luo_num::{Items, NoMemory};

@@ -3,7 +3,7 @@ ghost use Rattle.std.specs.Prelude.{◌≡◌, ◌<◌, ◌++◌, length, IfOk, 
 ghost use Rattle.luo_model.specs.View.{plain_of};
 ghost use Rattle.luo_model.specs.Invariant.{IsProgram};
 ghost use Rattle.luo_model.specs.Founded.{IsFounded};
-ghost use Rattle.luo_recipes.specs.Filled.{AreRanks};
+ghost use Rattle.luo_engine.specs.inner.Filled.{AreRanks};
 ghost use Rattle.luo_engine.specs.inner.Layout.{rows_of_parts, laid_behind, AreLaidBelow};
 
 use luo_founded::Ranks;

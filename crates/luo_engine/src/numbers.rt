@@ -4,7 +4,7 @@ ghost use Rattle.luo_num.specs.declared.limits.TheConstants.{SIZE_LIMIT};
 ghost use Rattle.luo_num.specs.Mark.{capped};
 ghost use Rattle.luo_finite.specs.Range.{unit};
 ghost use Rattle.luo_recipes.specs.Shares.{ways, inner};
-ghost use Rattle.luo_recipes.specs.Partial.{closing};
+ghost use Rattle.luo_engine.specs.inner.Partial.{closing};
 
 use luo_binom::Pascal;
 use luo_model::Universe;

@@ -1,7 +1,7 @@
 // The orders of nodes and of sites at one size.
 ghost use Rattle.std.specs.Prelude.{◌≡◌, ◌<◌, ◌+◌, ℕ, length, slice_index, IfOk, OnOk};
-ghost use Rattle.luo_recipes.specs.Filled.{IsOrderOf, IsBefore};
-ghost use Rattle.luo_recipes.specs.Listed.{IsSiteBefore, AreSitesListed};
+ghost use Rattle.luo_engine.specs.inner.Filled.{IsOrderOf, IsBefore};
+ghost use Rattle.luo_engine.specs.inner.Listed.{IsSiteBefore, AreSitesListed};
 
 use luo_num::{Items, NoMemory};
 use std::alloc::{AllocError, Global};

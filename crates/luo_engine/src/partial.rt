@@ -2,9 +2,9 @@
 ghost use Rattle.std.specs.Prelude.{◌≡◌, ◌<◌, ◌≤◌, ◌+◌, ◌*◌, ℕ, List, length, drop, slice_get, Some, None};
 ghost use Rattle.luo_num.specs.declared.limits.TheConstants.{SIZE_LIMIT};
 ghost use Rattle.luo_num.specs.Mark.{capped};
-ghost use Rattle.luo_recipes.specs.Grid.{entry_of, SameShape};
+ghost use Rattle.luo_engine.specs.inner.Grid.{entry_of, SameShape};
 ghost use Rattle.luo_recipes.specs.Shares.{tail_of, open_of};
-ghost use Rattle.luo_recipes.specs.Partial.{AreClosedBelow, AreOpenBefore, AreClosedFrom};
+ghost use Rattle.luo_engine.specs.inner.Partial.{AreClosedBelow, AreOpenBefore, AreClosedFrom};
 
 use crate::numbers::{closing_at, inner_at, unit_at};
 use crate::table::Table;

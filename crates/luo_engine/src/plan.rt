@@ -2,7 +2,7 @@
 ghost use Rattle.std.specs.Prelude.{◌≡◌, ◌<◌, ◌≤◌, length, slice_index, slice_get, Some, IfOk};
 ghost use Rattle.luo_model.specs.Program.{shape_of};
 ghost use Rattle.luo_model.specs.View.{plain_of};
-ghost use Rattle.luo_recipes.specs.Plan.{IsPlan};
+ghost use Rattle.luo_engine.specs.inner.Plan.{IsPlan};
 
 use crate::layout::{layout_of, ranks_of};
 use crate::order::order_of;
@@ -26,7 +26,7 @@ pub struct Plan<'p> {
 }
 
 impl<'p> Model for Plan<'p> {
-    ghost use Rattle.luo_recipes.specs.Plan.{Planned, IsPlan};
+    ghost use Rattle.luo_engine.specs.inner.Plan.{Planned, IsPlan};
     ghost use Rattle.luo_model.specs.contracts.body.Item as done;
     ghost use Rattle.luo_model.specs.contracts.value.Value as made;
     ghost use Rattle.std.specs.Coded.{codes};

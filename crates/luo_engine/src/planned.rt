@@ -2,8 +2,8 @@
 ghost use Rattle.std.specs.Prelude.{◌≡◌, ◌<◌, length, IfOk};
 ghost use Rattle.luo_model.specs.Program.{site_node};
 ghost use Rattle.luo_model.specs.View.{plain_of};
-ghost use Rattle.luo_recipes.specs.Plan.{IsPlan};
-ghost use Rattle.luo_recipes.specs.SiteLists.{AreSiteRanks, AreSiteLevels};
+ghost use Rattle.luo_engine.specs.inner.Plan.{IsPlan};
+ghost use Rattle.luo_engine.specs.inner.SiteLists.{AreSiteRanks, AreSiteLevels};
 ghost use Rattle.luo_engine.specs.inner.Totals.{ArePlanned};
 
 use crate::order::site_order_of;

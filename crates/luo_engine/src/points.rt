@@ -3,9 +3,9 @@ ghost use Rattle.std.specs.Prelude.{◌≡◌, ◌<◌, ◌≤◌, ◌+◌, ℕ,
 ghost use Rattle.luo_num.specs.declared.limits.TheConstants.{SIZE_LIMIT};
 ghost use Rattle.luo_finite.specs.Listing.{In};
 ghost use Rattle.luo_num.specs.Mark.{capped};
-ghost use Rattle.luo_recipes.specs.Grid.{entry_of, Reaches, SameShape};
+ghost use Rattle.luo_engine.specs.inner.Grid.{entry_of, Reaches, SameShape};
 ghost use Rattle.luo_recipes.specs.Shares.{inner};
-ghost use Rattle.luo_recipes.specs.Partial.{closing};
+ghost use Rattle.luo_engine.specs.inner.Partial.{closing};
 ghost use Rattle.luo_engine.specs.inner.Points.{point_of, open_point, ArePointsBelow, ArePointsOpen, ArePointsClosed};
 
 use crate::numbers::{closing_at, inner_at};

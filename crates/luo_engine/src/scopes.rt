@@ -5,7 +5,7 @@ ghost use Rattle.luo_model.specs.View.{plain_of, item_of, item_list, body_of};
 ghost use Rattle.luo_model.specs.Lists.{arm_list};
 ghost use Rattle.luo_recipes.specs.Tasks.{var_in, site_in, sites_on, factors_from, scope_of, scopes_of, stand_nodes};
 ghost use Rattle.luo_engine.specs.inner.Laying.{product_parts, union_parts, IsProductShape, IsPushed, ArePushed, links_from};
-ghost use Rattle.luo_recipes.specs.Starts.{HaveRoom};
+ghost use Rattle.luo_engine.specs.inner.Starts.{HaveRoom};
 
 use crate::points::Link;
 use crate::tasks::Scope;

@@ -6,7 +6,7 @@ ghost use Rattle.luo_model.specs.Lists.{arm_list};
 ghost use Rattle.luo_engine.specs.declared.tasks.Task.TheVariants.{Scopes};
 ghost use Rattle.luo_recipes.specs.Tasks.{does, calls, chooses, walks, whole_sites, recipe_of};
 ghost use Rattle.luo_engine.specs.inner.Laying.{lay, lay_all, recipes_of_items, recipes_of_item, recipes_of_arms, recipes_of};
-ghost use Rattle.luo_recipes.specs.Starts.{HaveRoom};
+ghost use Rattle.luo_engine.specs.inner.Starts.{HaveRoom};
 
 use crate::points::Link;
 use crate::scopes::{node_of, push_case, push_one};

@@ -3,14 +3,14 @@ ghost use Rattle.std.specs.Prelude.{◌≡◌, ◌<◌, ◌≤◌, ℕ, length, 
 ghost use Rattle.luo_num.specs.declared.limits.TheConstants.{SIZE_LIMIT};
 ghost use Rattle.luo_model.specs.View.{plain_of};
 ghost use Rattle.luo_model.specs.Tables.{IsTotal};
-ghost use Rattle.luo_recipes.specs.Grid.{SameShape, SameOthers};
-ghost use Rattle.luo_recipes.specs.Listed.{IsSiteBefore};
+ghost use Rattle.luo_engine.specs.inner.Grid.{SameShape, SameOthers};
+ghost use Rattle.luo_engine.specs.inner.Listed.{IsSiteBefore};
 ghost use Rattle.luo_engine.specs.inner.Points.{ArePointsBelow, ArePointsClosed};
 ghost use Rattle.luo_engine.specs.inner.Laid.{AreTotalled};
 ghost use Rattle.luo_engine.specs.inner.Totals.{ArePlanned, AreWalked};
-ghost use Rattle.luo_recipes.specs.Partial.{AreClosedBelow, AreClosedFrom};
-ghost use Rattle.luo_recipes.specs.Collections.{AreCollections};
-ghost use Rattle.luo_recipes.specs.Filled.{AreCounted, AreKept, IsRightOf, IsFirstPast, IsFirstPastOf};
+ghost use Rattle.luo_engine.specs.inner.Partial.{AreClosedBelow, AreClosedFrom};
+ghost use Rattle.luo_engine.specs.inner.Collections.{AreCollections};
+ghost use Rattle.luo_engine.specs.inner.Filled.{AreCounted, AreKept, IsRightOf, IsFirstPast, IsFirstPastOf};
 
 use crate::collections::Collection;
 use crate::counts::fill_counts;

@@ -3,7 +3,7 @@ ghost use Rattle.std.specs.Prelude.{◌≡◌, ◌<◌, ◌≤◌, ◌+◌, ◌*
 ghost use Rattle.luo_finite.specs.Listing.{In};
 ghost use Rattle.luo_num.specs.Mark.{capped};
 ghost use Rattle.luo_engine.specs.declared.tasks.Scope.{Scope as Scoped};
-ghost use Rattle.luo_recipes.specs.Grid.{entry_of, Reaches};
+ghost use Rattle.luo_engine.specs.inner.Grid.{entry_of, Reaches};
 ghost use Rattle.luo_engine.specs.inner.Points.{ArePointsOpen};
 ghost use Rattle.luo_engine.specs.inner.Laid.{laid_number, IsScopeThere};
 

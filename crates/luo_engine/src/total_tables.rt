@@ -2,7 +2,7 @@
 ghost use Rattle.std.specs.Prelude.{◌≡◌, ◌+◌, ℕ, List, false, length, IfOk};
 ghost use Rattle.luo_model.specs.declared.table.Fill.TheVariants.{All};
 ghost use Rattle.luo_model.specs.View.{plain_of};
-ghost use Rattle.luo_recipes.specs.Collections.{AreUnasked};
+ghost use Rattle.luo_engine.specs.inner.Collections.{AreUnasked};
 ghost use Rattle.luo_engine.specs.inner.Totalling.{IsTotalling};
 
 use crate::collections::Collection;

@@ -3,12 +3,12 @@ ghost use Rattle.std.specs.Prelude.{◌≡◌, ◌<◌, ◌≤◌, ◌+◌, ℕ,
 ghost use Rattle.luo_num.specs.declared.TheConstants.{MAX};
 ghost use Rattle.luo_model.specs.View.{plain_of};
 ghost use Rattle.luo_model.specs.Tables.{IsTotal};
-ghost use Rattle.luo_recipes.specs.Grid.{SameShape};
+ghost use Rattle.luo_engine.specs.inner.Grid.{SameShape};
 ghost use Rattle.luo_engine.specs.inner.Points.{ArePointsOpen};
-ghost use Rattle.luo_recipes.specs.Filled.{AreCounted, IsRightOf, NumbersTo, IsFirstPastOf};
-ghost use Rattle.luo_recipes.specs.Listed.{IsSiteBefore};
+ghost use Rattle.luo_engine.specs.inner.Filled.{AreCounted, IsRightOf, NumbersTo, IsFirstPastOf};
+ghost use Rattle.luo_engine.specs.inner.Listed.{IsSiteBefore};
 ghost use Rattle.luo_engine.specs.inner.Laid.{AreTotalled};
-ghost use Rattle.luo_recipes.specs.Collections.{AreCollections};
+ghost use Rattle.luo_engine.specs.inner.Collections.{AreCollections};
 ghost use Rattle.luo_engine.specs.inner.Totals.{ArePlanned, AreWalked};
 
 use crate::collections::Collection;

@@ -3,8 +3,8 @@ ghost use Rattle.std.specs.Prelude.{◌≡◌, ◌<◌, ℕ, Some, length, slice
 ghost use Rattle.luo_model.specs.Program.{site_node};
 ghost use Rattle.luo_model.specs.View.{plain_of};
 ghost use Rattle.luo_engine.specs.declared.tasks.Task.TheVariants.{Walk as Walked};
-ghost use Rattle.luo_recipes.specs.Asked.{unasked_walk};
-ghost use Rattle.luo_recipes.specs.Collections.{table_at, AreUnasked};
+ghost use Rattle.luo_engine.specs.inner.Asked.{unasked_walk};
+ghost use Rattle.luo_engine.specs.inner.Collections.{table_at, AreUnasked};
 ghost use Rattle.luo_engine.specs.inner.Totals.{ArePlanned, AreWalked};
 
 use crate::collections::Collection;

@@ -5,11 +5,11 @@ ghost use Rattle.luo_num.specs.declared.TheConstants.{MAX};
 ghost use Rattle.luo_model.specs.Program.{shape_of, site_node};
 ghost use Rattle.luo_model.specs.Tables.{IsTotal};
 ghost use Rattle.luo_model.specs.View.{plain_of};
-ghost use Rattle.luo_recipes.specs.Filled.{AreCounted, NumbersTo, IsRightOf};
-ghost use Rattle.luo_recipes.specs.Plan.{IsPlan};
-ghost use Rattle.luo_recipes.specs.Asked.{GoesWithAs, unasked_walk, total_asked};
-ghost use Rattle.luo_recipes.specs.Collections.{table_at, HasTable, AreCollections};
-ghost use Rattle.luo_recipes.specs.Walks.{IsWalk, walk_at, HasWalk, IsWalkAsked, HasAnswered, AllowsOne, HasTotals};
+ghost use Rattle.luo_engine.specs.inner.Filled.{AreCounted, NumbersTo, IsRightOf};
+ghost use Rattle.luo_engine.specs.inner.Plan.{IsPlan};
+ghost use Rattle.luo_engine.specs.inner.Asked.{GoesWithAs, unasked_walk, total_asked};
+ghost use Rattle.luo_engine.specs.inner.Collections.{table_at, HasTable, AreCollections};
+ghost use Rattle.luo_engine.specs.inner.Walks.{IsWalk, walk_at, HasWalk, IsWalkAsked, HasAnswered, AllowsOne, HasTotals};
 
 use crate::collecting::{here_at, prefix};
 use crate::collections::Collection;

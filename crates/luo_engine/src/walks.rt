@@ -1,7 +1,7 @@
 // Charges over the collections of one kind, summed size by size.
 ghost use Rattle.std.specs.Prelude.{◌≡◌, ◌≤◌, length, IfOk};
 ghost use Rattle.luo_num.specs.Mark.{capped};
-ghost use Rattle.luo_recipes.specs.Asked.{GoesWithAs, KeepsCounts, unasked_walk, total_asked, asked_more};
+ghost use Rattle.luo_engine.specs.inner.Asked.{GoesWithAs, KeepsCounts, unasked_walk, total_asked, asked_more};
 ghost use Rattle.luo_engine.specs.inner.Forms.{asked_of, asked_walk_of};
 
 use crate::collections::{Collection, Counter, marked};
@@ -33,7 +33,7 @@ pub struct CollectionWalk {
 }
 
 impl Model for CollectionWalk {
-    ghost use Rattle.luo_recipes.specs.Asked.{AskedWalk};
+    ghost use Rattle.luo_engine.specs.inner.Asked.{AskedWalk};
     ghost use Rattle.luo_engine.specs.inner.Forms.{asked_walk_of};
 
     ghost Value = { AskedWalk };

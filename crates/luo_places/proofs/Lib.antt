@@ -7,3 +7,5 @@ pub mod BagPlaces
 pub mod TreePlaces
 pub mod Someone
 pub mod Tails
+pub mod steps
+pub mod relabelling

@@ -23,7 +23,7 @@ use Rattle.luo_counting.proofs.Numbered.{room_of}
 use Rattle.luo_counting.proofs.OfPrograms.{light_program}
 use Rattle.luo_founded.proofs.StepsGraph.{step_there, step_within}
 use Rattle.luo_places.specs.Tails.{IsBag}
-use Rattle.luo_relabelling.proofs.LabelMaps.{counts_at}
+use Rattle.luo_places.proofs.relabelling.LabelMaps.{counts_at}
 use Rattle.luo_rank.specs.inner.Lookup.{Looked, IsCounted, IsLooked, AreRanks, rank_in, entry_of, IsCountRow, AreCountRows, IsRankRow, AreAllRests, AreAllPlanes, ArePlanes, HasPlanes}
 use Rattle.luo_rank.proofs.ListLemmas.{le_or, pushed, pushed_long}
 use Rattle.luo_rank.proofs.TailLemmas.{inner_there}

@@ -35,7 +35,7 @@ use Rattle.luo_founded.proofs.OtherParts.{others_by_place}
 use Rattle.luo_recipes.specs.Obeys.{atom_count, Falls, OtherHasNone, Obeys}
 use Rattle.luo_counting.proofs.Atoms.{CountsAt-atom, CountsAt-no_atom}
 use Rattle.luo_counting.proofs.OfPrograms.{light_program, suits_program}
-use Rattle.luo_relabelling.proofs.LabelMaps.{sums_at}
+use Rattle.luo_places.proofs.relabelling.LabelMaps.{sums_at}
 
 no_part : Part
 no_part = record { node = 0; name = Option.None }

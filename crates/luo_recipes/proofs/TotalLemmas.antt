@@ -16,9 +16,9 @@ use Rattle.luo_counting.specs.Counted.{SumsAt}
 use Rattle.luo_counting.proofs.Numbered.{room_of}
 use Rattle.luo_founded.proofs.Listed.{listing_exists}
 use Rattle.luo_founded.proofs.Charged.{one_site_charge}
-use Rattle.luo_relabelling.specs.Relabelling.{relabelled}
-use Rattle.luo_relabelling.proofs.Relabelled.{site_sent}
-use Rattle.luo_relabelling.proofs.LabelMaps.{sums_at}
+use Rattle.luo_places.specs.relabelling.Relabelling.{relabelled}
+use Rattle.luo_places.proofs.relabelling.Relabelled.{site_sent}
+use Rattle.luo_places.proofs.relabelling.LabelMaps.{sums_at}
 
 less_or_not : (a b : ℕ) → (a < b) ⊎ (b ≤ a)
 less_or_not a b = grind arith

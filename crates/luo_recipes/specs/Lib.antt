@@ -1,16 +1,4 @@
-pub mod Grid
 pub mod Shares
-pub mod Partial
 pub mod Obeys
-pub mod Filled
-pub mod Listed
-pub mod Plan
-pub mod Running
 pub mod Tasks
-pub mod Asked
-pub mod Collections
-pub mod Walks
-pub mod Starts
-pub mod SiteLists
-pub mod Kept
 pub mod Laws

@@ -10,8 +10,8 @@ use Rattle.luo_model.specs.Structures.{IsStructure, IsStructureOn, Carries, labe
 use Rattle.luo_model.specs.View.{Held, plain_of}
 use Rattle.luo_counting.proofs.Numbered.{room_of}
 use Rattle.luo_counting.proofs.Orders.{trees_ordered}
-use Rattle.luo_steps.specs.Next.{IsNext}
-use Rattle.luo_steps.proofs.Next.{next_place, Next-iff}
+use Rattle.luo_places.specs.steps.Next.{IsNext}
+use Rattle.luo_places.proofs.steps.Next.{next_place, Next-iff}
 use Rattle.luo_struct.specs.declared.structure.Structure.{Structure}
 use Rattle.luo_struct.specs.View.{tree_of}
 use Rattle.luo_rank.specs.inner.Lookup.{Looked}

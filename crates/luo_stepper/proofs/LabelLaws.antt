@@ -13,10 +13,10 @@ use Rattle.luo_counting.specs.Sharing.{splits, IsRoom}
 use Rattle.luo_counting.proofs.Splits.{Two, splits-cases, split-left, split-right, split-rising, split-length}
 use Rattle.luo_places.specs.Numbers.{led_ways, IsPart}
 use Rattle.luo_places.specs.Tails.{Tail, factors, items, head_ways, IsHead, IsLedPart}
-use Rattle.luo_steps.specs.Next.{IsNext, IsFirst, IsLast}
-use Rattle.luo_steps.specs.Rooms.{HasLeast, IsFor, IsLedBy, IsShare}
-use Rattle.luo_steps.proofs.Next.{place_next, place_last, first_at, Next-iff, First-iff, Last-iff}
-use Rattle.luo_steps.proofs.Choices.{led_next, led_first, led_last}
+use Rattle.luo_places.specs.steps.Next.{IsNext, IsFirst, IsLast}
+use Rattle.luo_places.specs.steps.Rooms.{HasLeast, IsFor, IsLedBy, IsShare}
+use Rattle.luo_places.proofs.steps.Next.{place_next, place_last, first_at, Next-iff, First-iff, Last-iff}
+use Rattle.luo_places.proofs.steps.Choices.{led_next, led_first, led_last}
 use Rattle.luo_rank.specs.inner.Lookup.{IsLedTail}
 use Rattle.luo_rank.proofs.PartLemmas.{ways_not, ways_led}
 use Rattle.luo_stepper.specs.inner.Stepping.{AreLabels, IsSplit}

@@ -16,9 +16,9 @@ use Rattle.luo_counting.proofs.Splits.{put_left, put_right}
 use Rattle.luo_places.specs.Numbers.{led_ways}
 use Rattle.luo_places.specs.Tails.{Tail, head_ways, IsHead, IsLedPart}
 use Rattle.luo_places.proofs.Complements.{complement}
-use Rattle.luo_steps.specs.Next.{IsLast}
-use Rattle.luo_steps.specs.Rooms.{IsShare, HasLabels}
-use Rattle.luo_steps.proofs.Tails.{room_labels, room_size, room_last}
+use Rattle.luo_places.specs.steps.Next.{IsLast}
+use Rattle.luo_places.specs.steps.Rooms.{IsShare, HasLabels}
+use Rattle.luo_places.proofs.steps.Tails.{room_labels, room_size, room_last}
 use Rattle.luo_rank.specs.inner.Lookup.{Looked, IsLedTail, ArePartLabels, entry_of, tail_at}
 use Rattle.luo_rank.proofs.PartLemmas.{led_not, ways_not, led_head, ways_led}
 use Rattle.luo_stepper.specs.inner.Stepping.{AreLabels, AreParts, IsRoomOf, IsNextRoom, IsLastRoom, IsFirstFrom, Fills}

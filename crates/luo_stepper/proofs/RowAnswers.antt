@@ -6,7 +6,7 @@ use Rattle.luo_model.specs.Program.{shape_of}
 use Rattle.luo_model.specs.View.{plain_of}
 use Rattle.luo_places.specs.Numbers.{PartsBefore}
 use Rattle.luo_places.specs.Tails.{first_node, IsSpread}
-use Rattle.luo_steps.specs.Next.{IsNext, IsLast}
+use Rattle.luo_places.specs.steps.Next.{IsNext, IsLast}
 use Rattle.luo_struct.specs.declared.structure.Structure.{Structure}
 use Rattle.luo_struct.specs.View.{tree_of, tree_list}
 use Rattle.luo_rank.specs.inner.Lookup.{Looked, IsCounted, Stands, IsLeft, tail_at, behind, left_count}

@@ -10,11 +10,11 @@ use Rattle.luo_model.specs.View.{plain_of}
 use Rattle.luo_places.specs.Numbers.{PartsBefore}
 use Rattle.luo_places.specs.Tails.{Tail, factors, items, behind_first, first_node, TailOn, tail_count, IsThere, IsSpread, GoesOn, Ends}
 use Rattle.luo_places.proofs.Tails.{tail_counted}
-use Rattle.luo_steps.specs.Next.{IsNext, IsFirst, IsLast}
-use Rattle.luo_steps.specs.Rooms.{IsShare, HasLabels}
-use Rattle.luo_steps.specs.Laws.{GoesOnBy}
-use Rattle.luo_steps.proofs.Pairs.{of_some}
-use Rattle.luo_steps.proofs.Tails.{tails_go_on, tails_part, tails_end}
+use Rattle.luo_places.specs.steps.Next.{IsNext, IsFirst, IsLast}
+use Rattle.luo_places.specs.steps.Rooms.{IsShare, HasLabels}
+use Rattle.luo_places.specs.steps.Laws.{GoesOnBy}
+use Rattle.luo_places.proofs.steps.Pairs.{of_some}
+use Rattle.luo_places.proofs.steps.Tails.{tails_go_on, tails_part, tails_end}
 use Rattle.luo_rank.specs.inner.Lookup.{Looked, IsCounted, entry_of, tail_at, IsLeft, left_count}
 use Rattle.luo_rank.proofs.StepLemmas.{is_there, first_there, next_stands}
 use Rattle.luo_stepper.specs.inner.Stepping.{AreLabels, Here, Left, IsHere, AreHere, Fills, IsNextRoom, IsLastRoom, IsRoomOf}

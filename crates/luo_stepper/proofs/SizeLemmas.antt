@@ -11,7 +11,7 @@ use Rattle.luo_model.specs.View.{plain_of}
 use Rattle.luo_rank.proofs.TailLemmas.{bounds_at, parts_more}
 use Rattle.luo_places.specs.Numbers.{PartsBefore}
 use Rattle.luo_places.specs.Tails.{Tail, factors, items, TailOn, first_node, behind_first, behind_some, tail_of, tail_count}
-use Rattle.luo_steps.proofs.Next.{first_at}
+use Rattle.luo_places.proofs.steps.Next.{first_at}
 use Rattle.luo_finite.specs.Each.{total}
 use Rattle.luo_rank.specs.inner.Lookup.{Looked, IsCounted, IsLeft, Stands, IsLess, IsUnder, Tailed, entry_of, tail_at, left_count, rank_in, work}
 use Rattle.luo_stepper.specs.inner.Stepping.{Fills, Left, Began}

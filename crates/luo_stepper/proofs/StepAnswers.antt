@@ -18,11 +18,11 @@ use Rattle.luo_model.specs.View.{plain_of}
 use Rattle.luo_places.specs.Tails.{tail_of, TailOn, IsSpread}
 use Rattle.luo_counting.specs.Sharing.{IsRoom}
 use Rattle.luo_counting.proofs.TreeCollections.{carries_bears, back_list, in_components, Components}
-use Rattle.luo_steps.specs.Next.{IsNext, IsFirst, IsLast}
-use Rattle.luo_steps.specs.Laws.{StandsBy}
-use Rattle.luo_steps.proofs.Pairs.{of_some}
-use Rattle.luo_steps.proofs.Trees.{Next-branch, Next-union, Last-union, atom_last}
-use Rattle.luo_steps.proofs.Tails.{product_stands, collection_stands}
+use Rattle.luo_places.specs.steps.Next.{IsNext, IsFirst, IsLast}
+use Rattle.luo_places.specs.steps.Laws.{StandsBy}
+use Rattle.luo_places.proofs.steps.Pairs.{of_some}
+use Rattle.luo_places.proofs.steps.Trees.{Next-branch, Next-union, Last-union, atom_last}
+use Rattle.luo_places.proofs.steps.Tails.{product_stands, collection_stands}
 use Rattle.luo_struct.specs.declared.structure.Structure.{Structure}
 use Rattle.luo_struct.specs.View.{tree_of, tree_list}
 use Rattle.luo_rank.specs.inner.Lookup.{Looked, IsCounted, entry_of, tail_at, behind, Stands, AreThere, no_part, part_entry}

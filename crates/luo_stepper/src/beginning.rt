@@ -4,7 +4,7 @@ ghost use Rattle.luo_model.specs.Order.{IsBefore};
 ghost use Rattle.luo_model.specs.Program.{shape_of};
 ghost use Rattle.luo_model.specs.View.{plain_of};
 ghost use Rattle.luo_struct.specs.View.{tree_of, tree_list};
-ghost use Rattle.luo_steps.specs.Next.{IsFirst};
+ghost use Rattle.luo_places.specs.steps.Next.{IsFirst};
 ghost use Rattle.luo_rank.specs.inner.Lookup.{IsLooked, Stands, entry_of, left_count};
 ghost use Rattle.luo_stepper.specs.inner.Stepping.{AreLabels, Here, Began};
 

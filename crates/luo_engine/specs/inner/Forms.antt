@@ -3,7 +3,7 @@ use Rattle.luo_engine.specs.declared.collections.Counter.{Counter}
 use Rattle.luo_engine.specs.declared.collections.Counter.TheVariants as counter
 use Rattle.luo_engine.specs.declared.walks.Summer.{Summer}
 use Rattle.luo_engine.specs.declared.walks.Summer.TheVariants as summer
-use Rattle.luo_recipes.specs.Asked.{Asked, AskedWalk, of_line, of_parts, of_unbounded, of_labelled, of_unlabelled, of_labelled_walk, of_unlabelled_walk}
+use Rattle.luo_engine.specs.inner.Asked.{Asked, AskedWalk, of_line, of_parts, of_unbounded, of_labelled, of_unlabelled, of_labelled_walk, of_unlabelled_walk}
 
 abbrev pub asked_of : Counter → Asked
 asked_of (counter.Chain c) = of_labelled c

@@ -11,8 +11,8 @@ use Rattle.luo_engine.specs.declared.tasks.Task.{Task}
 use Rattle.luo_engine.specs.declared.tasks.Task.TheVariants.{Scopes, Walk}
 use Rattle.luo_engine.specs.declared.tasks.Sites.{Sites}
 use Rattle.luo_engine.specs.inner.Points.{point_of}
-use Rattle.luo_recipes.specs.Filled.{rank_of, IsOrderOf, AreFilled}
-use Rattle.luo_recipes.specs.Listed.{IsSiteBefore}
+use Rattle.luo_engine.specs.inner.Filled.{rank_of, IsOrderOf, AreFilled}
+use Rattle.luo_engine.specs.inner.Listed.{IsSiteBefore}
 use Rattle.luo_recipes.specs.Tasks as plain
 
 -- the number that the tables give to a scope at size n

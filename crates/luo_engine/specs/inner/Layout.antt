@@ -7,7 +7,7 @@ use Rattle.luo_model.specs.declared.program.Shape.TheVariants.{Atom, Union, Prod
 use Rattle.luo_model.specs.Program.{Program, shape_of}
 use Rattle.luo_model.specs.Levels.{IsRank}
 use Rattle.luo_engine.specs.declared.layout.Layout.{Layout}
-use Rattle.luo_recipes.specs.Partial.{AreLinks}
+use Rattle.luo_engine.specs.inner.Partial.{AreLinks}
 
 -- the rows of a product: its factors, and the end
 abbrev pub rows_of_parts : List Part → List (Option ℕ)

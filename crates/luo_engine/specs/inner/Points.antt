@@ -6,8 +6,8 @@ use Rattle.luo_model.specs.declared.program.Universe.{Universe}
 use Rattle.luo_counting.specs.Sharing.{shares}
 use Rattle.luo_engine.specs.declared.points.Link.{Link}
 use Rattle.luo_recipes.specs.Shares.{inner, tail_of}
-use Rattle.luo_recipes.specs.Grid.{Reaches, entry_of}
-use Rattle.luo_recipes.specs.Partial.{AreClosedFrom}
+use Rattle.luo_engine.specs.inner.Grid.{Reaches, entry_of}
+use Rattle.luo_engine.specs.inner.Partial.{AreClosedFrom}
 
 -- the ways to share a size among the factors from a row on, with the charges of the sites on one of
 -- them

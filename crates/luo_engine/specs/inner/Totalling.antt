@@ -5,14 +5,14 @@ use Rattle.luo_model.specs.declared.table.Fill.TheVariants.{All}
 use Rattle.luo_model.specs.View.{plain_of}
 use Rattle.luo_model.specs.Tables.{IsTotal}
 use Rattle.luo_engine.specs.declared.tasks.Sites.{Sites}
-use Rattle.luo_recipes.specs.Grid.{Reaches, entry_of}
+use Rattle.luo_engine.specs.inner.Grid.{Reaches, entry_of}
 use Rattle.luo_engine.specs.inner.Points.{IsClosedPoint}
-use Rattle.luo_recipes.specs.Filled.{IsRightOf}
-use Rattle.luo_recipes.specs.Plan.{Planned}
-use Rattle.luo_recipes.specs.Asked.{Asked, AskedWalk}
+use Rattle.luo_engine.specs.inner.Filled.{IsRightOf}
+use Rattle.luo_engine.specs.inner.Plan.{Planned}
+use Rattle.luo_engine.specs.inner.Asked.{Asked, AskedWalk}
 use Rattle.luo_engine.specs.inner.Laid.{AreSites}
 use Rattle.luo_engine.specs.inner.Totals.{AreWalked}
-use Rattle.luo_recipes.specs.Running.{IsCounting}
+use Rattle.luo_engine.specs.inner.Running.{IsCounting}
 
 -- as long as the engine hasn't stopped, what is ahead is 0, each walk is asked for the next size,
 -- and the charged products are closed

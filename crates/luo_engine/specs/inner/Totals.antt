@@ -4,10 +4,10 @@ use Rattle.luo_model.specs.Program.{Program}
 use Rattle.luo_model.specs.View.{plain_of}
 use Rattle.luo_engine.specs.declared.tasks.Task.TheVariants.{Walk}
 use Rattle.luo_engine.specs.declared.tasks.Sites.{Sites}
-use Rattle.luo_recipes.specs.Plan.{Planned, IsPlan}
+use Rattle.luo_engine.specs.inner.Plan.{Planned, IsPlan}
 use Rattle.luo_engine.specs.inner.Laid.{AreSites}
-use Rattle.luo_recipes.specs.Asked.{AskedWalk}
-use Rattle.luo_recipes.specs.Walks.{IsWalkAsked}
+use Rattle.luo_engine.specs.inner.Asked.{AskedWalk}
+use Rattle.luo_engine.specs.inner.Walks.{IsWalkAsked}
 
 -- the sites are those of the plan's program
 pub record ArePlanned (plan : Planned) (s : Sites) : Type 0 where

@@ -3,8 +3,8 @@ use Rattle.std.specs.Prelude.{◌≡◌, ℕ, ◌<◌, List, length, slice_get, 
 use Rattle.luo_model.specs.Program.{Program, site_node}
 use Rattle.luo_engine.specs.declared.tasks.Task.{Task}
 use Rattle.luo_engine.specs.declared.tasks.Task.TheVariants.{Walk}
-use Rattle.luo_recipes.specs.Asked.{Asked, AskedWalk, unasked_walk}
-use Rattle.luo_recipes.specs.Collections.{table_at}
+use Rattle.luo_engine.specs.inner.Asked.{Asked, AskedWalk, unasked_walk}
+use Rattle.luo_engine.specs.inner.Collections.{table_at}
 
 -- of the sites below i each with a walk has a table for it
 pub record AreMadeBelow

@@ -12,8 +12,8 @@ use Rattle.luo_model.specs.View.{plain_of}
 use Rattle.luo_counting.specs.Sharing.{IsRoom, splits}
 use Rattle.luo_places.specs.Numbers.{PartsBefore}
 use Rattle.luo_places.specs.Tails.{TailOn, first_node}
-use Rattle.luo_steps.specs.Next.{IsNext, IsFirst, IsLast}
-use Rattle.luo_steps.specs.Rooms.{RoomBefore, IsShare, HasSize, HasLabels, HasRoom}
+use Rattle.luo_places.specs.steps.Next.{IsNext, IsFirst, IsLast}
+use Rattle.luo_places.specs.steps.Rooms.{RoomBefore, IsShare, HasSize, HasLabels, HasRoom}
 use Rattle.luo_struct.specs.declared.structure.Structure.{Structure}
 use Rattle.luo_struct.specs.View.{tree_of, tree_list}
 use Rattle.luo_rank.specs.inner.Lookup.{Looked, entry_of, tail_at, behind, Stands, IsLeft, no_part, part_entry}

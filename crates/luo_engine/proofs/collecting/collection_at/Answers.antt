@@ -6,9 +6,9 @@ use Rattle.luo_model.specs.declared.program.Shape.{Shape}
 use Rattle.luo_model.specs.declared.program.Shape.TheVariants.{Atom, Union, Product, Coll}
 use Rattle.luo_model.specs.declared.program.Kind.{Kind}
 use Rattle.luo_model.specs.declared.program.Part.{Part}
-use Rattle.luo_recipes.specs.Filled.{CountsTo}
-use Rattle.luo_recipes.specs.Collections.{IsCollection}
-use Rattle.luo_recipes.proofs.CollectingLemmas.{component_row, component_reaches, goes_on, comp_long, number_is, next}
+use Rattle.luo_engine.specs.inner.Filled.{CountsTo}
+use Rattle.luo_engine.specs.inner.Collections.{IsCollection}
+use Rattle.luo_engine.proofs.inner.CollectingLemmas.{component_row, component_reaches, goes_on, comp_long, number_is, next}
 use Rattle.luo_engine.proofs.collecting.collection_at.Goals as goal
 
 pub here_at-here-requires-clause-row : goal.here_at-here-requires-clause-row

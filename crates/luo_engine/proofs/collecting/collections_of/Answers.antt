@@ -1,6 +1,6 @@
 use Rattle.std.proofs.Common.{◌+◌, ◌∙◌, length, ap, arith}
 use Rattle.luo_model.specs.View.{Held, plain_of}
-use Rattle.luo_recipes.proofs.CollectionLemmas.{long_table, unasked_more}
+use Rattle.luo_engine.proofs.inner.CollectionLemmas.{long_table, unasked_more}
 use Rattle.luo_engine.proofs.collecting.collections_of.Goals as goal
 
 pub loop-x-preserved : goal.loop-x-preserved

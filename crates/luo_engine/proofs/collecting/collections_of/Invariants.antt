@@ -1,6 +1,6 @@
 use Rattle.std.proofs.Common.{◌≡◌, length}
 use Rattle.luo_model.specs.View.{plain_of}
-use Rattle.luo_recipes.specs.Collections.{AreUnasked}
+use Rattle.luo_engine.specs.inner.Collections.{AreUnasked}
 use Rattle.luo_engine.proofs.collecting.collections_of.Given as goal
 
 abbrev pub invariant-loop-x : goal.invariant-loop-x

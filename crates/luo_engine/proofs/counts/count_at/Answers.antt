@@ -7,11 +7,11 @@ use Rattle.luo_model.specs.declared.program.Universe.{Universe}
 use Rattle.luo_model.specs.declared.program.Shape.TheVariants.{Atom, Union, Product, Coll}
 use Rattle.luo_model.specs.Program.{shape_of}
 use Rattle.luo_model.specs.View.{plain_of}
-use Rattle.luo_recipes.specs.Grid.{entry_of}
+use Rattle.luo_engine.specs.inner.Grid.{entry_of}
 use Rattle.luo_recipes.specs.Shares.{tail_of}
-use Rattle.luo_recipes.specs.Collections.{IsCollection}
-use Rattle.luo_recipes.proofs.PlanLemmas.{parts_there, end_at, room_at, product_to, union_to, atom_to}
-use Rattle.luo_recipes.proofs.CollectionLemmas.{collections_skip}
+use Rattle.luo_engine.specs.inner.Collections.{IsCollection}
+use Rattle.luo_engine.proofs.inner.PlanLemmas.{parts_there, end_at, room_at, product_to, union_to, atom_to}
+use Rattle.luo_engine.proofs.inner.CollectionLemmas.{collections_skip}
 use Rattle.luo_engine.proofs.counts.count_at.Goals as goal
 
 pub sum_at-requires-clause-there : goal.sum_at-requires-clause-there

@@ -1,8 +1,8 @@
 use Rattle.std.proofs.Common.{◌∙◌, subst}
 use Rattle.std.proofs.lemmas.Option.{get_or_from_slice_get}
 use Rattle.luo_model.specs.View.{plain_of}
-use Rattle.luo_recipes.specs.Filled.{CountsTo}
-use Rattle.luo_recipes.proofs.FillLemmas.{first_past, counted_more, open_kept, shape_kept}
+use Rattle.luo_engine.specs.inner.Filled.{CountsTo}
+use Rattle.luo_engine.proofs.inner.FillLemmas.{first_past, counted_more, open_kept, shape_kept}
 use Rattle.luo_engine.proofs.counts.fill_counts.Goals as goal
 
 pub returns-then-value-gt-MAX-clause-past : goal.returns-then-value-gt-MAX-clause-past

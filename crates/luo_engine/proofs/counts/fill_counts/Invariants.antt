@@ -1,9 +1,9 @@
 use Rattle.std.proofs.Common.{length}
 use Rattle.luo_model.specs.View.{plain_of}
-use Rattle.luo_recipes.specs.Grid.{SameShape, SameOthers}
-use Rattle.luo_recipes.specs.Partial.{AreOpenBefore}
-use Rattle.luo_recipes.specs.Collections.{AreCollections}
-use Rattle.luo_recipes.specs.Filled.{AreCounted}
+use Rattle.luo_engine.specs.inner.Grid.{SameShape, SameOthers}
+use Rattle.luo_engine.specs.inner.Partial.{AreOpenBefore}
+use Rattle.luo_engine.specs.inner.Collections.{AreCollections}
+use Rattle.luo_engine.specs.inner.Filled.{AreCounted}
 use Rattle.luo_engine.proofs.counts.fill_counts.Given as goal
 
 abbrev pub invariant-loop-k : goal.invariant-loop-k

@@ -1,6 +1,6 @@
 use Rattle.std.proofs.Common.{◌≡◌, sum_by, take}
 use Rattle.luo_num.specs.Mark.{capped}
-use Rattle.luo_recipes.specs.Grid.{entry_of}
+use Rattle.luo_engine.specs.inner.Grid.{entry_of}
 use Rattle.luo_engine.proofs.counts.sum_at.Given as goal
 
 abbrev pub invariant-loop-part : goal.invariant-loop-part

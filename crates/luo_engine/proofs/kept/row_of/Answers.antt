@@ -1,5 +1,5 @@
 use Rattle.luo_model.specs.View.{plain_of}
-use Rattle.luo_recipes.proofs.KeptLemmas.{row_more}
+use Rattle.luo_engine.proofs.inner.KeptLemmas.{row_more}
 use Rattle.luo_engine.proofs.kept.row_of.Goals as goal
 
 pub loop-x-preserved : goal.loop-x-preserved

@@ -1,5 +1,5 @@
 use Rattle.luo_model.specs.View.{plain_of}
-use Rattle.luo_recipes.specs.Kept.{IsCountRow}
+use Rattle.luo_engine.specs.inner.Kept.{IsCountRow}
 use Rattle.luo_engine.proofs.kept.row_of.Given as goal
 
 abbrev pub invariant-loop-x : goal.invariant-loop-x

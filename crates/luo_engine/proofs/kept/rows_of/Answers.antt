@@ -1,5 +1,5 @@
 use Rattle.luo_model.specs.View.{plain_of}
-use Rattle.luo_recipes.proofs.KeptLemmas.{rows_more}
+use Rattle.luo_engine.proofs.inner.KeptLemmas.{rows_more}
 use Rattle.luo_engine.proofs.kept.rows_of.Goals as goal
 
 pub loop-n-preserved : goal.loop-n-preserved

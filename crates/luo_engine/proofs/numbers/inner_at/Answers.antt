@@ -2,7 +2,7 @@ use Rattle.std.proofs.Common.{suc, ◌∙◌, ap, arith, slice_index}
 use Rattle.luo_num.specs.Mark.{capped}
 use Rattle.luo_finite.specs.Range.{sum_below}
 use Rattle.luo_recipes.specs.Shares.{paired, inner}
-use Rattle.luo_recipes.proofs.MarkLemmas.{inner-more}
+use Rattle.luo_engine.proofs.inner.MarkLemmas.{inner-more}
 use Rattle.luo_engine.proofs.numbers.inner_at.Goals as goal
 
 pub returns : goal.returns

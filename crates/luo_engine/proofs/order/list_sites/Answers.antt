@@ -1,6 +1,6 @@
 use Rattle.std.proofs.Common.{◌∙◌, sym, subst, ◌+◌}
-use Rattle.luo_recipes.specs.Listed.{AreSitesListed}
-use Rattle.luo_recipes.proofs.SiteOrder.{site_listed, site_passed, level_listed}
+use Rattle.luo_engine.specs.inner.Listed.{AreSitesListed}
+use Rattle.luo_engine.proofs.inner.SiteOrder.{site_listed, site_passed, level_listed}
 use Rattle.luo_engine.proofs.order.list_sites.Goals.{then-ranks-i+then-levels-i+in_ok-push, else-ranks-i, else-ranks-i-via-then-ranks-i+else-levels-i, else-ranks-i-via-else-ranks-i}
 use Rattle.luo_engine.proofs.order.list_sites.Goals as goal
 

@@ -1,4 +1,4 @@
-use Rattle.luo_recipes.specs.Listed.{AreSitesListed}
+use Rattle.luo_engine.specs.inner.Listed.{AreSitesListed}
 use Rattle.luo_engine.proofs.order.list_sites.Given as goal
 
 abbrev pub invariant-loop-i : goal.invariant-loop-i

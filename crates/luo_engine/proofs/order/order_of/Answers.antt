@@ -1,6 +1,6 @@
 use Rattle.std.proofs.Common.{◌∙◌, sym, subst, ◌+◌, List, ℕ}
-use Rattle.luo_recipes.specs.Listed.{IsListed}
-use Rattle.luo_recipes.proofs.OrderLemmas.{listed_more, listed_other, listed_next, listed_all}
+use Rattle.luo_engine.specs.inner.Listed.{IsListed}
+use Rattle.luo_engine.proofs.inner.OrderLemmas.{listed_more, listed_other, listed_next, listed_all}
 use Rattle.luo_engine.proofs.order.order_of.Goals.{then-ranks-x+in_ok-push, else-ranks-x}
 use Rattle.luo_engine.proofs.order.order_of.Goals as goal
 

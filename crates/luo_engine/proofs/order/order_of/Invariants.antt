@@ -1,4 +1,4 @@
-use Rattle.luo_recipes.specs.Listed.{IsListed}
+use Rattle.luo_engine.specs.inner.Listed.{IsListed}
 use Rattle.luo_engine.proofs.order.order_of.Given as goal
 
 abbrev pub invariant-loop-r : goal.invariant-loop-r

@@ -1,5 +1,5 @@
 use Rattle.std.proofs.Common.{arith}
-use Rattle.luo_recipes.proofs.SiteOrder.{rank_listed, all_listed}
+use Rattle.luo_engine.proofs.inner.SiteOrder.{rank_listed, all_listed}
 use Rattle.luo_engine.proofs.order.site_order_of.Goals as goal
 
 pub loop-r-preserved : goal.loop-r-preserved

@@ -1,8 +1,8 @@
 use Rattle.std.proofs.Common.{◌≡◌, drop}
 use Rattle.luo_num.specs.Mark.{capped}
-use Rattle.luo_recipes.specs.Grid.{entry_of, SameShape}
+use Rattle.luo_engine.specs.inner.Grid.{entry_of, SameShape}
 use Rattle.luo_recipes.specs.Shares.{tail_of}
-use Rattle.luo_recipes.specs.Partial.{AreClosedFrom}
+use Rattle.luo_engine.specs.inner.Partial.{AreClosedFrom}
 use Rattle.luo_engine.proofs.partial.close_size.Given as goal
 
 abbrev pub invariant-loop-r : goal.invariant-loop-r

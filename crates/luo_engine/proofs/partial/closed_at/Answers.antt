@@ -1,4 +1,4 @@
-use Rattle.luo_recipes.proofs.RowLemmas.{closed_row}
+use Rattle.luo_engine.proofs.inner.RowLemmas.{closed_row}
 use Rattle.luo_engine.proofs.partial.closed_at.Goals as goal
 
 pub returns-in-Some : goal.returns-in-Some

@@ -1,4 +1,4 @@
-use Rattle.luo_recipes.proofs.RowLemmas.{open_row}
+use Rattle.luo_engine.proofs.inner.RowLemmas.{open_row}
 use Rattle.luo_engine.proofs.partial.open_at.Goals as goal
 
 pub returns-in-Some : goal.returns-in-Some

@@ -1,5 +1,5 @@
-use Rattle.luo_recipes.specs.Grid.{SameShape}
-use Rattle.luo_recipes.specs.Partial.{AreOpenBefore}
+use Rattle.luo_engine.specs.inner.Grid.{SameShape}
+use Rattle.luo_engine.specs.inner.Partial.{AreOpenBefore}
 use Rattle.luo_engine.proofs.partial.open_size.Given as goal
 
 abbrev pub invariant-loop-r : goal.invariant-loop-r

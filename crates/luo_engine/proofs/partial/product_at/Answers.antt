@@ -1,8 +1,8 @@
 use Rattle.std.proofs.Common.{sym, ◌∙◌, ap}
 use Rattle.luo_num.specs.Mark.{capped}
-use Rattle.luo_recipes.specs.Grid.{entry_of}
-use Rattle.luo_recipes.proofs.MarkLemmas.{capped-unit}
-use Rattle.luo_recipes.proofs.RowLemmas.{end_row}
+use Rattle.luo_engine.specs.inner.Grid.{entry_of}
+use Rattle.luo_engine.proofs.inner.MarkLemmas.{capped-unit}
+use Rattle.luo_engine.proofs.inner.RowLemmas.{end_row}
 use Rattle.luo_engine.proofs.partial.product_at.Goals as goal
 
 pub loop-i-init : goal.loop-i-init

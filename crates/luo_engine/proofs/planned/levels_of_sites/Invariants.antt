@@ -1,5 +1,5 @@
 use Rattle.luo_model.specs.View.{plain_of}
-use Rattle.luo_recipes.specs.SiteLists.{AreSiteLevels}
+use Rattle.luo_engine.specs.inner.SiteLists.{AreSiteLevels}
 use Rattle.luo_engine.proofs.planned.levels_of_sites.Given as goal
 
 abbrev pub invariant-loop-i : goal.invariant-loop-i

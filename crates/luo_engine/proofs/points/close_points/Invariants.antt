@@ -1,6 +1,6 @@
 use Rattle.std.proofs.Common.{◌≡◌, drop}
 use Rattle.luo_num.specs.Mark.{capped}
-use Rattle.luo_recipes.specs.Grid.{entry_of, SameShape}
+use Rattle.luo_engine.specs.inner.Grid.{entry_of, SameShape}
 use Rattle.luo_engine.specs.inner.Points.{ArePointsClosed, point_of}
 use Rattle.luo_engine.proofs.points.close_points.Given as goal
 

@@ -1,6 +1,6 @@
 use Rattle.std.proofs.Common.{◌≡◌, sum_by, take, slice_index}
 use Rattle.luo_num.specs.Mark.{capped}
-use Rattle.luo_recipes.specs.Grid.{entry_of}
+use Rattle.luo_engine.specs.inner.Grid.{entry_of}
 use Rattle.luo_recipes.specs.Shares.{inner}
 use Rattle.luo_engine.proofs.points.inner_sum.Given as goal
 

@@ -1,4 +1,4 @@
-use Rattle.luo_recipes.specs.Grid.{SameShape}
+use Rattle.luo_engine.specs.inner.Grid.{SameShape}
 use Rattle.luo_engine.specs.inner.Points.{ArePointsOpen}
 use Rattle.luo_engine.proofs.points.open_points.Given as goal
 

@@ -1,7 +1,7 @@
 use Rattle.std.proofs.Common.{◌≡◌, sum_by, take, slice_index}
 use Rattle.luo_num.specs.Mark.{capped}
-use Rattle.luo_recipes.specs.Grid.{entry_of}
-use Rattle.luo_recipes.specs.Partial.{closing}
+use Rattle.luo_engine.specs.inner.Grid.{entry_of}
+use Rattle.luo_engine.specs.inner.Partial.{closing}
 use Rattle.luo_engine.proofs.points.outer_sum.Given as goal
 
 abbrev pub invariant-loop-s : goal.invariant-loop-s

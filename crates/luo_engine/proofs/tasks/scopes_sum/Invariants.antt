@@ -1,6 +1,6 @@
 use Rattle.std.proofs.Common.{◌≡◌, sum_by, take}
 use Rattle.luo_num.specs.Mark.{capped}
-use Rattle.luo_recipes.specs.Grid.{entry_of}
+use Rattle.luo_engine.specs.inner.Grid.{entry_of}
 use Rattle.luo_engine.specs.inner.Laid.{laid_number}
 use Rattle.luo_engine.proofs.tasks.scopes_sum.Given as goal
 

@@ -1,4 +1,4 @@
-use Rattle.luo_recipes.proofs.FillLemmas.{shape_kept}
+use Rattle.luo_engine.proofs.inner.FillLemmas.{shape_kept}
 use Rattle.luo_engine.proofs.TotalPlan.{totalled_more, first_total, points_kept}
 use Rattle.luo_engine.proofs.totals.fill_totals.Goals as goal
 

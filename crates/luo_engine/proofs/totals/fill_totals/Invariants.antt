@@ -1,6 +1,6 @@
 use Rattle.std.proofs.Common.{length}
 use Rattle.luo_model.specs.View.{plain_of}
-use Rattle.luo_recipes.specs.Grid.{SameShape}
+use Rattle.luo_engine.specs.inner.Grid.{SameShape}
 use Rattle.luo_engine.specs.inner.Points.{ArePointsOpen}
 use Rattle.luo_engine.specs.inner.Laid.{AreTotalled}
 use Rattle.luo_engine.specs.inner.Totals.{AreWalked}

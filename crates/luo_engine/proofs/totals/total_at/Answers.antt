@@ -1,7 +1,7 @@
 use Rattle.std.proofs.Common.{◌∙◌, sym, ap, subst, Some}
 use Rattle.luo_model.specs.View.{plain_of}
 use Rattle.luo_model.specs.Tables.{IsTotal}
-use Rattle.luo_recipes.specs.Filled.{NumbersTo}
+use Rattle.luo_engine.specs.inner.Filled.{NumbersTo}
 use Rattle.luo_finite.specs.Listing.{In}
 use Rattle.std.proofs.lemmas.Option.{get_or_from_slice_get}
 use Rattle.luo_engine.proofs.TotalPlan.{scopes_there, scopes_to, walk_is, body_totals, body_here, body_asked, walks_more, walks_kept}

@@ -1,5 +1,5 @@
 use Rattle.std.proofs.Common.{◌∙◌, length, sym, ap, arith}
-use Rattle.luo_recipes.proofs.WalkingLemmas.{table_there, component_row, component_reaches, goes_with, number_is, next}
+use Rattle.luo_engine.proofs.inner.WalkingLemmas.{table_there, component_row, component_reaches, goes_with, number_is, next}
 use Rattle.luo_engine.proofs.walking.walk_total.Goals as goal
 
 pub row-requires : goal.row-requires

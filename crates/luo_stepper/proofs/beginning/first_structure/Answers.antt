@@ -1,6 +1,6 @@
 use Rattle.luo_model.specs.Order.{IsBefore}
-use Rattle.luo_steps.specs.Next.{IsFirst}
-use Rattle.luo_steps.proofs.Next.{first_at}
+use Rattle.luo_places.specs.steps.Next.{IsFirst}
+use Rattle.luo_places.proofs.steps.Next.{first_at}
 use Rattle.luo_struct.specs.View.{tree_of}
 use Rattle.luo_rank.specs.inner.Lookup.{StandsAt}
 use Rattle.luo_stepper.specs.inner.Stepping.{Here}

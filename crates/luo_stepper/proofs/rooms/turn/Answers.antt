@@ -1,7 +1,7 @@
 use Rattle.std.proofs.Common.{◌+◌, ◌-◌, subst, arith}
 use Rattle.luo_model.specs.Order.{IsBefore}
 use Rattle.luo_places.specs.Numbers.{PartsBefore}
-use Rattle.luo_steps.specs.Next.{IsFirst}
+use Rattle.luo_places.specs.steps.Next.{IsFirst}
 use Rattle.luo_struct.specs.View.{tree_of}
 use Rattle.luo_rank.proofs.StepLemmas.{few_left, next_stands}
 use Rattle.luo_stepper.specs.inner.Stepping.{Here, Left, IsNextRoom}

@@ -4,7 +4,7 @@ use Rattle.luo_model.specs.declared.table.Entry.TheVariants.{Count, Total}
 use Rattle.luo_model.specs.View.{plain_of}
 use Rattle.luo_engine.specs.Run.{Run}
 use Rattle.luo_engine.specs.Entries.{IsFirstOver, NoneOver}
-use Rattle.luo_recipes.proofs.RunLemmas.{counting_more, count_within}
+use Rattle.luo_engine.proofs.inner.RunLemmas.{counting_more, count_within}
 use Rattle.luo_engine.proofs.TotalRuns.{totalled_next, points_below, totalling_more, total_right, total_within}
 use Rattle.luo_engine.proofs.FirstLemmas.{count_over, total_over, none_over}
 use Rattle.luo_engine.proofs.engine.Engine.extend.Goals as goal

@@ -1,9 +1,9 @@
 use Rattle.std.proofs.Common.{◌≡◌, sym, refl, ap, subst, length, ◌+◌, ℕ, List, Option, false}
 use Rattle.luo_model.specs.View.{Held, plain_of}
-use Rattle.luo_recipes.specs.Asked.{Asked}
-use Rattle.luo_recipes.specs.Collections.{AreUnasked}
+use Rattle.luo_engine.specs.inner.Asked.{Asked}
+use Rattle.luo_engine.specs.inner.Collections.{AreUnasked}
 use Rattle.luo_engine.specs.inner.Totalling.{IsTotalling}
-use Rattle.luo_recipes.proofs.RunLemmas.{counting_starts}
+use Rattle.luo_engine.proofs.inner.RunLemmas.{counting_starts}
 use Rattle.luo_engine.proofs.engine.Engine.start.Goals as goal
 
 unasked : (p q : Held) (m n : ℕ) (tables : List (Option Asked)) → q ≡ p → n ≡ m → AreUnasked (plain_of p) m tables (length p.nodes) → AreUnasked (plain_of q) n tables (length q.nodes)

@@ -1,6 +1,6 @@
 use Rattle.std.proofs.Common.{arith, sym, ◌∙◌, ap, List, ℕ, take, drop, ◌*◌}
-use Rattle.luo_recipes.specs.Grid.{row_of}
-use Rattle.luo_recipes.proofs.Flat.{row-there, row-ends, row-at}
+use Rattle.luo_engine.specs.inner.Grid.{row_of}
+use Rattle.luo_engine.proofs.inner.Flat.{row-there, row-ends, row-at}
 use Rattle.luo_engine.proofs.table.Table.row.Goals as goal
 
 pub overflow_mul-x : goal.overflow_mul-x

@@ -1,6 +1,6 @@
 use Rattle.std.proofs.Common.{arith, subst, List, ℕ, ◌+◌, ◌*◌, slice_set}
-use Rattle.luo_recipes.specs.Grid.{IsSet, rows_of}
-use Rattle.luo_recipes.proofs.Flat.{row-there, row-ends, size-there, is_set}
+use Rattle.luo_engine.specs.inner.Grid.{IsSet, rows_of}
+use Rattle.luo_engine.proofs.inner.Flat.{row-there, row-ends, size-there, is_set}
 use Rattle.luo_engine.proofs.table.Table.set.Goals as goal
 
 pub overflow_mul-place : goal.overflow_mul-place

@@ -1,5 +1,0 @@
-use Rattle.luo_steps.proofs.Trees.{atom_first, atom_last}
-use Rattle.luo_steps.proofs.laws.atoms_stand_alone.Goals as goal
-
-pub returns : goal.returns
-returns c = λ p x n weight l L is m. (atom_first p x weight n L is l m, atom_last p x weight n L is l m)

@@ -1,5 +1,0 @@
-use Rattle.luo_steps.proofs.BoundedBags.{bags_part}
-use Rattle.luo_steps.proofs.laws.bags_part.Goals as goal
-
-pub returns : goal.returns
-returns c = λ p kind y low high bound n x us unlabelled bag one. bags_part p kind y unlabelled bag low high bound n x us one
