@@ -22,7 +22,7 @@ pub fn is_structure(program: &Program, node: usize, n: u32, s: &Structure) -> bo
     ensures structure { IsTrue result → IsStructure (plain_of program.now) node n (tree_of s.now) }
     ensures small { IsTrue result → IsSmall (tree_of s.now) }
 {
-    program.known();
+    let _universe = program.universe;
     let size = s.size();
     if size > LIST_SIZE_LIMIT || size != u64::from(n) {
         return false;
