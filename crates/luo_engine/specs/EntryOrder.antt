@@ -1,5 +1,5 @@
 -- The order of entries, one sentence a rule.
-use Rattle.std.specs.Prelude.{◌≡◌, ℕ, ◌<◌, ⊥}
+use Rattle.std.specs.Prelude.{◌≡◌, ℕ, ◌<◌}
 use Rattle.luo_model.specs.declared.table.Entry.{Entry}
 use Rattle.luo_model.specs.declared.table.Entry.TheVariants.{Count, Total}
 use Rattle.luo_model.specs.Program.{Program, site_node}

@@ -1,5 +1,5 @@
 -- The order of the counts and totals of a source, one sentence a rule.
-use Rattle.std.specs.Prelude.{◌≡◌, ℕ, ◌<◌, ⊥}
+use Rattle.std.specs.Prelude.{◌≡◌, ℕ, ◌<◌}
 use Rattle.luo_model.specs.declared.table.Entry.{Entry}
 use Rattle.luo_model.specs.declared.table.Entry.TheVariants.{Count, Total}
 use Rattle.luo_source.specs.Plain.Source.{Source}
