@@ -1,5 +1,5 @@
 -- The order of entries, one sentence a rule.
-use Rattle.std.proofs.Common.{◌≡◌, ◌⊎◌, ℕ, ◌<◌, inl, inr, ⊎_elim, refl, arith}
+use Rattle.std.proofs.Common.{ℕ, ◌<◌, inl, inr, ⊎_elim, refl, arith}
 use Rattle.luo_engine.specs.Entries.{LessOr}
 use Rattle.luo_engine.specs.EntryOrder.{LesserSizesComeFirst, CountsComeFirst, CountsGoByRank, TotalsGoByRank, TotalsGoByLevel}
 

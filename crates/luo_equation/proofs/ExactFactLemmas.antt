@@ -1,5 +1,5 @@
 -- Quotients that leave a remainder.
-use Rattle.std.proofs.Common.{◌≡◌, ℕ, ◌≤◌, arith, pos, negsuc, ◌*ℤ◌, subst}
+use Rattle.std.proofs.Common.{arith, pos}
 use Rattle.std.proofs.lemmas.Int.{ints}
 use Rattle.luo_equation.specs.Series.{IsMultiple, over_shares_z}
 use Rattle.luo_equation.specs.ExactFacts.{RemaindersAreSeen}

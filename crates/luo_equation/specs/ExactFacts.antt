@@ -1,5 +1,5 @@
 -- Quotients that leave a remainder.
-use Rattle.std.specs.Prelude.{ℕ, ℤ, pos, None}
+use Rattle.std.specs.Prelude.{pos, None}
 use Rattle.luo_model.specs.declared.program.Universe.TheVariants.{Labelled}
 use Rattle.luo_model.specs.declared.program.Kind.TheVariants.{Sequence, Set, Cycle}
 use Rattle.luo_equation.specs.Expr.{Expr, Series, Sum, Prod, Coll, Point, no_exprs, expr, Table, IsExact}

@@ -1,5 +1,5 @@
 -- The order of the counts and totals of a source, one sentence a rule.
-use Rattle.std.proofs.Common.{◌≡◌, ◌⊎◌, ℕ, ◌<◌, inl, inr, ⊎_elim, refl, arith}
+use Rattle.std.proofs.Common.{ℕ, ◌<◌, inl, inr, ⊎_elim, refl, arith}
 use Rattle.luo_meaning.specs.Entries.{LessOr}
 use Rattle.luo_meaning.specs.EntryOrder.{LesserSizesComeFirst, CountsComeFirst, CountsGoByRank, TotalsGoByRank, TotalsGoByLevel}
 

@@ -11,7 +11,7 @@ use Rattle.luo_model.specs.Invariant.{IsProgram}
 use Rattle.luo_model.specs.Member.{Member}
 use Rattle.luo_model.specs.Charges.{Charges, SiteCharges}
 use Rattle.luo_model.specs.Structures.{IsStructure}
-use Rattle.luo_model.specs.Tables.{IsRow}
+use Rattle.luo_model.specs.Tables.{IsTotal, IsRow}
 use Rattle.luo_model.proofs.SiteLemmas.{wholes_charge, wholes_charge_no_more}
 use Rattle.luo_source.specs.declared.names.Name.{Name}
 use Rattle.luo_source.specs.Plain.Types.{Named}
@@ -32,7 +32,7 @@ use Rattle.luo_rules.proofs.ProperSource.{source_proper}
 use Rattle.luo_rules.proofs.CleanSource.{Clean, clean, clean_proc, def_node_is, proc_get, proc_back}
 use Rattle.luo_meaning.specs.Structures.{IsOf}
 use Rattle.luo_meaning.specs.Charges.{ProcCharges}
-use Rattle.luo_meaning.specs.Rows.{IsStructureOf, IsRowOf}
+use Rattle.luo_meaning.specs.Rows.{IsStructureOf, IsTotalOf, IsRowOf}
 use Rattle.luo_meaning.proofs.Sits.{Sits}
 use Rattle.luo_meaning.proofs.StructuresKept.{member_is_of, of_is_member}
 use Rattle.luo_meaning.proofs.ProceduresKept.{charges_kept}

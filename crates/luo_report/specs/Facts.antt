@@ -1,12 +1,11 @@
 -- How rows, headings and reports are written.
-use Rattle.std.specs.Prelude.{◌≡◌, ℕ, [], ◌∷◌, ◌++◌, codes, Some}
+use Rattle.std.specs.Prelude.{◌≡◌, ℕ, [], ◌∷◌, ◌++◌, codes}
 use Rattle.luo_model.specs.declared.program.Universe.TheVariants.{Unlabelled, Labelled}
 use Rattle.luo_model.specs.declared.table.Row.{Row}
 use Rattle.luo_model.specs.Program.{Program, Does, no_items}
 use Rattle.luo_model.specs.Programs.{alone, definition, named, procedure}
 use Rattle.luo_equation.specs.declared.equation.Left.TheVariants as left
 use Rattle.luo_equation.specs.Expr.{Power, Series}
-use Rattle.luo_report.specs.declared.table.Table.{Table}
 use Rattle.luo_report.specs.Report.{row_text, heading, universe_text, report_text}
 
 abbrev pub row : ℕ → ℕ → ℕ → Row

@@ -1,5 +1,5 @@
 -- How structures are written.
-use Rattle.std.specs.Prelude.{◌≡◌, ℕ, codes}
+use Rattle.std.specs.Prelude.{◌≡◌, codes}
 use Rattle.luo_model.specs.Tree.{Tree, Trees, Atom, Inj, Tup, Coll, none, more}
 use Rattle.luo_struct.specs.Text.{structure_text}
 
