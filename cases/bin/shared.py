@@ -17,14 +17,17 @@ def expanded(text):
 
 
 def run(program, words, files=None, prepare=None):
-    """The exit status, output and error line of the program, run on these words where these files lie."""
+    """The exit status, output and error line of the program, run on these words where these files lie. Where there is a script
+    `with` among them, it starts the program, whose path is in PROGRAM."""
     with tempfile.TemporaryDirectory() as folder:
         for name, content in (files or {}).items():
             with open(os.path.join(folder, name), "wb") as f:
                 f.write(content)
         if prepare:
             prepare(folder)
-        done = subprocess.run([program] + words, cwd=folder, stdin=subprocess.DEVNULL, capture_output=True, timeout=60)
+        way = ["bash", "./with"] if os.path.exists(os.path.join(folder, "with")) else [program]
+        setting = dict(os.environ, PROGRAM=program)
+        done = subprocess.run(way + words, cwd=folder, env=setting, stdin=subprocess.DEVNULL, capture_output=True, timeout=60)
     return done.returncode, done.stdout, done.stderr
 
 

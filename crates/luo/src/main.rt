@@ -10,6 +10,8 @@ use std::{env, io};
 #[cfg(test)]
 mod tests;
 #[cfg(test)]
+mod tests_faults;
+#[cfg(test)]
 mod tests_front;
 #[cfg(test)]
 mod tests_gate;

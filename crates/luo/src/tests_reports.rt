@@ -2,8 +2,8 @@
 use crate::tests::analysed;
 use std::test::Fail;
 
-// Binary trees and their path length.
-const TREE: &[u8] =
+/// Binary trees and their path length.
+pub const TREE: &[u8] =
     b"type leaf = epsilon; type node = atom(1); type tree = leaf | product(node, tree, tree); \
     measure step : 1; procedure size(t : tree); begin case t of leaf : skip; (n, l, r) : begin \
     step; size(l); size(r) end end end; procedure path(t : tree); begin case t of leaf : skip; \

@@ -9,6 +9,7 @@ mod mem_files;
 mod mem_sink;
 mod reading;
 mod sending;
+mod sure;
 mod traits;
 
 pub use faults::{Failed, ReadError, WriteFault};
@@ -18,4 +19,5 @@ pub use mem_files::MemFiles;
 pub use mem_sink::MemSink;
 pub use reading::read_all;
 pub use sending::send;
+pub use sure::{SureFiles, SureSink};
 pub use traits::{Files, Sink};

@@ -13,5 +13,6 @@ pub mod ReportKept
 pub mod RunKept
 pub mod SampleTaken
 pub mod SummaryKept
+pub mod SureRun
 pub mod TokenBytes
 pub mod WrittenOutcome

@@ -5,4 +5,5 @@ pub mod Laws
 pub mod Outcome
 pub mod Refusals
 pub mod Steps
+pub mod Sure
 pub mod inner

@@ -2,6 +2,10 @@
 ghost use Rattle.luo_top.specs.Laws.{OutcomeIsOne, OutcomeComes, OutcomeIsTold, OutcomeIsAsWritten, SamplesAreTaken, AuditsAgree, AuditsReport};
 ghost use Rattle.luo_top.specs.Laws.{NumbersAreSpelled, AnalyseIsSpelled, FormatIsSpelled, RunIsSpelled, ListIsSpelled, SampleIsSpelled, AuditIsSpelled};
 
+mod sure;
+
+pub use sure::luo_sure;
+
 /// Over what a source tells, and for all words, at most one answer is the outcome.
 pub fn outcome_is_one()
     ensures { OutcomeIsOne }
