@@ -212,7 +212,7 @@ def main(words: Sequence[str]) -> int:
     parser.add_argument("picture", help="the picture, NAME.png or NAME.svg")
     parser.add_argument("text", nargs="*", help="texts of structures; a listing on standard input without any")
     parser.add_argument("--as", dest="form", choices=FORMS, help="the form; without it one that fits each structure")
-    given = parser.parse_args(words)
+    given = parser.parse_intermixed_args(words)
     picture = picture_name(given.picture)
     texts = texts_of(given.text, "-")
     if len(texts) > MOST:

@@ -90,7 +90,7 @@ def main(words: Sequence[str]) -> int:
     parser.add_argument("picture", help="the picture, NAME.png or NAME.svg")
     parser.add_argument("file", nargs="*", default=["-"], help="reports of luo; standard input without any")
     parser.add_argument("--what", action="append", choices=("averages", "counts", "bands"), help="averages and counts without it")
-    given = parser.parse_args(words)
+    given = parser.parse_intermixed_args(words)
     picture = picture_name(given.picture)
     named = [(os.path.basename(path).split(".")[0], table) for path in given.file for table in read_report(read_input(path)).tables]
     if "bands" in (given.what or []) and not all(table.has_moments for _, table in named):
