@@ -2,11 +2,12 @@
 
 from __future__ import annotations
 
+import os
 import subprocess
 from pathlib import Path
 
 import pytest
-from conftest import TOP, one_line, out_of, run, tool
+from conftest import TOOLS, TOP, one_line, out_of, run, tool
 
 TREE = TOP / "examples" / "tree.adl"
 KILLER = """#!/bin/sh
@@ -94,3 +95,20 @@ def test_bad_words(luo: str, tmp_path: Path) -> None:
     planned(luo, tmp_path / "p")
     assert "folder of its own" in one_line(tool("luo-shards", "plan", "--luo", luo, tmp_path / "p", TREE, "tree", 9))
     assert "pieces 0 to 3" in one_line(tool("luo-shards", "piece", tmp_path / "p", 4))
+
+
+@pytest.mark.skipif("LUO_LONG" not in os.environ, reason="takes minutes and a gigabyte: LUO_LONG=1 tools/check PROGRAM")
+def test_all_binary_trees_of_size_14(luo: str, tmp_path: Path) -> None:
+    """All 2,674,440 in four pieces by four workers, byte for byte the stretches of one run after the other."""
+    done = tool("luo-shards", "plan", "--luo", luo, tmp_path / "pieces", TREE, "tree", 14)
+    assert subprocess.run(["parallel", "--will-cite", "-j", "4"], input=done.stdout, check=False).returncode == 0
+    with open(tmp_path / "joined", "wb") as out:
+        joined = subprocess.run([TOOLS / "luo-shards", "join", tmp_path / "pieces"], stdout=out, check=False)
+    assert joined.returncode == 0
+    lines = 0
+    with open(tmp_path / "joined", "rb") as pieces:
+        for start in range(0, 2_674_440, 100_000):
+            stretch = out_of(luo, "list", TREE, "tree", 14, start, 100_000)
+            assert pieces.read(len(stretch)) == stretch
+            lines += stretch.count(b"\n")
+        assert not pieces.read(1) and lines == 2_674_440
