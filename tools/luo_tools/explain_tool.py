@@ -6,8 +6,9 @@ import sys
 from collections.abc import Sequence
 
 from .command import Parser, has_colours
-from .explain import explanation_of, rendered
+from .explain import explanation_of
 from .program import DONE, add_program_option, find_program, run_luo
+from .render import rendered
 
 COMMANDS = ("analyse", "format", "run", "list", "audit", "sample", "moments", "sum", "rank", "draw", "certify", "verify")
 FILELESS = ("sample",)

@@ -111,7 +111,7 @@ class Prefix:
             symbol = self.stack.pop()
             if not is_rule(symbol):
                 return True
-            chosen = next((p for p in RULES[symbol] if token.kind in first_of_all(tuple(p))[0]), [])
+            chosen: list[str] = next((p for p in RULES[symbol] if token.kind in first_of_all(tuple(p))[0]), [])
             self.stack.extend(reversed(chosen))
 
 

@@ -15,7 +15,7 @@ SHAPES: dict[str, tuple[Function, str, Function]] = {
     "n^(1/2) log n": (lambda n: sqrt(n) * log(n), "n^(1/2)", sqrt),
     "n": (lambda n: n, "1", lambda n: 1.0),
     "n log n": (lambda n: n * log(n), "n", lambda n: n),
-    "n^(3/2)": (lambda n: n**1.5, "n", lambda n: n),
+    "n^(3/2)": (lambda n: n * sqrt(n), "n", lambda n: n),
     "n^2": (lambda n: n * n, "n", lambda n: n),
 }
 LEAST_ROWS = 6

@@ -59,7 +59,7 @@ def degree_of(coefficients: Sequence[int]) -> int:
 
 def polynomial_text(coefficients: Sequence[int]) -> str:
     """A polynomial in n, from its highest power down."""
-    terms = []
+    terms: list[str] = []
     for power in range(len(coefficients) - 1, -1, -1):
         number = coefficients[power]
         if number:

@@ -9,7 +9,7 @@ import sys
 from argparse import Namespace
 from collections.abc import Callable, Sequence
 
-from .command import FAILED, Failure, Parser
+from .command import Failure, Parser
 from .program import add_program_option, find_program
 from .shards import faults, make_plan, work_on
 
@@ -91,5 +91,3 @@ def main(words: Sequence[str]) -> int:
     words_of(join, joined)
     given = parser.parse_args(words)
     return int(given.run(given))
-
-

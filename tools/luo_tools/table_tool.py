@@ -136,10 +136,11 @@ def json_text(output: Output, sheets: list[Sheet]) -> str:
     whole: dict[str, object] = {}
     if isinstance(output, Report):
         whole = {"universe": output.universe, "equations": list(output.equations)}
-    whole["tables"] = [
-        {**sheet.shared, "rows": [{c: json_cell(v, c) for c, v in zip(sheet.columns, row, strict=True)} for row in sheet.rows]}
-        for sheet in sheets
-    ]
+    tables: list[dict[str, object]] = []
+    for sheet in sheets:
+        rows = [{c: json_cell(v, c) for c, v in zip(sheet.columns, row, strict=True)} for row in sheet.rows]
+        tables.append({**sheet.shared, "rows": rows})
+    whole["tables"] = tables
     return json.dumps(whole, indent=1) + "\n"
 
 
