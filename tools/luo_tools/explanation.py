@@ -61,7 +61,7 @@ def kinds_shown(kinds: frozenset[str]) -> str:
     return listed(sorted((plain.get(kind, f"`{kind}`") for kind in kinds), key=lambda s: (s[0] == "`", s)))
 
 
-def near(word: str, known: Sequence[str]) -> str:
+def near(word: str, known: Sequence[str], likeness: float = 0.65) -> str:
     """A known word that is like this one, or nothing."""
-    found = difflib.get_close_matches(word.lower(), list(known), 1, 0.7)
+    found = difflib.get_close_matches(word.lower(), list(known), 1, likeness)
     return found[0] if found else ""

@@ -105,13 +105,13 @@ ORDER = ("type", "measure", "procedure", "analyze")
 def hint_word(_text: Text, before: Sequence[Token], here: Token, kinds: frozenset[str]) -> str:
     """A word that is like one of the language, here or just before."""
     if here.kind == NAME:
-        meant = near(here.text, [kind for kind in kinds if kind in RESERVED])
+        meant = near(here.text, [kind for kind in kinds if kind in RESERVED], 0.7)
         if meant:
             return f"`{here.text}` is a name; the word of the language is `{meant}`."
     if here.kind in RESERVED and NAME in kinds and here.kind not in (*ORDER, "end", "begin", "case", "of", "do"):
         return f"`{here.text}` is a word of the language, so it can't be a name."
     if before and before[-1].kind == NAME and here.kind in (NAME, NUMBER, "(", "begin"):
-        meant = near(before[-1].text, [word for word in RESERVED if word not in ("as", "of", "do", "in")])
+        meant = near(before[-1].text, [word for word in RESERVED if word not in ("as", "of", "do", "in")], 0.7)
         if meant:
             return f"Before it is the name `{before[-1].text}`; the word of the language is `{meant}`."
     return ""
