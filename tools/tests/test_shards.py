@@ -19,15 +19,15 @@ exec {luo} "$@"
 
 def planned(luo: str, folder: Path, *words: object) -> list[str]:
     """The commands of a plan."""
-    done = tool("luo-shards", "plan", "--luo", luo, *words, folder, TREE, "tree", 9)
+    done = tool("luo-shards", "plan", "--luo", luo, *words, folder, TREE, "tree", 7)
     assert done.returncode == 0, done.stderr
     return done.stdout.decode().split("\n")[:-1]
 
 
 def test_a_worker_that_is_killed(luo: str, tmp_path: Path) -> None:
-    """4,862 trees in four pieces: the third worker is killed, the join names its piece, and a second run does it alone."""
+    """429 trees in four pieces: the third worker is killed, the join names its piece, and a second run does it alone."""
     killer = tmp_path / "luo"
-    killer.write_text(KILLER.format(place=2431, once=tmp_path / "once", luo=luo))
+    killer.write_text(KILLER.format(place=214, once=tmp_path / "once", luo=luo))
     killer.chmod(0o755)
     folder = tmp_path / "pieces"
     commands = "\n".join(planned(str(killer), folder)).encode()
@@ -40,14 +40,14 @@ def test_a_worker_that_is_killed(luo: str, tmp_path: Path) -> None:
     assert run(["sh", "-c", joined.stdout.decode().split("again: ")[1]]).returncode == 0
     assert before == {piece: (folder / f"piece-{piece}").stat().st_mtime_ns for piece in (0, 1, 3)}
     joined = tool("luo-shards", "join", folder)
-    assert joined.returncode == 0 and joined.stdout == out_of(luo, "list", TREE, "tree", 9, 0, 100000)
-    assert b"4,862 structures" in joined.stderr
+    assert joined.returncode == 0 and joined.stdout == out_of(luo, "list", TREE, "tree", 7, 0, 100000)
+    assert b"429 structures" in joined.stderr
 
 
 def test_xargs_and_slurm(luo: str, tmp_path: Path) -> None:
     commands = planned(luo, tmp_path / "a", "--runner", "xargs", "--pieces", 12)
     assert subprocess.run(["sh", "-c", commands[0]], check=False).returncode == 0
-    assert tool("luo-shards", "join", tmp_path / "a").stdout == out_of(luo, "list", TREE, "tree", 9, 0, 100000)
+    assert tool("luo-shards", "join", tmp_path / "a").stdout == out_of(luo, "list", TREE, "tree", 7, 0, 100000)
     script = planned(luo, tmp_path / "b", "--runner", "slurm", "--pieces", 3)
     assert "#SBATCH --array=0-2" in script
     for piece in range(3):
@@ -93,7 +93,7 @@ def test_bad_words(luo: str, tmp_path: Path) -> None:
     assert "limit: size 40" in one_line(tool("luo-shards", "plan", "--luo", luo, tmp_path / "p", TREE, "tree", 41), 4)
     assert "no plan" in one_line(tool("luo-shards", "join", tmp_path / "none"))
     planned(luo, tmp_path / "p")
-    assert "folder of its own" in one_line(tool("luo-shards", "plan", "--luo", luo, tmp_path / "p", TREE, "tree", 9))
+    assert "folder of its own" in one_line(tool("luo-shards", "plan", "--luo", luo, tmp_path / "p", TREE, "tree", 7))
     assert "pieces 0 to 3" in one_line(tool("luo-shards", "piece", tmp_path / "p", 4))
 
 
