@@ -1,0 +1,1 @@
+"""What the tools beside luo share: reading its outputs and its sources, and running it."""
