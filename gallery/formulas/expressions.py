@@ -43,7 +43,7 @@ def diff(n):
 
 @CHAPTER.add("sym", 8, "The same, with procedures that return the derivative.",
              "The numbers of `diff`, computed here.",
-             "Where each atom that is made charges 1, the cost is the size of the result: size(v) of what `luo run` prints.", example=True)
+             "Where each atom that is made charges 1, the charge is the size of the derivative, which `luo run` prints.", example=True)
 def sym(n):
     return differentiation(n)
 

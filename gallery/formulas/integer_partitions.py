@@ -58,8 +58,8 @@ def compositions_of_four(n):
 
 
 @CHAPTER.add("at_most_three", 30, "How many parts do the partitions of n into at most three parts have?",
-             "The integer nearest to (n+3)^2 / 12, A001399 (Hardy, Some Famous Problems of the Theory of Numbers, 1920); parts: 1, floor(n/2) "
-             "and the rest of these with 1, 2 and 3 parts.",
+             "The integer nearest to (n+3)^2 / 12, A001399; with one part 1 for n at least 1, with two floor(n/2), with three "
+             "the rest.",
              "Exact rounding: the counts are a quadratic and a small periodic part.")
 def at_most_three(n):
     count = ((n + 3) ** 2 + 6) // 12

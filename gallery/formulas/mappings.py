@@ -30,7 +30,7 @@ def components(n):
 @CHAPTER.add("cyclic_points", 18, "How many points lie on cycles?",
              "n^n maps; the sum of n!/(n-k)! n^(n-k) over k from 1 to n, which is n^n Q(n), with Ramanujan's Q (Knuth, The Art of Computer "
              "Programming, volume 1, 1968, 1.2.11.3).",
-             "About the square root of pi n / 2 points. That is also the mean of the birthday problem.")
+             "About the square root of pi n / 2 points. One more is the mean of the birthday problem.")
 def cyclic_points(n):
     return n ** n, sum(falling(n, k) * n ** (n - k) for k in range(1, n + 1))
 

@@ -37,7 +37,7 @@ def sicherman(n):
 
 
 @CHAPTER.add("hanoi", 40, "How many moves does the tower of Hanoi with n discs take?",
-             "2^n - 1, A000225 (Lucas, 1883).", "One structure a size: then the report is a table of a function.")
+             "2^n - 1, A000225: a recurrence m(n) = 2 m(n-1) + 1.", "One structure a size: then the report is a table of a function.")
 def hanoi(n):
     return 1, 2 ** n - 1
 

@@ -19,8 +19,8 @@ def quicksort(n):
 
 
 @CHAPTER.add("insertion", 10, "Permutations of five keys by their inversions: how many keys stay in place at insertion?",
-             "The row of Mahonian numbers for 5, A008302: coefficients of (1+z) (1+z+z^2) .. (1+z+..+z^4) (Muir, 1898); for the keys that "
-             "stay each factor in turn is left out, computed here.",
+             "The row of Mahonian numbers for 5, A008302: coefficients of (1+z) (1+z+z^2) .. (1+z+..+z^4) (Knuth, The Art of Computer Programming, "
+             "volume 3, 1973, 5.1.1); for the keys that stay each factor in turn is left out, computed here.",
              "The size is the number of inversions: 10 at most, and both ends of the table are symmetric.")
 def insertion(n):
     def row(factors):
@@ -30,7 +30,7 @@ def insertion(n):
 
 @CHAPTER.add("buckets", 20, "n keys are hashed into four buckets: how many stay empty?",
              "4^n ways, A000302; 4 3^n empty buckets (Feller, An Introduction to Probability Theory, volume 1, 1950).",
-             "The average 4 (3/4)^n halves with about two and a half keys more.")
+             "The average 4 (3/4)^n halves with about 2.4 keys more.")
 def buckets(n):
     return 4 ** n, 4 * 3 ** n
 

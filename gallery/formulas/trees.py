@@ -79,7 +79,7 @@ def motzkin_leaves(n):
 @CHAPTER.add("schroeder", 12, "How many inner nodes do plane trees of n leaves have, where no node has one child?",
              "A001003; with k + 1 inner nodes C(n-2, k) C(n+k, k) / (k+1), the dissections of a polygon by k diagonals (Cayley, On the "
              "partitions of a polygon, 1890).",
-             "Schröder's second problem, 1870.", example=True)
+             "Schröder's second problem (Vier combinatorische Probleme, 1870).", example=True)
 def schroeder(n):
     if n < 2:
         return n, 0

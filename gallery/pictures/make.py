@@ -56,7 +56,7 @@ def points(kind, analysis):
 def picture(chapter):
     kind, across, up, shown = PICTURES[chapter.folder]
     analyses = {analysis.name: analysis for analysis in chapter.analyses}
-    figure, axes = plt.subplots(figsize=(7, 4.2), dpi=100)
+    figure, axes = plt.subplots(figsize=(9.5, 4.2), dpi=100)
     for (name, label), mark in zip(shown, MARKS):
         xs, ys = zip(*points(kind, analyses[name]))
         axes.plot(xs, ys, marker=mark, markersize=6, linewidth=2, label=label, linestyle="--" if name == "dice" else "-")
@@ -65,9 +65,9 @@ def picture(chapter):
     axes.set_ylabel(up, fontsize=15)
     axes.tick_params(labelsize=13)
     axes.xaxis.set_major_locator(MaxNLocator(integer=True))
-    axes.set_ylim(bottom=0)
+    axes.set_ylim(bottom=0, top=1.06 * axes.dataLim.y1)
     axes.grid(alpha=0.3)
-    axes.legend(fontsize=13)
+    axes.legend(fontsize=14, loc="center left", bbox_to_anchor=(1.01, 0.5), frameon=False)
     figure.tight_layout()
     figure.savefig(os.path.join(HERE, chapter.folder + ".png"), metadata={"Software": None})
     plt.close(figure)
