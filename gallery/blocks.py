@@ -1,7 +1,7 @@
 """Runs the blocks of a page, in order, in a folder of its own.
 
 A block that opens with `adl NAME` is a file; `rows FILE N` has the rows of its report, which brute force has to find as well where
-there are few structures; `console` has commands `$ luo ..` with what they write, where a line `..` stands for the rest; `python` is a
+there are few structures; `console` has commands `$ luo ..` with what they write, where a line `..` means the rest; `python` is a
 doctest."""
 import doctest
 import os
@@ -13,7 +13,7 @@ from brute import Brute
 
 BLOCK = re.compile(r"^```(adl|rows|console|python)([^\n]*)\n(.*?)^```$", re.M | re.S)
 COMMAND = re.compile(r"^\$ luo (.*)\n((?:(?!\$ ).*\n)*)", re.M)
-BRUTE = 3000
+BRUTE = 500
 
 
 def luo(program, words, folder):
@@ -53,10 +53,10 @@ def block_faults(program, kind, words, body, folder, scope):
     else:
         test = doctest.DocTestParser().get_doctest(body, scope, "block", None, 0)
         runner = doctest.DocTestRunner(verbose=False)
-        told = []
-        runner.run(test, out=told.append, clear_globs=False)
+        said = []
+        runner.run(test, out=said.append, clear_globs=False)
         scope.update(test.globs)
-        yield from told
+        yield from said
 
 
 def page_faults(path, program):

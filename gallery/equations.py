@@ -251,7 +251,7 @@ class Equations:
             component = collection[1]
             inside = self.descriptor(body, {variable: component}, self.series(component))
             it = "Point[%s; %s]" % (text(self.series(collection)), text(inside)) if inside != 0 else 0
-        # the factors keep their places: what is done on one stands where it was, beside the others
+        # the factors keep their places: what is done on one is where it was, beside the others
         return 0, [product_of([it] + [self.series(e) for name, e in scope.items() if name != over])]
 
     def case(self, statement, scope):

@@ -26,9 +26,9 @@ gallery/check PROGRAM                          # all of them
 
 **Where the numbers come from.** `formulas/` has a function for each analysis: a closed form or a recurrence of its own, in Python's
 integers. `gallery/check PROGRAM` recomputes every row of every report with it, compares the equations with those of `equations.py`,
-tries small sizes by brute force, and only then compares the report with what the program writes. `gallery/spoil PROGRAM` changes
+tries small sizes by brute force (`brute.py`), and only then compares the report with what the program writes. `gallery/spoil PROGRAM` changes
 digits of the reports and shows that the check finds each. A number like A000108 is that of the sequence in the On-Line Encyclopedia of
-Integer Sequences; where a source isn't named, or it says "computed here", the formula was found for this page.
+Integer Sequences; where no source is named, or it says "computed here", the formula was derived for this page.
 An offset may differ by one or two from the encyclopedia's.
 
 **To add one:** write `NN-CHAPTER/NAME.adl` in the layout of `luo format`, add a function to the chapter's file in `formulas/`, then run

@@ -97,7 +97,7 @@ def plane_partitions(n):
     return of(lambda k: k, n)
 
 
-@CHAPTER.add("marked_ones", 20, "How often does 1 stand in the partitions of n?",
+@CHAPTER.add("marked_ones", 20, "How many ones do the partitions of n have?",
              "p(n) partitions, A000041; p(0) + .. + p(n-1) ones, A000070 (Stanley's theorem says: as many as there are different parts).",
              "A union inside a multiset tells one kind of part from the rest.")
 def marked_ones(n):

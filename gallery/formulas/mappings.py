@@ -74,6 +74,15 @@ def tree_leaves(n):
     return (n ** (n - 1), n * (n - 1) ** (n - 1)) if n else (0, 0)
 
 
+@CHAPTER.add("one_child", 18, "How many nodes with exactly one child do rooted labelled trees have?",
+             "n^(n-1) trees; n (n-1)^(n-1) nodes for n at least 2. Rooted trees are words of n-1 letters over n nodes in which a node "
+             "occurs once for each child (Prüfer, Neuer Beweis eines Satzes über Permutationen, 1918), and (n-1)^(n-1) of them have a "
+             "given node once.",
+             "As many as there are leaves, at each size from 2 on: compare with `tree_leaves`.")
+def one_child(n):
+    return (n ** (n - 1), n * (n - 1) ** (n - 1) if n > 1 else 0) if n else (0, 0)
+
+
 @CHAPTER.add("rounds", 18, "n children play rounds, one in the middle and the others in a ring: how many rounds?",
              "By the round of the child n: a(n) = sum of C(n-1, k-1) k (k-2)! a(n-k) for k from 2 on, and t(n) likewise; computed here.",
              "No child plays alone: the count at size 1 is 0.")

@@ -39,7 +39,7 @@ PICTURES = {
     "09-sorting": ("average", "keys n", "average cost",
                    [("bubble", "swaps, words of 0 and 1"), ("searches", "visits, binary trees"), ("merge", "merging"),
                     ("linear_search", "linear search")]),
-    "10-puzzles": ("count", "sum n", "number of throws", [("three_dice", "three dice"), ("sicherman", "Sicherman's dice"), ("dice", "two dice")]),
+    "10-puzzles": ("count", "sum n", "number of throws", [("three_dice", "three dice"), ("sicherman", "Sicherman's dice"), ("dice", "two dice, the same")]),
 }
 MARKS = "osD^v"
 
