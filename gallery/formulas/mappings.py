@@ -1,5 +1,5 @@
 """Mappings and graphs that decompose."""
-from .numbers import comb, factorial
+from .numbers import comb, factorial, hierarchies
 from . import Chapter
 
 CHAPTER = Chapter(7, "mappings", "Mappings and graphs that decompose", "A map of n points to themselves is a set of cycles of rooted trees; "
@@ -93,18 +93,6 @@ def rounds(n):
         counts.append(sum(w * counts[m - k] for k, w in ways))
         totals.append(sum(w * (totals[m - k] + counts[m - k]) for k, w in ways))
     return counts[n], totals[n]
-
-
-def hierarchies(most):
-    """Hierarchies of n leaves and their forks: of all multisets of hierarchies of n leaves half are one alone, for n at least 2."""
-    trees, forks, forests = [0, 1], [0, 0], [1, 1]
-    for n in range(2, most + 1):
-        def over(values, k):
-            return sum(values(d) for d in range(1, k + 1) if k % d == 0 and d < n)
-        trees.append(sum(over(lambda d: d * trees[d], k) * forests[n - k] for k in range(1, n + 1)) // n)
-        forests.append(2 * trees[n])
-        forks.append(trees[n] + sum(over(lambda d: forks[d], k) * forests[n - k] for k in range(1, n + 1)))
-    return trees, forks
 
 
 @CHAPTER.add("networks", 12, "How many compositions, in series and in parallel, do networks of n edges have?",

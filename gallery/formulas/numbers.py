@@ -50,4 +50,16 @@ def multisets(kinds, most):
     return counts, [sum(number[k] * counts[n - k] for k in range(1, n + 1)) for n in range(most + 1)]
 
 
-__all__ = ["catalan", "comb", "factorial", "fibonacci", "labelled", "motzkin", "multisets", "stirling2"]
+def hierarchies(most):
+    """Hierarchies of n leaves and their forks: of all multisets of hierarchies of n leaves half are one alone, for n at least 2."""
+    trees, forks, forests = [0, 1], [0, 0], [1, 1]
+    for n in range(2, most + 1):
+        def over(values, k):
+            return sum(values(d) for d in range(1, k + 1) if k % d == 0 and d < n)
+        trees.append(sum(over(lambda d: d * trees[d], k) * forests[n - k] for k in range(1, n + 1)) // n)
+        forests.append(2 * trees[n])
+        forks.append(trees[n] + sum(over(lambda d: forks[d], k) * forests[n - k] for k in range(1, n + 1)))
+    return trees, forks
+
+
+__all__ = ["catalan", "comb", "factorial", "fibonacci", "hierarchies", "labelled", "motzkin", "multisets", "stirling2"]

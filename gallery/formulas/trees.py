@@ -1,7 +1,7 @@
 """Trees, plane and rooted."""
 from functools import lru_cache
 
-from .numbers import catalan, comb, fibonacci, motzkin
+from .numbers import catalan, comb, fibonacci, hierarchies, motzkin
 from . import Chapter
 
 CHAPTER = Chapter(2, "trees", "Trees, plane and rooted", "Binary, ternary, plane and unordered trees, by their nodes or by their leaves.")
@@ -88,14 +88,14 @@ def schroeder(n):
 
 
 @lru_cache(None)
-def pólya(n):
+def polya(n):
     """Unlabelled rooted trees of n nodes and their leaves."""
     if n < 2:
         return n, n
-    a = [0] + [pólya(k)[0] for k in range(1, n)]
+    a = [0] + [polya(k)[0] for k in range(1, n)]
     sigma = [0] + [sum(d * a[d] for d in range(1, k + 1) if k % d == 0) for k in range(1, n)]
     count = sum(sigma[k] * a[n - k] for k in range(1, n)) // (n - 1)
-    copies = [0] + [sum(pólya(d)[1] for d in range(1, k + 1) if k % d == 0) for k in range(1, n)]
+    copies = [0] + [sum(polya(d)[1] for d in range(1, k + 1) if k % d == 0) for k in range(1, n)]
     return count, sum(copies[k] * a[n - k] for k in range(1, n))
 
 
@@ -105,7 +105,7 @@ def pólya(n):
              "large random tree, 1975).",
              "Some 0.438 of the nodes are leaves. Copies of a subtree are counted one by one.")
 def rooted_leaves(n):
-    return pólya(n)
+    return polya(n)
 
 
 @lru_cache(None)
@@ -124,27 +124,11 @@ def unordered(n):
     return etherington(n), max(n - 1, 0) * etherington(n)
 
 
-@lru_cache(None)
-def hierarchies(n):
-    """By the last inner node's children: Euler's rule for multisets, twice each tree but the leaf."""
-    return _hierarchies(n)[n]
-
-
-def _hierarchies(most):
-    h, forests = [0, 1], [1, 1]
-    for n in range(2, most + 1):
-        part = sum(sum(d * h[d] for d in range(1, k + 1) if k % d == 0) * forests[n - k] for k in range(1, n))
-        part += sum(d * h[d] for d in range(1, n) if n % d == 0)
-        # forests(n) = 2 h(n), and n forests(n) = part + n h(n)
-        h.append(part // n)
-        forests.append(2 * h[n])
-    return h + [0]
-
-
 @CHAPTER.add("hier", 12, "How many leaves do unlabelled hierarchies have?",
              "Series-reduced rooted trees by leaves, A000669; n times as many leaves (Riordan, Shannon, The number of two-terminal "
              "series-parallel networks, 1942, for their recurrence).",
              "Size counts the leaves alone; that there are finitely many of a size is why each fork has at least two children.",
              example=True)
 def hier(n):
-    return hierarchies(n), n * hierarchies(n)
+    count = hierarchies(n)[0][n]
+    return count, n * count
