@@ -46,3 +46,9 @@ def one_line(done: subprocess.CompletedProcess[bytes], status: int = 1) -> str:
     line = done.stderr.decode()
     assert done.returncode == status and line.count("\n") == 1 and line.endswith("\n"), (done.returncode, line)
     return line
+
+
+def pytest_terminal_summary(terminalreporter: pytest.TerminalReporter) -> None:
+    """The line of sums that all checks of the repository end with."""
+    count = {name: len(terminalreporter.stats.get(name, [])) for name in ("passed", "failed", "error")}
+    terminalreporter.write_line(f"{count['passed']} passed, {count['failed'] + count['error']} failed")
