@@ -46,7 +46,7 @@ RULES = {
         "type s = set(z);",
         "labelled; type s = set(z);",
     ),
-    "Y6": Rule("Cycles have labels.", "type c = cycle(z);", "labelled; type a = atom(1); type c = cycle(a);"),
+    "Y6": Rule("Cycles have labels.", "type c = cycle(z);", "labelled; type c = cycle(z);"),
     "Y7": Rule(
         "The low bound isn't above the high one; a cycle has at least one component; the low bound of a powerset is at most 1.",
         "type p = powerset(z, card >= 2);",
