@@ -1,8 +1,6 @@
-// Each call of a run refused in turn, and a text cut behind each of its tokens.
+// Each call of a run refused in turn.
 use crate::tests::{Case, run};
 use crate::tests_reports::TREE;
-use luo_num::limits::TEXT_LIMIT;
-use luo_scan::scan;
 use luo_top::Status;
 use std::test::Fail;
 
@@ -86,42 +84,6 @@ fn each_write_may_fail(rt: HostRuntime) -> Result<(), Fail> {
     ];
     for case in &cases {
         run(&rt, rt.alloc(), case)?;
-    }
-    Ok(())
-}
-
-// Every prefix that ends with a token begins a program, and none but the whole text is one.
-#[test]
-fn each_cut_text_is_refused(rt: HostRuntime) -> Result<(), Fail> {
-    let alloc = rt.alloc();
-    assert!(rt; TREE.len() <= TEXT_LIMIT);
-    let scanned = scan(alloc, TREE);
-    assert!(rt; scanned.is_ok());
-    let Ok(tokens) = scanned else {
-        return Ok(());
-    };
-    let mut count: usize = 0;
-    for token in &tokens {
-        count += 1;
-        if count == tokens.len() {
-            break;
-        }
-        assert!(rt; token.end <= TREE.len());
-        let mut line = Vec::new(alloc);
-        line.extend_from_slice(b"refused: G2 at token ")?;
-        line.extend_from_slice(count.to_string(alloc)?.as_bytes())?;
-        line.extend_from_slice(b", byte ")?;
-        line.extend_from_slice(token.end.to_string(alloc)?.as_bytes())?;
-        line.extend_from_slice(b"\n")?;
-        let cut = Case {
-            text: &TREE[..token.end],
-            words: &["format", "a.adl"],
-            status: Status::Refused,
-            out: b"",
-            err: line.as_slice(),
-            ..WHOLE
-        };
-        run(&rt, alloc, &cut)?;
     }
     Ok(())
 }
